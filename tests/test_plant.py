@@ -1,8 +1,10 @@
 """The simulated plant over the built program: a part of a day, in which the desk, the dispatcher and gateways are killed and people
 cancel, count and carry; a small one with a dispatcher that does not look, in which vehicles come to wait for each other; and one that
 releases whole ways, which does less. And what the plant calls wrong. PLANT_JOBS sets the jobs of the part of a day."""
+import contextlib
 import dataclasses
 import os
+import random
 import subprocess
 import sys
 import unittest
@@ -15,11 +17,14 @@ if os.path.join(ROOT, 'examples') not in sys.path:
     sys.path.insert(0, os.path.join(ROOT, 'examples'))
 assert TOOLS in sys.path
 
+from nulvrader.client import NoAnswer, Refused, Stop  # noqa: E402
 from nulvrader.names import VehicleKey  # noqa: E402
 from nulvrader.questions import Wait  # noqa: E402
+from simulation.clock import Clock  # noqa: E402
 from simulation.floors import FLOORS  # noqa: E402
 from simulation.plan import CALM, Habits, Line, Nature, Plan, Trouble  # noqa: E402
 from simulation.plant import Plant  # noqa: E402
+from simulation.reasons import BY_PERSON, Killed, Reasons  # noqa: E402
 from simulation.truth import Given, Goods, Track, Wrong  # noqa: E402
 from simulation.vehicles import Vehicle  # noqa: E402
 from simulation.watch import Circles, circles  # noqa: E402
@@ -84,6 +89,29 @@ class Faulty(unittest.TestCase):
         with mock.patch.object(Vehicle, 'is_released', lambda self, number: number in self.nodes):
             with self.assertRaisesRegex(Wrong, r'^KIT/\d+ drives along \S+, edge \d+ of the order \S+, which was not given to it$'):
                 run(DESK, SMALL, 'look')
+
+    def test_a_load_that_is_elsewhere(self):
+        """One is carried away, and nobody tells the desk."""
+
+        def stolen(plant):
+            load, place = next((load, place) for load, place in plant.goods.places().items() if place.startswith('station '))
+            plant.goods.move(load, place, 'checking')
+
+        with mock.patch.object(Plant, 'kill_desk', stolen):
+            with self.assertRaisesRegex(Wrong, r'^load-\d+ is at checking, and the desk has it at (station \S+|vehicle KIT/\d+)$'):
+                run(DESK, dataclasses.replace(SMALL, trouble=Trouble(20.0, None, None, False)), 'look')
+
+    def test_a_load_in_two_orders(self):
+        """A vehicle takes another's load along."""
+
+        def taken(plant):
+            one, other = [one for one in plant.vehicles.values() if one.open_loads()][:2]
+            other.nodes.update({at + 100: node for at, node in one.nodes.items()})
+            other.statuses.update(one.statuses)
+
+        with mock.patch.object(Plant, 'kill_desk', taken):
+            with self.assertRaisesRegex(Wrong, r'^load-\d+ is in an order of KIT/\d+ and in one of KIT/\d+$'):
+                run(DESK, dataclasses.replace(SMALL, trouble=Trouble(60.0, None, None, False)), 'look')
 
     def test_a_vehicle_that_is_elsewhere(self):
         """One is moved by hand, and nobody tells the desk."""
@@ -151,6 +179,11 @@ class WhatIsWrong(unittest.TestCase):
         self.wrong('load is taken from station B', goods.move, 'load', 'station B', 'vehicle KIT/0001')
         goods.move('load', 'station A', 'vehicle KIT/0001')
         self.assertEqual(goods.places(), {'load': 'vehicle KIT/0001'})
+        goods.room['station B'] = 1
+        goods.move('load', 'vehicle KIT/0001', 'station B')
+        self.wrong('other is put to station B, which has 2 loads then and room for 1', goods.add, 'other', 'station B')
+        goods.here['station B'].remove('other')
+        goods.move('load', 'station B', 'vehicle KIT/0001')
         goods.add('load', 'station A')
         self.wrong('load is at (vehicle KIT/0001 and at station A|station A and at vehicle KIT/0001)', goods.places)
 
@@ -163,6 +196,113 @@ class WhatIsWrong(unittest.TestCase):
         self.wrong('was not given', given.check, 'a', 'one', 1, 'N01.N02')
         self.wrong('was not given', given.check, 'a', 'two', 1, 'N00.N01')
         self.wrong('was not given', given.check, 'b', 'one', 1, 'N00.N01')
+        given.take_back('a', 'two')
+        given.check('a', 'one', 1, 'N00.N01')
+        given.take_back('a', 'one')
+        given.note('a', {'orderId': 'one', 'edges': edges, 'nodes': []})
+        self.wrong('was not given', given.check, 'a', 'one', 1, 'N00.N01')
+
+
+class AVehicle(unittest.TestCase):
+    """One at N00, which has an order to pick L there and to put it down at the end of an edge."""
+
+    def setUp(self):
+        floor = FLOORS['small']()
+        self.clock, self.goods, self.given, self.failed = Clock(), Goods(), Given(), set()
+        key = VehicleKey('KIT', 'a')
+        self.vehicle = Vehicle(
+            key, 'N00', self.clock, Track(floor.layout().edges), self.goods, self.given, self.failed, floor.metres, Nature(failing=0),
+            random.Random(1), lambda: None,
+        )
+        nodes = [
+            {'nodeId': node, 'sequenceId': 2 * n, 'released': True, 'actions': [action('o.%d' % n, kind, 'L', node + 's')]}
+            for n, (node, kind) in enumerate((('N00', 'pick'), ('N01', 'drop')))
+        ]
+        edges = [{'edgeId': 'N00.N01', 'sequenceId': 1, 'released': True}]
+        message = {'headerId': 0, 'orderId': 'o', 'orderUpdateId': 0, 'nodes': nodes, 'edges': edges}
+        self.given.note('KIT/a', message)
+        self.vehicle.take_order(message)
+
+    def run_all(self):
+        self.clock.run(lambda: False)
+
+    def test_a_load_that_is_not_there(self):
+        with self.assertRaisesRegex(Wrong, '^KIT/a is to pick L at N00s, which is not there$'):
+            self.run_all()
+
+    def test_a_load_that_is(self):
+        """Its track is its own until the order has ended. What it does is told by a state of after that."""
+        self.goods.add('L', 'station N00s')
+        self.given.check('KIT/a', 'o', 1, 'N00.N01')
+        self.assertEqual(self.vehicle.open_loads(), {'L'})
+        self.vehicle.posted = self.vehicle.state()['headerId']
+        self.assertTrue(self.vehicle.has_told('L'))
+        self.run_all()
+        self.assertEqual(self.goods.places(), {'L': 'station N01s'})
+        self.assertEqual((self.goods.drops, self.failed, self.vehicle.open_loads()), ({'o.1': ('L', 'N01s')}, set(), set()))
+        with self.assertRaisesRegex(Wrong, 'was not given'):
+            self.given.check('KIT/a', 'o', 1, 'N00.N01')
+        self.assertFalse(self.vehicle.has_told('L'))
+        self.vehicle.posted = self.vehicle.state()['headerId']
+        self.assertTrue(self.vehicle.has_told('L'))
+
+    def test_an_order_that_is_cancelled(self):
+        self.vehicle.take_instant({'headerId': 0, 'actions': [{'actionId': 'c', 'actionType': 'cancelOrder'}]})
+        with self.assertRaisesRegex(Wrong, 'was not given'):
+            self.given.check('KIT/a', 'o', 1, 'N00.N01')
+        self.assertEqual(self.vehicle.open_loads(), set())
+
+
+def action(name, kind, load, station):
+    said = {'loadId': load, 'stationName': station}
+    return {'actionId': name, 'actionType': kind, 'actionParameters': [{'key': key, 'value': value} for key, value in said.items()]}
+
+
+class WhyAJobIsStopped(unittest.TestCase):
+    """The order o1 has two jobs, and o2 one of them again."""
+
+    def setUp(self):
+        self.reasons = Reasons()
+        self.reasons.give('o1', [Stop('pick', 'j1'), Stop('pick', 'j2'), Stop('drop', 'j2'), Stop('drop', 'j1')])
+        self.reasons.give('o2', [Stop('pick', 'j3'), Stop('drop', 'j3')])
+
+    def none(self, job):
+        with self.assertRaisesRegex(Wrong, '^%s is stopped, and nobody has a reason$' % job):
+            self.reasons.why_stopped(job)
+
+    def test_its_own_action(self):
+        self.reasons.failed.add('o1.2')
+        self.assertEqual(self.reasons.why_stopped('j2'), 'an action of it failed')
+        self.none('j1')
+
+    def test_its_order(self):
+        """A call whose answer is lost may have been carried out; one that is refused was not."""
+        refused = Refused('NoOrder', 1, 409, {}, '', '')
+        for fault, is_kept in ((None, True), (NoAnswer('', True), True), (Killed(True), True), (NoAnswer('', False), False),
+                               (Killed(False), False), (refused, False)):
+            self.setUp()
+            self.cancel(fault)
+            for job in ('j1', 'j2'):
+                if is_kept:
+                    self.assertEqual(self.reasons.why_stopped(job), BY_PERSON)
+                else:
+                    self.none(job)
+            self.none('j3')
+            self.cancel(refused)
+            self.assertEqual('o1' in self.reasons.orders, is_kept)
+
+    def cancel(self, fault):
+        with contextlib.suppress(Refused, NoAnswer, Killed), self.reasons.noted(self.reasons.orders, 'o1', BY_PERSON):
+            if fault is not None:
+                raise fault
+
+    def test_done(self):
+        goods = Goods()
+        goods.drops['o1.3'] = 'L1', 'A'
+        self.reasons.check_done('j1', 'L1', 'A', goods)
+        for job, load, target in (('j1', 'L1', 'B'), ('j1', 'L2', 'A'), ('j2', 'L1', 'A'), ('j4', 'L1', 'A')):
+            with self.assertRaisesRegex(Wrong, '^%s is done, and no vehicle has put %s down at %s for it$' % (job, load, target)):
+                self.reasons.check_done(job, load, target, goods)
 
 
 class WaitsInCircles(unittest.TestCase):

@@ -85,28 +85,6 @@ class Wired(Desk):
         yield self  # it always is
 
 
-class Killed(Exception):
-    """The dispatcher was killed amid its turn."""
-
-
-class Mortal(Wired):
-    """The client of a dispatcher that may be killed: before a request is sent, or before its answer has come."""
-
-    def __init__(self, wire: Wire) -> None:
-        super().__init__(wire)
-        self.left: int | None = None
-
-    def ask(self, method: str, target: str, body: bytes | None = None) -> Answer:
-        if self.left is not None:
-            self.left -= 1
-            if self.left < 0:
-                raise Killed
-        told = super().ask(method, target, body)
-        if self.left == 0:
-            raise Killed
-        return told
-
-
 class Served:
     """The program over a file, on one port of this machine."""
 

@@ -63,7 +63,8 @@ class Gateway:
         assert self.vehicle is not None
         self.posted += 1
         try:
-            self.desk.post_state(self.vehicle.key, state)
+            if self.desk.post_state(self.vehicle.key, state):
+                self.vehicle.posted = state['headerId']
         except Refused as refusal:
             self.refused('%s: %s: %s' % (self.vehicle.name, refusal.name, refusal))
         except NoAnswer:

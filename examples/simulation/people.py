@@ -14,12 +14,13 @@ from nulvrader.reports import read_holds, read_stock
 
 from .clock import Clock
 from .plan import Habits
+from .reasons import BY_PERSON, PLACED, TAKEN_BACK, Reasons
 from .truth import Goods, Track
 from .vehicles import Vehicle
 
 
 class People:
-    """All people together. `why` gets of each job that ends by them the reason, and `say` what they do."""
+    """All people together. `reasons` gets why jobs and orders end by them, and `say` what they do."""
 
     def __init__(
         self,
@@ -33,17 +34,16 @@ class People:
         habits: Habits,
         jobs: int,
         waits: Callable[[], Mapping[str, str] | None],
+        reasons: Reasons,
         say: Callable[[str], None],
     ) -> None:
         self.desk, self.clock, self.layout, self.goods, self.track, self.vehicles = desk, clock, layout, goods, track, vehicles
-        self.chance, self.habits, self.wanted, self.waits, self.say = chance, habits, jobs, waits, say
+        self.chance, self.habits, self.wanted, self.waits, self.reasons, self.say = chance, habits, jobs, waits, reasons, say
         self.added: dict[str, tuple[str, str]] = {}  # by job its load and target
         self.trying: tuple[str, str, str] | None = None  # the job that is being added: where no answer came it is asked again
         self.counts: Counter[str] = Counter()
-        self.why: dict[str, str] = {}
+        self.carried: set[str] = set()  # the loads whose correction may have been made, and which are still where they were
         self.number = self.jobs_named = 0
-        self.orders_cancelled: set[str] = set()
-        self.orders_placed: set[str] = set()
         self.blocked: dict[str, float] = {}  # since when a vehicle stands in the way
 
     def begin(self, chance_acts: bool) -> None:
@@ -109,9 +109,9 @@ class People:
     def cancel(self) -> None:
         vehicle = self.some_vehicle(True)
         if vehicle is not None:
-            order = vehicle.order
-            self.desk.cancel(vehicle.key)
-            self.orders_cancelled.add(order)
+            order = self.desk.vehicle(vehicle.key).order
+            with self.reasons.noted(self.reasons.orders, order, BY_PERSON):
+                self.desk.cancel(vehicle.key)
             self.counts['orders cancelled'] += 1
             self.say('a person cancels order %s of %s' % (order, vehicle.name))
 
@@ -137,8 +137,8 @@ class People:
         for load in self.chance.sample(sorted(live), min(20, len(live))):
             job = self.desk.load(load).job
             if job is not None:
-                self.why[job] = 'a person has taken it back'
-                self.desk.stop_job(job)
+                with self.reasons.noted(self.reasons.jobs, job, TAKEN_BACK):
+                    self.desk.stop_job(job)
                 self.counts['jobs taken back'] += 1
                 self.say('a person takes %s back' % job)
                 return
@@ -166,6 +166,7 @@ class People:
     def correct(self, load: str, place: str, station: str, ref: str, again: bool = False) -> None:
         """Tells the desk that a load is carried to a station, and carries it once the desk has taken that. Where no answer came it is
         asked again by the same reference."""
+        self.carried.add(load)
         try:
             self.desk.correct_load(load, ref, station)
         except NoAnswer:
@@ -174,7 +175,9 @@ class People:
         except Refused as refusal:
             if not again or refusal.name != 'RefUsed':
                 self.counts['refused: ' + refusal.name] += 1
+                self.carried.discard(load)
                 return
+        self.carried.discard(load)
         self.goods.move(load, place, 'station ' + station)
         self.counts['loads carried by hand'] += 1
 
@@ -238,10 +241,12 @@ class People:
         self.clock.after(12, lambda: self.place(vehicle, elsewhere, self.reference()))
 
     def place(self, vehicle: Vehicle, elsewhere: bool, ref: str) -> None:
-        """Places it once the desk knows that it is not ready, and it stands. It is lifted off the floor until the desk has answered."""
+        """Places it once the desk knows that it is not ready and what it has picked and put down, and it stands. It is lifted off the
+        floor until the desk has answered."""
         try:
             row = self.desk.vehicle(vehicle.key)
-            if row.ready or vehicle.node_is_left():
+            is_told = all(vehicle.has_told(load) for load in vehicle.moved)
+            if row.ready or vehicle.node_is_left() or vehicle.is_acting() or not is_told:
                 vehicle.tell()
                 self.clock.after(5, lambda: self.place(vehicle, elsewhere, ref))
                 return
@@ -255,17 +260,17 @@ class People:
         if node is None:
             self.give_back(vehicle)
             return
-        self.orders_placed.add(vehicle.order)
         self.track.take_off(vehicle.name)
-        self.put_down(vehicle, node, ref)
+        self.put_down(vehicle, node, ref, row.order)
 
-    def put_down(self, vehicle: Vehicle, node: str, ref: str, again: bool = False) -> None:
+    def put_down(self, vehicle: Vehicle, node: str, ref: str, order: str | None, again: bool = False) -> None:
         """Tells the desk where the vehicle will stand, and sets it there. Where no answer came it is asked again by the same
         reference."""
         try:
-            self.desk.place(vehicle.key, ref, node)
+            with self.reasons.noted(self.reasons.orders, order, PLACED):
+                self.desk.place(vehicle.key, ref, node)
         except NoAnswer:
-            self.clock.after(1, lambda: self.put_down(vehicle, node, ref, True))
+            self.clock.after(1, lambda: self.put_down(vehicle, node, ref, order, True))
             return
         except Refused as refusal:
             if not again or refusal.name != 'RefUsed':

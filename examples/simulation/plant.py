@@ -12,15 +12,16 @@ from typing import Protocol
 from nulvrader.client import Desk, NoAnswer
 from nulvrader.names import VehicleKey
 from nulvrader.questions import who_waits
-from nulvrader.reports import read_holds, read_loads
+from nulvrader.reports import read_holds, read_loads, read_stock
 
 from .clock import Clock
 from .day import TIME_OVER, Day
-from .desks import PATIENCE, Killed, Mortal, Served, Wired
+from .desks import PATIENCE, Served, Wired
 from .floors import FLOORS
 from .gateways import Gateway
 from .people import People
 from .plan import Plan
+from .reasons import BY_DISPATCHER, Killed, Mortal, Reasons
 from .truth import Given, Goods, Track, Wrong
 from .vehicles import Vehicle
 from .watch import Circles
@@ -63,10 +64,10 @@ class Plant:
         self.since: dict[str, float] = {}  # since when each vehicle waits
         self.heard: dict[str, str] = {}  # by vehicle the last line of the dispatcher
         self.over, self.fetches = False, 0
-        self.cancelled: set[str] = set()  # the orders that the dispatcher has cancelled
+        self.reasons = Reasons()
         self.people = People(
             self.desk, self.clock, self.layout, self.goods, self.track, self.vehicles, self.chance, plan.habits, plan.jobs,
-            self.waits, self.say,
+            self.waits, self.reasons, self.say,
         )
 
     def say(self, line: str) -> None:
@@ -82,9 +83,11 @@ class Plant:
             for n, node in enumerate(self.chance.sample(self.floor.bays, self.plan.vehicles), 1):
                 key = VehicleKey('KIT', '%04d' % n)
                 self.desk.register_vehicle(key, node, 1 + n % 2)
+                self.goods.room['vehicle %s' % key] = 1 + n % 2
                 self.add_vehicle(key, node)
             stations = list(self.layout.stations.values())
             room = {station.name: station.capacity - 2 for station in stations}
+            self.goods.room.update({'station ' + station.name: station.capacity for station in stations})
             for n in range(self.plan.loads):
                 station = self.chance.choice([name for name, left in room.items() if left > 0])
                 room[station] -= 1
@@ -101,7 +104,8 @@ class Plant:
         chance = random.Random(self.chance.random())
         gateway = Gateway(self.desk, self.clock, self.given, self.plan.line, chance, self.refused)
         vehicle = Vehicle(
-            key, node, self.clock, self.track, self.goods, self.given, self.floor.metres, self.plan.nature, chance, gateway.tell
+            key, node, self.clock, self.track, self.goods, self.given, self.reasons.failed, self.floor.metres, self.plan.nature, chance,
+            gateway.tell,
         )
         self.vehicles[str(key)], self.gateways[str(key)] = vehicle, gateway
         gateway.serve(vehicle)
@@ -150,7 +154,7 @@ class Plant:
         """A turn of the dispatcher; one that was killed is started anew."""
         if self.dispatcher is None:
             assert self.make is not None
-            self.mortal = Mortal(self.served.wire)
+            self.mortal = Mortal(self.served.wire, self.reasons)
             self.dispatcher = self.make(self.mortal, self.hear, lambda: self.clock.now)
             self.day.counts['starts of the dispatcher'] += 1
         try:
@@ -161,10 +165,6 @@ class Plant:
 
     def hear(self, line: str) -> None:
         """A line of the dispatcher."""
-        said = re.search(r': cancels order (\S+), of ', line)
-        if said:
-            self.cancelled.add(said.group(1))
-            self.day.counts['orders cancelled by the dispatcher'] += 1
         about = re.match(r'(\S+/\S+?):? (.*)', line)
         if about:
             self.heard[about.group(1)] = about.group(2)
@@ -212,10 +212,11 @@ class Plant:
         return told[name] if name in told else self.heard.get(name, 'nobody says why')
 
     def audit(self) -> None:
-        """Each vehicle is on what the desk holds for it, and each load in one place."""
-        self.goods.places()
+        """Each vehicle is on what the desk holds for it, and each load is in one place, where the desk has it, and in one order."""
+        self.look_for_shared_loads()
         try:
             holds = read_holds(self.desk.hold_report())
+            self.compare_places(read_stock(self.desk.stock_report()).places())
         except NoAnswer:
             return
         for name, node in self.track.at.items():
@@ -226,6 +227,22 @@ class Plant:
             if str(holds.edges.get(edge)) != name or str(holds.nodes.get(ahead)) != name:
                 raise Wrong('%s drives along %s, and the desk does not hold it and %s for it' % (name, edge, ahead))
         self.day.counts['audits'] += 1
+
+    def look_for_shared_loads(self) -> None:
+        """No two vehicles are to pick or put down one load."""
+        found: dict[str, str] = {}
+        for name, vehicle in self.vehicles.items():
+            for load in vehicle.open_loads() if not vehicle.by_hand else ():
+                if load in found:
+                    raise Wrong('%s is in an order of %s and in one of %s' % (load, found[load], name))
+                found[load] = name
+
+    def compare_places(self, told: Mapping[str, str]) -> None:
+        """The desk has each load where it is, but for those whose last move it has not been told."""
+        for load, place in self.goods.places().items():
+            is_told = load not in self.people.carried and all(vehicle.has_told(load) for vehicle in self.vehicles.values())
+            if is_told and told.get(load) != place:
+                raise Wrong('%s is at %s, and the desk has it at %s' % (load, place, told.get(load)))
 
     def look_for_circles(self) -> None:
         """No vehicles wait for each other for long. One that is paused, not ready or silent goes on for no other."""
@@ -279,27 +296,18 @@ class Plant:
         if set(self.people.added) - set(jobs):
             raise Wrong('jobs are lost: %s' % sorted(set(self.people.added) - set(jobs)))
         self.day.done = sum(1 for _, _, phase in jobs.values() if phase == 'done')
+        if self.make is None:
+            self.reasons.by_messages(self.given.drops, self.people.added)
         for job, (load, target, phase) in jobs.items():
             if phase == 'stopped':
-                self.day.stopped[job] = self.why_stopped(job, load, target)
+                self.day.stopped[job] = self.reasons.why_stopped(job)
+            elif phase == 'done':
+                self.reasons.check_done(job, load, target, self.goods)
         self.day.circle = self.circles.longest
         self.day.counts.update(self.people.counts)
         self.day.counts['starts of the desk'] = self.served.starts
         self.day.counts['states posted'] = sum(gateway.posted for gateway in self.gateways.values())
         self.day.counts['metres driven'] = int(sum(vehicle.driven for vehicle in self.vehicles.values()))
-        self.day.counts['actions failed'] = sum(len(vehicle.failed) for vehicle in self.vehicles.values())
-
-    def why_stopped(self, job: str, load: str, target: str) -> str:
-        if job in self.people.why:
-            return self.people.why[job]
-        orders = {order for order, drops in self.given.drops.items() if (load, target) in drops}
-        failed = {name.rpartition('.')[0] for vehicle in self.vehicles.values() for name in vehicle.failed}
-        for reason, which in (
-            ('an action of its order failed', failed),
-            ('a person cancelled its order', self.people.orders_cancelled),
-            ('a person placed its vehicle', self.people.orders_placed),
-            ('the dispatcher cancelled its order', self.cancelled),
-        ):
-            if orders & which:
-                return reason
-        raise Wrong('%s is stopped, and nobody has a reason' % job)
+        self.day.counts['actions failed'] = len(self.reasons.failed)
+        self.day.counts['empty batteries'] = sum(vehicle.services for vehicle in self.vehicles.values())
+        self.day.counts['orders cancelled by the dispatcher'] = self.reasons.count()[BY_DISPATCHER]

@@ -68,13 +68,19 @@ class Track:
 
 
 class Goods:
-    """Where the loads are: by place, as the desk writes it: `station A`, `vehicle KIT/0001`, `checking`."""
+    """Where the loads are: by place, as the desk writes it: `station A`, `vehicle KIT/0001`, `checking`. `room` is how many a place has
+    room for."""
 
     def __init__(self) -> None:
         self.here: dict[str, set[str]] = {}
+        self.room: dict[str, int] = {}
+        self.drops: dict[str, tuple[str, str]] = {}  # by act of an order the load and the station where a vehicle has put it down
 
     def add(self, load: str, place: str) -> None:
-        self.here.setdefault(place, set()).add(load)
+        loads = self.here.setdefault(place, set())
+        loads.add(load)
+        if len(loads) > self.room.get(place, len(loads)):
+            raise Wrong('%s is put to %s, which has %d loads then and room for %d' % (load, place, len(loads), self.room[place]))
 
     def at(self, place: str) -> list[str]:
         return sorted(self.here.get(place, ()))
@@ -101,12 +107,14 @@ class Goods:
 
 
 class Given:
-    """What the desk has given to each vehicle: of the order messages that it answered, by order the numbers of the released edges."""
+    """What the desk has given to each vehicle: of the order messages that it answered, by order the numbers of the released edges. What
+    was taken back is not given again."""
 
     def __init__(self) -> None:
         self.released: dict[tuple[str, str], set[int]] = {}
         self.edges: dict[tuple[str, str, int], str] = {}
-        self.drops: dict[str, set[tuple[str, str]]] = {}  # by order the load and the station of each drop
+        self.over: set[tuple[str, str]] = set()  # the orders that have ended
+        self.drops: dict[str, tuple[str, str]] = {}  # by act the load and the station of each drop
 
     def note(self, vehicle: str, message: Mapping[str, Any]) -> None:
         """Takes down an order message as the desk answered it."""
@@ -118,9 +126,14 @@ class Given:
                 released.add(edge['sequenceId'])
         for action in (action for node in message['nodes'] for action in node['actions'] if action['actionType'] == 'drop'):
             said = {pair['key']: pair['value'] for pair in action['actionParameters']}
-            self.drops.setdefault(order, set()).add((said['loadId'], said['stationName']))
+            self.drops[action['actionId']] = said['loadId'], said['stationName']
+
+    def take_back(self, vehicle: str, order: str) -> None:
+        """The order has ended: its track is the vehicle's no more."""
+        self.over.add((vehicle, order))
 
     def check(self, vehicle: str, order: str, number: int, edge: str) -> None:
         """Whether a vehicle may drive along this edge of its order."""
-        if number not in self.released.get((vehicle, order), ()) or self.edges[vehicle, order, number] != edge:
+        of = vehicle, order
+        if of in self.over or number not in self.released.get(of, ()) or self.edges[vehicle, order, number] != edge:
             raise Wrong('%s drives along %s, edge %d of the order %s, which was not given to it' % (vehicle, edge, number, order))

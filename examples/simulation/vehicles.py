@@ -10,13 +10,14 @@ from nulvrader.names import VehicleKey
 
 from .clock import Clock
 from .plan import Nature
-from .truth import Given, Goods, Track
+from .truth import Given, Goods, Track, Wrong
 
 OVER = ('FINISHED', 'FAILED')
 
 
 class Vehicle:
-    """A vehicle on a node. `tell` is called whenever its state has changed, so that its gateway posts it."""
+    """A vehicle on a node. `tell` is called whenever its state has changed, so that its gateway posts it. `failed` gets the acts that
+    fail."""
 
     def __init__(
         self,
@@ -26,13 +27,14 @@ class Vehicle:
         track: Track,
         goods: Goods,
         given: Given,
+        failed: set[str],
         metres: dict[str, float],
         nature: Nature,
         chance: random.Random,
         tell: Callable[[], None],
     ) -> None:
         self.key, self.name = key, str(key)
-        self.clock, self.track, self.goods, self.given, self.metres = clock, track, goods, given, metres
+        self.clock, self.track, self.goods, self.given, self.failed, self.metres = clock, track, goods, given, failed, metres
         self.nature, self.chance, self.tell = nature, chance, tell
         self.node, self.sequence = node, 0
         self.order, self.update = '', 0
@@ -50,7 +52,9 @@ class Vehicle:
         self.turn = 0  # what was to happen before the last call of `stop` does not happen
         self.driven = 0.0
         self.last_moved = 0.0
-        self.failed: list[str] = []  # the actions that have failed
+        self.services = 0  # how often its battery was empty
+        self.posted = -1  # the number of the last state that the desk has accepted
+        self.moved: dict[str, int] = {}  # by load that it has picked or put down the number of the last state before that
         self.dropped: set[str] = set()  # the orders that were cancelled or cleared: a late update of one is passed over
         track.put(self.name, node)
 
@@ -98,7 +102,7 @@ class Vehicle:
         assert self.cancelling is not None
         self.stop()
         had = not self.is_done()
-        self.dropped.add(self.order)
+        self.drop_order()
         for name, status in self.statuses.items():
             if status not in OVER:
                 self.statuses[name] = 'FAILED'
@@ -106,6 +110,11 @@ class Vehicle:
         self.instant = (self.cancelling, 'FINISHED' if had else 'FAILED')
         self.cancelling = None
         self.tell()
+
+    def drop_order(self) -> None:
+        """It has no track of its order any more."""
+        self.dropped.add(self.order)
+        self.given.take_back(self.name, self.order)
 
     # Driving and acting.
 
@@ -116,6 +125,18 @@ class Vehicle:
     def is_done(self) -> bool:
         """Whether it has no order, or has carried it out."""
         return all(at <= self.sequence for at in self.nodes) and all(status in OVER for status in self.statuses.values())
+
+    def is_acting(self) -> bool:
+        return 'RUNNING' in self.statuses.values()
+
+    def open_loads(self) -> set[str]:
+        """The loads that it still has to pick or put down."""
+        actions = [action for node in self.nodes.values() for action in node['actions'] if self.statuses[action['actionId']] not in OVER]
+        return {_said(action)['loadId'] for action in actions}
+
+    def has_told(self, load: str) -> bool:
+        """Whether the desk has a state from after its last move of this load."""
+        return self.posted > self.moved.get(load, -1)
 
     def is_at_end(self) -> bool:
         """Whether at most one released edge is left to it, the one that it drives along."""
@@ -137,6 +158,8 @@ class Vehicle:
         """Begins what comes next: an action where it stands, or the next released edge."""
         if self.paused or self.in_service or self.by_hand or self.node_is_left() or self.cancelling is not None:
             return
+        if self.is_done():
+            self.given.take_back(self.name, self.order)
         here = self.nodes.get(self.sequence)
         for action in here['actions'] if here else []:
             status = self.statuses[action['actionId']]
@@ -180,16 +203,22 @@ class Vehicle:
         self.later(self.chance.uniform(*self.nature.action), lambda: self.finish(action))
 
     def finish(self, action: dict[str, Any]) -> None:
-        """Ends a pick or a drop, which fails at times, and where the load is not there."""
-        name = action['actionId']
-        said = {pair['key']: pair['value'] for pair in action['actionParameters']}
-        places = ['station ' + said['stationName'], 'vehicle ' + self.name]
-        start, finish = places if action['actionType'] == 'pick' else places[::-1]
-        if self.chance.randrange(1000) < self.nature.failing or not self.goods.has(said['loadId'], start):
+        """Ends a pick or a drop, which fails at times, and a drop where the pick has failed. That a load is not where it is to be picked
+        is wrong."""
+        name, said = action['actionId'], _said(action)
+        load, station = said['loadId'], said['stationName']
+        places = ['station ' + station, 'vehicle ' + self.name]
+        is_pick = action['actionType'] == 'pick'
+        if is_pick and not self.goods.has(load, places[0]):
+            raise Wrong('%s is to pick %s at %s, which is not there' % (self.name, load, station))
+        if self.chance.randrange(1000) < self.nature.failing or not is_pick and not self.goods.has(load, places[1]):
             self.statuses[name] = 'FAILED'
-            self.failed.append(name)
+            self.failed.add(name)
         else:
-            self.goods.move(said['loadId'], start, finish)
+            self.goods.move(load, *(places if is_pick else places[::-1]))
+            self.moved[load] = self.header
+            if not is_pick:
+                self.goods.drops[name] = load, station
             self.statuses[name] = 'FINISHED'
         self.last_moved = self.clock.now
         self.tell()
@@ -198,6 +227,7 @@ class Vehicle:
     def begin_service(self) -> None:
         """Its battery is empty: it is out of service until a person has changed it."""
         self.in_service = True
+        self.services += 1
         self.tell()
         self.clock.after(self.nature.service, self.end_service)
 
@@ -210,7 +240,7 @@ class Vehicle:
     def clear(self) -> None:
         """A person clears the order on it."""
         self.stop()
-        self.dropped.add(self.order)
+        self.drop_order()
         self.nodes, self.edges, self.statuses, self.sequence = {}, {}, {}, 0
         self.order, self.update, self.cancelling = '', 0, None
         self.instant = None
@@ -249,3 +279,8 @@ class Vehicle:
             'errors': [],
             'safetyState': {'eStop': 'NONE', 'fieldViolation': False},
         }
+
+
+def _said(action: dict[str, Any]) -> dict[str, str]:
+    """The parameters of a pick or a drop."""
+    return {pair['key']: pair['value'] for pair in action['actionParameters']}
