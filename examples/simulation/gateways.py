@@ -56,14 +56,15 @@ class Gateway:
     def tell(self) -> None:
         """Sends the vehicle's state."""
         if self.up and self.vehicle is not None:
-            state = self.vehicle.state()
-            self.carry(lambda: self.post(state))
+            state, life = self.vehicle.state(), self.vehicle.life
+            self.carry(lambda: self.post(state, life))
 
-    def post(self, state: dict[str, Any]) -> None:
+    def post(self, state: dict[str, Any], life: int) -> None:
+        """Posts a state that the vehicle has made in this life of its own."""
         assert self.vehicle is not None
         self.posted += 1
         try:
-            if self.desk.post_state(self.vehicle.key, state):
+            if self.desk.post_state(self.vehicle.key, state) and life == self.vehicle.life:
                 self.vehicle.posted = state['headerId']
         except Refused as refusal:
             self.refused('%s: %s: %s' % (self.vehicle.name, refusal.name, refusal))

@@ -103,7 +103,8 @@ class People:
             self.counts['refused: ' + refusal.name] += 1
 
     def some_vehicle(self, with_order: bool) -> Vehicle | None:
-        found = [one for one in self.vehicles.values() if not one.by_hand and (bool(one.order) and not one.is_done()) == with_order]
+        there = [one for one in self.vehicles.values() if not one.by_hand and one.restarted is None]
+        found = [one for one in there if (bool(one.order) and not one.is_done()) == with_order]
         return self.chance.choice(found) if found else None
 
     def cancel(self) -> None:
@@ -201,6 +202,9 @@ class People:
         for vehicle in self.vehicles.values():
             if vehicle.by_hand or vehicle.in_service:
                 continue
+            if vehicle.restarted is not None:
+                self.bring_back(vehicle, vehicle.restarted)
+                continue
             row = self.desk.vehicle(vehicle.key)
             if row.astray:
                 self.take_over(vehicle, elsewhere=False)
@@ -219,6 +223,17 @@ class People:
                     return
             else:
                 self.blocked.pop(vehicle.name, None)
+
+    def bring_back(self, vehicle: Vehicle, restarted: float) -> None:
+        """A vehicle that was restarted is resynced and placed where it stands, as docs/OPERATE.md says; not before its older states
+        have come."""
+        if self.clock.now - restarted < 15:
+            return
+        self.desk.resync(vehicle.key)
+        order = self.desk.vehicle(vehicle.key).order
+        vehicle.by_hand = True
+        self.track.take_off(vehicle.name)
+        self.put_down(vehicle, vehicle.node, self.reference(), order)
 
     def is_in_the_way(self, vehicle: Vehicle) -> bool:
         """Whether the dispatcher says so; where nobody hears it, whether nothing moves."""
@@ -293,6 +308,6 @@ class People:
         return self.chance.choice(free) if free else None
 
     def give_back(self, vehicle: Vehicle) -> None:
-        vehicle.by_hand = False
+        vehicle.by_hand, vehicle.restarted = False, None
         vehicle.tell()
         vehicle.go_on()

@@ -31,13 +31,15 @@ class Habits:
 
 @dataclass(frozen=True)
 class Trouble:
-    """Seconds between two kills of the desk, of the dispatcher and of a gateway. None: never. `people`: whether people cancel, count
-    and carry by chance."""
+    """Seconds between two kills of the desk, of the dispatcher and of a gateway, and two restarts of a vehicle. None: never. `people`:
+    whether people cancel, count and carry by chance. `away`: how long a gateway is away (seconds, from .. to)."""
 
     desk: float | None = 240.0
     dispatcher: float | None = 300.0
     gateway: float | None = 120.0
     people: bool = True
+    vehicle: float | None = 400.0
+    away: tuple[float, float] = (5.0, 120.0)
 
 
 @dataclass(frozen=True)
@@ -52,7 +54,7 @@ class Line:
     beat: float = 5.0
 
 
-CALM = Trouble(None, None, None, False)
+CALM = Trouble(None, None, None, False, None)
 
 
 @dataclass(frozen=True)

@@ -146,7 +146,13 @@ class Plant:
         clock.every(2.0, self.served.supervise)
         if self.make is not None:
             clock.every(self.plan.every, self.dispatch, 8.0)
-        for seconds, what in ((trouble.desk, self.kill_desk), (trouble.dispatcher, self.kill_dispatcher), (trouble.gateway, self.kill_gateway)):
+        troubles = (
+            (trouble.desk, self.kill_desk),
+            (trouble.dispatcher, self.kill_dispatcher),
+            (trouble.gateway, self.kill_gateway),
+            (trouble.vehicle, self.restart_vehicle),
+        )
+        for seconds, what in troubles:
             if seconds is not None:
                 clock.every(seconds, what, seconds)
 
@@ -165,6 +171,7 @@ class Plant:
 
     def hear(self, line: str) -> None:
         """A line of the dispatcher."""
+        self.day.counts['times that a vehicle is silent'] += ': has sent no state for ' in line
         about = re.match(r'(\S+/\S+?):? (.*)', line)
         if about:
             self.heard[about.group(1)] = about.group(2)
@@ -179,8 +186,20 @@ class Plant:
         self.day.counts['kills of the desk'] += 1
 
     def kill_gateway(self) -> None:
-        self.gateways[self.chance.choice(sorted(self.gateways))].restart(self.chance.uniform(5, 40))
+        self.gateways[self.chance.choice(sorted(self.gateways))].restart(self.chance.uniform(*self.plan.trouble.away))
         self.day.counts['restarts of gateways'] += 1
+
+    def restart_vehicle(self) -> None:
+        """One that has an order, and has told the desk so."""
+        found = [one for one in self.vehicles.values() if one.may_restart()]
+        vehicle = self.chance.choice(found) if found else None
+        try:
+            if vehicle is not None and self.desk.vehicle(vehicle.key).confirmed is not None:
+                vehicle.restart()
+                self.day.counts['restarts of vehicles'] += 1
+                self.say('%s is restarted, and has lost its order' % vehicle.name)
+        except NoAnswer:
+            pass
 
     def fetch(self) -> None:
         """The gateways look for messages, on one connection."""
@@ -199,7 +218,7 @@ class Plant:
                 self.since.pop(name, None)
                 continue
             self.day.ordered[name] = self.day.ordered.get(name, 0.0) + 1
-            if vehicle.node_is_left() or 'RUNNING' in vehicle.statuses.values() or vehicle.in_service or vehicle.paused:
+            if vehicle.node_is_left() or vehicle.is_acting() or vehicle.in_service or vehicle.paused:
                 self.since.pop(name, None)
                 continue
             self.day.waited[name] = self.day.waited.get(name, 0.0) + 1
@@ -246,7 +265,7 @@ class Plant:
 
     def look_for_circles(self) -> None:
         """No vehicles wait for each other for long. One that is paused, not ready or silent goes on for no other."""
-        excused = {name for name, one in self.vehicles.items() if one.paused or one.in_service or one.by_hand or not self.gateways[name].up}
+        excused = {name for name, one in self.vehicles.items() if not one.goes_on() or not self.gateways[name].up}
         try:
             waits = who_waits(self.desk)
         except NoAnswer:
@@ -261,7 +280,8 @@ class Plant:
         except NoAnswer:
             return
         live = sum(int(part.split()[0]) for part in stock.decode().split('reserved ')[1:])
-        if live == 0 and len(self.people.added) >= self.plan.jobs and all(one.is_done() for one in self.vehicles.values()):
+        is_done = all(one.is_done() for one in self.vehicles.values()) and not self.people.carried
+        if live == 0 and len(self.people.added) >= self.plan.jobs and is_done:
             self.over = True
         elif self.clock.now - last > self.plan.stands:
             self.over = True
@@ -277,7 +297,7 @@ class Plant:
             gateway.up = True
             assert gateway.vehicle is not None
             if self.desk.vehicle(gateway.vehicle.key).order is None and not gateway.vehicle.by_hand:
-                gateway.post(gateway.vehicle.state())
+                gateway.post(gateway.vehicle.state(), gateway.vehicle.life)
         told = {load: place for load, place in read_loads(self.desk.loads_export()).items() if place != 'left'}
         true = self.goods.places()
         if told != true:

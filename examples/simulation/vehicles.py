@@ -52,6 +52,8 @@ class Vehicle:
         self.turn = 0  # what was to happen before the last call of `stop` does not happen
         self.driven = 0.0
         self.last_moved = 0.0
+        self.life = 0  # counts its restarts
+        self.restarted: float | None = None  # when it was restarted, until a person has placed it
         self.services = 0  # how often its battery was empty
         self.posted = -1  # the number of the last state that the desk has accepted
         self.moved: dict[str, int] = {}  # by load that it has picked or put down the number of the last state before that
@@ -63,7 +65,8 @@ class Vehicle:
     def take_order(self, message: dict[str, Any]) -> None:
         """An order message: a new order where it has none, or more of the one that it has. One that is older than another that it had
         is passed over."""
-        if message['headerId'] <= self.order_header or message['orderId'] in self.dropped or self.by_hand:
+        is_known = message['headerId'] <= self.order_header or message['orderId'] in self.dropped
+        if is_known or self.by_hand or self.restarted is not None:
             return
         if message['orderId'] != self.order:
             if not self.is_done() or self.cancelling is not None or message['nodes'][0]['nodeId'] != self.node or self.node_is_left():
@@ -125,6 +128,10 @@ class Vehicle:
     def is_done(self) -> bool:
         """Whether it has no order, or has carried it out."""
         return all(at <= self.sequence for at in self.nodes) and all(status in OVER for status in self.statuses.values())
+
+    def goes_on(self) -> bool:
+        """Whether it is ready, is not paused, and the desk hears its states."""
+        return not (self.paused or self.in_service or self.by_hand or self.restarted is not None)
 
     def is_acting(self) -> bool:
         return 'RUNNING' in self.statuses.values()
@@ -244,6 +251,19 @@ class Vehicle:
         self.nodes, self.edges, self.statuses, self.sequence = {}, {}, {}, 0
         self.order, self.update, self.cancelling = '', 0, None
         self.instant = None
+
+    def may_restart(self) -> bool:
+        """Whether it has an order, stands, and the desk knows all that it has moved: nobody has to look for loads then."""
+        busy = self.by_hand or self.in_service or self.node_is_left() or self.is_acting() or self.cancelling is not None
+        return not busy and not self.is_done() and all(self.has_told(load) for load in self.moved)
+
+    def restart(self) -> None:
+        """It has lost its order, and counts its states from the start again."""
+        self.clear()
+        self.paused, self.header, self.posted, self.moved = False, 0, -1, {}
+        self.life += 1
+        self.restarted = self.clock.now
+        self.tell()
 
     # Its state.
 

@@ -40,4 +40,4 @@ class Circles:
             self.longest = max(self.longest, now - since)
             if now - since > self.most:
                 told = ('%s waits at %s for %s, which %s holds' % (wait.vehicle, wait.at, wait.what, wait.by) for wait in circle)
-                raise Wrong('a circle since %.0f s: %s' % (now - since, '; '.join(told)))
+                raise Wrong('a circle from %.0f s on, for %.0f s: %s' % (since, now - since, '; '.join(told)))
