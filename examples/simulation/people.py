@@ -301,11 +301,13 @@ class People:
         self.clock.after(15, lambda: self.give_back(vehicle))
 
     def free_node(self) -> str | None:
-        """The node of a station which nobody holds, and where no vehicle is."""
+        """The node of a station which nobody holds, and where no vehicle is; one that no order leads to, if there is one."""
         held = read_holds(self.desk.hold_report()).nodes
         nodes = {station.node for station in self.layout.stations.values()}
         free = sorted(node for node in nodes if node not in held and node not in self.track.nodes)
-        return self.chance.choice(free) if free else None
+        ahead = {node['nodeId'] for one in self.vehicles.values() if not one.is_done() for node in one.nodes.values()}
+        best = [node for node in free if node not in ahead] or free
+        return self.chance.choice(best) if best else None
 
     def give_back(self, vehicle: Vehicle) -> None:
         vehicle.by_hand, vehicle.restarted = False, None
