@@ -223,7 +223,7 @@ class AVehicle(unittest.TestCase):
             for n, (node, kind) in enumerate((('N00', 'pick'), ('N01', 'drop')))
         ]
         edges = [{'edgeId': 'N00.N01', 'sequenceId': 1, 'released': True}]
-        message = {'headerId': 0, 'orderId': 'o', 'orderUpdateId': 0, 'nodes': nodes, 'edges': edges}
+        self.message = message = {'headerId': 0, 'orderId': 'o', 'orderUpdateId': 0, 'nodes': nodes, 'edges': edges}
         self.given.note('KIT/a', message)
         self.vehicle.take_order(message)
 
@@ -233,6 +233,27 @@ class AVehicle(unittest.TestCase):
     def test_a_load_that_is_not_there(self):
         with self.assertRaisesRegex(Wrong, '^KIT/a is to pick L at N00s, which is not there$'):
             self.run_all()
+
+    def test_a_load_that_others_have_moved(self):
+        """Where others tell the desk of loads too it is a pick that fails."""
+        self.goods.alone = False
+        self.run_all()
+        self.assertEqual(self.failed, {'o.0', 'o.1'})
+
+    def test_a_restart(self):
+        """It comes where the vehicle does nothing and the desk knows all, as here in a pause behind the pick. With it the order is lost."""
+        self.goods.add('L', 'station N00s')
+        self.vehicle.take_instant({'headerId': 0, 'actions': [{'actionId': 'p', 'actionType': 'startPause'}]})
+        self.assertFalse(self.vehicle.may_restart())
+        self.run_all()
+        self.assertFalse(self.vehicle.may_restart())
+        self.vehicle.posted = self.vehicle.state()['headerId']
+        self.assertTrue(self.vehicle.may_restart())
+        self.vehicle.restart()
+        self.vehicle.take_order({**self.message, 'headerId': 1})
+        state = self.vehicle.state()
+        self.assertEqual((state['headerId'], state['orderId'], state['lastNodeId'], state['actionStates']), (1, '', 'N00', []))
+        self.assertFalse(self.vehicle.goes_on())
 
     def test_a_load_that_is(self):
         """Its track is its own until the order has ended. What it does is told by a state of after that."""

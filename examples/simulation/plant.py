@@ -55,6 +55,7 @@ class Plant:
         # where others ask too, each call has a connection
         self.desk = Desk(served.address, timeout=PATIENCE) if dispatcher is None else Wired(served.wire)
         self.track, self.goods, self.given = Track(self.layout.edges), Goods(), Given()
+        self.goods.alone = dispatcher is not None
         self.vehicles: dict[str, Vehicle] = {}
         self.gateways: dict[str, Gateway] = {}
         self.dispatcher: Dispatching | None = None
@@ -259,7 +260,7 @@ class Plant:
     def compare_places(self, told: Mapping[str, str]) -> None:
         """The desk has each load where it is, but for those whose last move it has not been told."""
         for load, place in self.goods.places().items():
-            is_told = load not in self.people.carried and all(vehicle.has_told(load) for vehicle in self.vehicles.values())
+            is_told = self.goods.alone and load not in self.people.carried and all(vehicle.has_told(load) for vehicle in self.vehicles.values())
             if is_told and told.get(load) != place:
                 raise Wrong('%s is at %s, and the desk has it at %s' % (load, place, told.get(load)))
 
@@ -317,7 +318,7 @@ class Plant:
             raise Wrong('jobs are lost: %s' % sorted(set(self.people.added) - set(jobs)))
         self.day.done = sum(1 for _, _, phase in jobs.values() if phase == 'done')
         if self.make is None:
-            self.reasons.by_messages(self.given.drops, self.people.added)
+            self.reasons.by_messages(self.given.drops, {job: (load, target) for job, (load, target, _) in jobs.items()})
         for job, (load, target, phase) in jobs.items():
             if phase == 'stopped':
                 self.day.stopped[job] = self.reasons.why_stopped(job)

@@ -26,6 +26,7 @@ class Reasons:
         self.orders: dict[str, str] = {}  # by order why it has ended early
         self.jobs: dict[str, str] = {}  # by job why a person has stopped it
         self.failed: set[str] = set()  # the acts that have failed
+        self.others: str | None = None  # the reason where there is none of these
 
     def give(self, order: str, stops: Sequence[Stop]) -> None:
         """An order with these stops is given, or may be."""
@@ -58,9 +59,9 @@ class Reasons:
         if not self.failed.isdisjoint(acts):
             return FAILED
         told = [self.orders[order] for order in (act.rpartition('.')[0] for act in acts) if order in self.orders]
-        if not told:
+        if not told and self.others is None:
             raise Wrong('%s is stopped, and nobody has a reason' % job)
-        return told[-1]
+        return told[-1] if told else self.others or ''
 
     def check_done(self, job: str, load: str, target: str, goods: Goods) -> None:
         """A job that is done had its load put down at its target by its own drop."""
@@ -72,8 +73,9 @@ class Reasons:
         return Counter(self.orders.values())
 
     def by_messages(self, drops: Mapping[str, tuple[str, str]], jobs: Mapping[str, tuple[str, str]]) -> None:
-        """Finds the acts of jobs by the load and the target of the drops that were sent, where the dispatcher is another process. A pick
-        that failed has a drop that fails."""
+        """Finds the acts of jobs by the load and the target of the drops that were sent, where the dispatcher is another process and
+        people may be at the board. A pick that failed has a drop that fails."""
+        self.others = 'somebody else stopped it'
         for job, wanted in jobs.items():
             self.acts.setdefault(job, []).extend(('drop', act) for act, told in drops.items() if told == wanted)
 

@@ -69,9 +69,10 @@ class Track:
 
 class Goods:
     """Where the loads are: by place, as the desk writes it: `station A`, `vehicle KIT/0001`, `checking`. `room` is how many a place has
-    room for."""
+    room for. `alone`: nobody else tells the desk where loads are, so that each is where an order looks for it."""
 
     def __init__(self) -> None:
+        self.alone = True
         self.here: dict[str, set[str]] = {}
         self.room: dict[str, int] = {}
         self.drops: dict[str, tuple[str, str]] = {}  # by act of an order the load and the station where a vehicle has put it down

@@ -216,13 +216,15 @@ class Vehicle:
         load, station = said['loadId'], said['stationName']
         places = ['station ' + station, 'vehicle ' + self.name]
         is_pick = action['actionType'] == 'pick'
-        if is_pick and not self.goods.has(load, places[0]):
+        start, finish = places if is_pick else places[::-1]
+        is_there = self.goods.has(load, start)
+        if is_pick and self.goods.alone and not is_there:
             raise Wrong('%s is to pick %s at %s, which is not there' % (self.name, load, station))
-        if self.chance.randrange(1000) < self.nature.failing or not is_pick and not self.goods.has(load, places[1]):
+        if self.chance.randrange(1000) < self.nature.failing or not is_there:
             self.statuses[name] = 'FAILED'
             self.failed.add(name)
         else:
-            self.goods.move(load, *(places if is_pick else places[::-1]))
+            self.goods.move(load, start, finish)
             self.moved[load] = self.header
             if not is_pick:
                 self.goods.drops[name] = load, station
