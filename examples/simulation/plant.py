@@ -63,6 +63,7 @@ class Plant:
         self.day = Day()
         self.circles = Circles(plan.circle)
         self.since: dict[str, float] = {}  # since when each vehicle waits
+        self.reason: dict[str, str] = {}  # and why, as far as the dispatcher has said since then
         self.heard: dict[str, str] = {}  # by vehicle the last line of the dispatcher
         self.over, self.fetches = False, 0
         self.reasons = Reasons()
@@ -213,23 +214,21 @@ class Plant:
             pass
 
     def measure(self) -> None:
-        """Who has an order and waits."""
+        """Who has an order and waits, and the last reason that the dispatcher had for it, or else its last line about the vehicle."""
+        told = self.waits() or {}
         for name, vehicle in self.vehicles.items():
-            if vehicle.is_done() or vehicle.by_hand:
+            has_order = not vehicle.is_done() and not vehicle.by_hand
+            if has_order:
+                self.day.ordered[name] = self.day.ordered.get(name, 0.0) + 1
+            if not has_order or vehicle.node_is_left() or vehicle.is_acting() or vehicle.in_service or vehicle.paused:
                 self.since.pop(name, None)
-                continue
-            self.day.ordered[name] = self.day.ordered.get(name, 0.0) + 1
-            if vehicle.node_is_left() or vehicle.is_acting() or vehicle.in_service or vehicle.paused:
-                self.since.pop(name, None)
+                self.reason.pop(name, None)
                 continue
             self.day.waited[name] = self.day.waited.get(name, 0.0) + 1
             since = self.since.setdefault(name, self.clock.now)
-            self.day.has_waited(name, since, self.clock.now, self.why_waits(name))
-
-    def why_waits(self, name: str) -> str:
-        """Why a vehicle waits, as the dispatcher says, or what it has said of it last."""
-        told = self.waits() or {}
-        return told[name] if name in told else self.heard.get(name, 'nobody says why')
+            if name in told:
+                self.reason[name] = told[name]
+            self.day.has_waited(name, since, self.clock.now, self.reason.get(name, self.heard.get(name, 'nobody says why')))
 
     def audit(self) -> None:
         """Each vehicle is on what the desk holds for it, and each load is in one place, where the desk has it, and in one order."""
