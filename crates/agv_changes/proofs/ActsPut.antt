@@ -18,7 +18,7 @@ use Rattle.agv_changes.specs.ActRows.{AreOfOrder, acts_listed}
 use Rattle.agv_rows.specs.Columns.{act_columns}
 use Rattle.agv_schema.specs.DeskRows.{Placing, Answers, Holds, IsDesk, Makes, has_columns, has_key, is_equal, on_table, place_of, table_at, table_for, with_rows}
 use Rattle.agv_rows.specs.RowKeys.{act_row_key, name_key}
-use Rattle.agv_rows.specs.RowLists.{AreAlike, rows_of_acts, without_acts}
+use Rattle.agv_rows.specs.Rows.{AreAlike, rows_of_acts, without_acts}
 use Rattle.agv_schema.specs.RowTexts.{columns_deleted}
 use Rattle.agv_statements.specs.RowUpdates.{with_each}
 use Rattle.agv_schema.specs.declared.table_name.TableName.TheVariants as the

@@ -3,11 +3,11 @@ use Rattle.std.proofs.Common.{◌≡◌, ◌⊎◌, inl, inr, List, sym, subst}
 use Rattle.sqlite_value.specs.Order.{Row}
 use Rattle.sqlite.specs.Effect.{Database, IsDatabase}
 use Rattle.agv_world.specs.Changes.{changed}
-use Rattle.agv_world.specs.Rows.{Rows}
+use Rattle.agv_world.specs.Maps.{Maps}
 use Rattle.agv_world.specs.declared.change.Change.{Change}
 use Rattle.agv_changes.specs.ChangesMade.{ChangesWorlds, MakesChanges, MayFind}
 use Rattle.agv_schema.specs.DeskRows.{Placing, Holds, IsDesk}
-use Rattle.agv_rows.specs.RowLists.{listed_all, row_lists}
+use Rattle.agv_rows.specs.Rows.{listed_all, row_lists}
 use Rattle.agv_creation.proofs.SchemasTold.{trees_tell_schemas}
 
 -- trees tell the database
@@ -28,8 +28,8 @@ module _ (changes : List Change) (desk : Placing) (old found : Database) where
     | inr made ↦ inr (made.rows desk is lists h)
   ]
 
-  pub worlds_found : ((changes : List Change) (old new : Database) → MakesChanges changes old new → ChangesWorlds changes old new) → (rows : Rows) → IsDesk desk → Holds desk old (row_lists rows) → IsDatabase old → MayFind changes old found → Holds desk found (row_lists rows) ⊎ Holds desk found (row_lists (changed changes rows))
-  worlds_found make rows is h listed may = elim (found_either is h.schema_is listed may) [
-    | inl same ↦ inl (subst (λ db. Holds desk db (row_lists rows)) (sym same) h)
-    | inr made ↦ inr (make changes old found made desk is rows h)
+  pub worlds_found : ((changes : List Change) (old new : Database) → MakesChanges changes old new → ChangesWorlds changes old new) → (maps : Maps) → IsDesk desk → Holds desk old (row_lists maps) → IsDatabase old → MayFind changes old found → Holds desk found (row_lists maps) ⊎ Holds desk found (row_lists (changed changes maps))
+  worlds_found make maps is h listed may = elim (found_either is h.schema_is listed may) [
+    | inl same ↦ inl (subst (λ db. Holds desk db (row_lists maps)) (sym same) h)
+    | inr made ↦ inr (make changes old found made desk is maps h)
   ]

@@ -11,7 +11,7 @@ use Rattle.agv_world.specs.declared.change.Change.{Change}
 use Rattle.agv_changes.specs.ChangesMade.{ChangesWorlds, MakesChanges}
 use Rattle.agv_rows.specs.Columns.{act_columns}
 use Rattle.agv_schema.specs.DeskRows.{FitsTable, Makes, table_for, with_put_by, with_row, with_rows}
-use Rattle.agv_rows.specs.RowLists.{listed, listed_all, rows_of_acts}
+use Rattle.agv_rows.specs.Rows.{listed, listed_all, rows_of_acts}
 use Rattle.agv_schema.specs.RowTexts.{columns_deleted}
 use Rattle.agv_statements.specs.RowUpdates.{IsKeyOf}
 use Rattle.agv_schema.specs.declared.table_name.TableName.{TableName}

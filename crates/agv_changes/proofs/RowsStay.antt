@@ -5,7 +5,7 @@ use Rattle.sqlite_value.specs.Order.{Row}
 use Rattle.sqlite.specs.Effect.{IsDatabase}
 use Rattle.sqlite.specs.State.{State, IsUnchanged}
 use Rattle.agv_schema.specs.DeskRows.{Answers, Holds, KeepsOthers, Makes, has_columns, on_table, place_of, table_at, with_rows, without_rows}
-use Rattle.agv_rows.specs.RowLists.{AreAlike}
+use Rattle.agv_rows.specs.Rows.{AreAlike}
 use Rattle.agv_schema.specs.declared.table_name.TableName.{TableName}
 use Rattle.agv_schema.proofs.OnTables.{added, added-permuted, on_table-twice, with_rows-added}
 use Rattle.agv_rows.proofs.ListsHeld.{alike_itself, held_alike}

@@ -4,10 +4,10 @@ use Rattle.sqlite_trees.specs.Tree.{Trees}
 use Rattle.sqlite_value.specs.Order.{Row}
 use Rattle.sqlite.specs.Effect.{Database, IsDatabase}
 use Rattle.agv_world.specs.Changes.{changed}
-use Rattle.agv_world.specs.Rows.{Rows}
+use Rattle.agv_world.specs.Maps.{Maps}
 use Rattle.agv_world.specs.declared.change.Change.{Change}
 use Rattle.agv_schema.specs.DeskRows.{Placing, Holds, IsDesk, KeepsOthers}
-use Rattle.agv_rows.specs.RowLists.{listed_all, row_lists}
+use Rattle.agv_rows.specs.Rows.{listed_all, row_lists}
 
 pub record MakesChanges (changes : List Change) (old new : Database) : Type 0 where
   -- whatever rows the desk's tables had, they have those after all changes
@@ -19,7 +19,7 @@ pub record MakesChanges (changes : List Change) (old new : Database) : Type 0 wh
 
 -- so where the tables had the rows of a world, they have those of the world after all changes
 abbrev pub ChangesWorlds : List Change → Database → Database → Type 0
-ChangesWorlds changes old new = (desk : Placing) → IsDesk desk → (rows : Rows) → Holds desk old (row_lists rows) → Holds desk new (row_lists (changed changes rows))
+ChangesWorlds changes old new = (desk : Placing) → IsDesk desk → (maps : Maps) → Holds desk old (row_lists maps) → Holds desk new (row_lists (changed changes maps))
 
 -- what a crash may leave: all of it
 abbrev pub LeavesChanges : List Change → Database → Trees → Type 0

@@ -8,7 +8,7 @@ ghost use Rattle.agv_trip_rows.specs.TripRows.{act_key, act_row, act_rows_from};
 ghost use Rattle.agv_rows.specs.Columns.{act_columns};
 ghost use Rattle.agv_changes.specs.ActRows.{AreOfOrder, acts_listed};
 ghost use Rattle.agv_schema.specs.DeskRows.{Answers, Makes, table_for, with_row, with_rows};
-ghost use Rattle.agv_rows.specs.RowLists.{rows_of_acts, without_acts};
+ghost use Rattle.agv_rows.specs.Rows.{rows_of_acts, without_acts};
 ghost use Rattle.agv_statements.specs.RowUpdates.{with_each};
 ghost use Rattle.agv_schema.specs.declared.table_name.TableName.TheVariants as the;
 ghost use Rattle.agv_statements.specs.WritesInside.{MakesInside, WritesInside};

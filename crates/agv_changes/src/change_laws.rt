@@ -4,11 +4,11 @@ ghost use Rattle.std.specs.Prelude.{◌≡◌, ◌⊎◌, List};
 ghost use Rattle.sqlite_value.specs.Order.{Row};
 ghost use Rattle.sqlite.specs.Effect.{Database, IsDatabase};
 ghost use Rattle.agv_world.specs.Changes.{changed};
-ghost use Rattle.agv_world.specs.Rows.{Rows};
+ghost use Rattle.agv_world.specs.Maps.{Maps};
 ghost use Rattle.agv_world.specs.declared.change.Change.{Change};
 ghost use Rattle.agv_changes.specs.ChangesMade.{ChangesWorlds, MakesChanges, MayFind};
 ghost use Rattle.agv_schema.specs.DeskRows.{Placing, Holds, IsDesk, KeepsOthers};
-ghost use Rattle.agv_rows.specs.RowLists.{listed_all, row_lists};
+ghost use Rattle.agv_rows.specs.Rows.{listed_all, row_lists};
 
 use agv_rows::row_list_laws::lists_follow_changes;
 
@@ -35,8 +35,8 @@ pub fn openings_find_rows_before_or_after()
         → MayFind changes old found → (found ≡ old) ⊎ MakesChanges changes old found }
     ensures rows { (changes : List Change) (desk : Placing) (old found : Database) (lists : List (List Row)) → IsDesk desk → Holds desk old lists → IsDatabase old
         → MayFind changes old found → Holds desk found lists ⊎ Holds desk found (listed_all changes lists) }
-    ensures worlds { (changes : List Change) (desk : Placing) (old found : Database) (rows : Rows) → IsDesk desk → Holds desk old (row_lists rows) → IsDatabase old
-        → MayFind changes old found → Holds desk found (row_lists rows) ⊎ Holds desk found (row_lists (changed changes rows)) }
+    ensures worlds { (changes : List Change) (desk : Placing) (old found : Database) (maps : Maps) → IsDesk desk → Holds desk old (row_lists maps) → IsDatabase old
+        → MayFind changes old found → Holds desk found (row_lists maps) ⊎ Holds desk found (row_lists (changed changes maps)) }
 {
     changes_make_the_next_world();
 }

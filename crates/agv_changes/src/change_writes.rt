@@ -7,7 +7,7 @@ ghost use Rattle.agv_world.specs.declared.change.Change.TheVariants as row;
 ghost use Rattle.agv_rows.specs.Columns.{journey_columns, vehicle_columns};
 ghost use Rattle.agv_schema.specs.DeskRows.{Makes, with_put, without_key};
 ghost use Rattle.agv_rows.specs.RowKeys.{name_key, vehicle_key};
-ghost use Rattle.agv_rows.specs.RowLists.{listed};
+ghost use Rattle.agv_rows.specs.Rows.{listed};
 ghost use Rattle.agv_schema.specs.declared.table_name.TableName.TheVariants as the;
 ghost use Rattle.agv_statements.specs.WritesInside.{MakesInside};
 

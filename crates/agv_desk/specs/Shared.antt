@@ -7,7 +7,7 @@ use Rattle.agv_stock.specs.declared.goal.Goal.TheVariants as goal
 use Rattle.agv_stock.specs.declared.place.Place.{Place}
 use Rattle.agv_track.specs.Holds.{first_held}
 use Rattle.agv_world.specs.Questions.{room_at, job_of, is_used}
-use Rattle.agv_world.specs.Rows.{rows_of}
+use Rattle.agv_world.specs.Maps.{maps_of}
 use Rattle.agv_world.specs.Worlds.{World}
 use Rattle.agv_world.specs.declared.key.UseKey.{UseKey}
 use Rattle.agv_world.specs.declared.key.UseKind.TheVariants as used
@@ -47,4 +47,4 @@ move_to load to why = record { load = load; place = to; cause = why }
 
 -- go on where no other vehicle holds any of the things
 abbrev pub if_free : World → VehicleKey → List Thing → Outcome → Outcome
-if_free world key things rest = unheld (first_held (rows_of world).holds key things) rest
+if_free world key things rest = unheld (first_held (maps_of world).holds key things) rest

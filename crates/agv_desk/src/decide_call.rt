@@ -2,7 +2,7 @@
 ghost use Rattle.std.specs.Prelude.{◌≡◌};
 ghost use Rattle.agv_world.specs.Changes.{changed};
 ghost use Rattle.agv_world.specs.Asks.{Asks};
-ghost use Rattle.agv_world.specs.Rows.{rows_of};
+ghost use Rattle.agv_world.specs.Maps.{maps_of};
 ghost use Rattle.agv_desk.specs.DecisionEnds.{LeavesWorld, failed_by};
 ghost use Rattle.agv_desk.specs.InOrder.{IsInOrder};
 ghost use Rattle.agv_desk.specs.Outcomes.{after, decided};
@@ -47,7 +47,7 @@ pub fn decide<F: Floor>(
     ensures decides { Asks F.facts floor.old floor.new result (λ world decision.
         IsWithinTripLimits world call.now → decision ≡ decided (step (F.facts.seats floor.old) world at call.now)) }
     ensures changes { Asks F.facts floor.old floor.new result (λ world decision.
-        IsInOrder world → changed decision.changes (rows_of world) ≡ rows_of (after world (step (F.facts.seats floor.old) world at call.now))) }
+        IsInOrder world → changed decision.changes (maps_of world) ≡ maps_of (after world (step (F.facts.seats floor.old) world at call.now))) }
     ensures failed { F.facts.failed floor.new ≡ failed_by result (F.facts.failed floor.old) }
     ensures seats { F.facts.seats floor.new ≡ F.facts.seats floor.old }
     ensures world { LeavesWorld F.facts floor.old floor.new result }

@@ -5,7 +5,7 @@ ghost use Rattle.agv_header.specs.declared.key.Thing.{Thing as Held};
 ghost use Rattle.agv_track.specs.Holders.{gained};
 ghost use Rattle.agv_track.specs.Holds.{first_held, is_in, other_holder};
 ghost use Rattle.agv_world.specs.Asks.{Asks};
-ghost use Rattle.agv_world.specs.Rows.{rows_of};
+ghost use Rattle.agv_world.specs.Maps.{maps_of};
 ghost use Rattle.agv_world.specs.VehicleChanges.{hold_changes};
 ghost use Rattle.agv_world.specs.declared.change.Change.TheVariants as row;
 
@@ -18,7 +18,7 @@ pub(crate) fn first_held<F: Floor>(
     key: &VehicleKey,
     things: &[Thing],
 ) -> Result<Option<(Thing, VehicleKey)>, Fault>
-    ensures { Asks F.facts floor.old floor.new result (λ world held. held ≡ first_held (rows_of world).holds key.now things.now) }
+    ensures { Asks F.facts floor.old floor.new result (λ world held. held ≡ first_held (maps_of world).holds key.now things.now) }
 {
     for thing in things {
         if let Some(by) = other_holder(floor, key, thing)? {
@@ -35,7 +35,7 @@ fn other_holder<F: Floor>(
     key: &VehicleKey,
     thing: &Thing,
 ) -> Result<Option<VehicleKey>, Fault>
-    ensures { Asks F.facts floor.old floor.new result (λ world by. by ≡ other_holder key.now (finite.get (rows_of world).holds thing.now)) }
+    ensures { Asks F.facts floor.old floor.new result (λ world by. by ≡ other_holder key.now (finite.get (maps_of world).holds thing.now)) }
 {
     match floor.holder(*thing)? {
         Some(by) if by != *key => Ok(Some(by)),

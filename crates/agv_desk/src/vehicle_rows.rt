@@ -1,7 +1,7 @@
 //! The rows of a vehicle that is written.
 ghost use Rattle.std.specs.Prelude.{◌≡◌, ◌≤◌, ◌++◌, Some, length, IfOk, OnOk};
 ghost use Rattle.agv_track.specs.Footprints.{footprint_of};
-ghost use Rattle.agv_world.specs.Rows.{trip_row};
+ghost use Rattle.agv_world.specs.Maps.{trip_row};
 ghost use Rattle.agv_world.specs.SameRows.{same_row, same_trip_row};
 ghost use Rattle.agv_world.specs.VehicleChanges.{hold_changes, leg_removals, leg_writes, own_changes, trip_changes};
 ghost use Rattle.agv_desk.specs.Sizes.{IsShort};

@@ -19,7 +19,7 @@ use Rattle.agv_order.specs.declared.act.Act.{Act}
 use Rattle.agv_order.specs.declared.stop.Stop.{Stop}
 use Rattle.agv_order.specs.declared.trip.Trip.{Trip}
 use Rattle.agv_world.specs.Lawful.{IsLawful, NamesItsJob, picks, station_for}
-use Rattle.agv_world.specs.Rows.{Rows, rows_of, vehicle_rows, trip_rows, rows_of_trip, trip_row}
+use Rattle.agv_world.specs.Maps.{Maps, maps_of, vehicle_rows, trip_rows, rows_of_trip, trip_row}
 use Rattle.agv_world.specs.Worlds.{Vehicle, World}
 use Rattle.agv_world.specs.declared.row.JobRow.{JobRow}
 use Rattle.agv_world.specs.declared.row.TripRow.{TripRow}
@@ -31,17 +31,17 @@ use Rattle.agv_schema.proofs.SpreadRows.{spread_from}
 use Rattle.agv_first_schema.proofs.TripLineLemmas.{same_name, own_name, pick_kind, drop_kind}
 
 -- the trip is what its line and the row of its job tell
-pub record IsTripOfJob (rows : Rows) (order : List ℕ) (trip : TripRow) : Type 0 where
+pub record IsTripOfJob (maps : Maps) (order : List ℕ) (trip : TripRow) : Type 0 where
   pub line : TripLine
   pub is : line_of order trip ≡ Some line
   pub job : JobRow
-  pub known : finite.get rows.jobs line.job ≡ Some job
+  pub known : finite.get maps.jobs line.job ≡ Some job
   pub told : trip_told line job ≡ trip
 
 -- each vehicle has the capacity 1, and each open trip is of one job, which is known: the first schema tells no more
-pub record CarriesOneEach (rows : Rows) : Type 0 where
-  pub vehicles : (key : VehicleKey) (vehicle : VehicleRow) → finite.get rows.vehicles key ≡ Some vehicle → vehicle.capacity ≡ 1
-  pub trips : (order : List ℕ) (trip : TripRow) → finite.get rows.trips order ≡ Some trip → IsTripOfJob rows order trip
+pub record CarriesOneEach (maps : Maps) : Type 0 where
+  pub vehicles : (key : VehicleKey) (vehicle : VehicleRow) → finite.get maps.vehicles key ≡ Some vehicle → vehicle.capacity ≡ 1
+  pub trips : (order : List ℕ) (trip : TripRow) → finite.get maps.trips order ≡ Some trip → IsTripOfJob maps order trip
 
 -- stops that fit are twice as many as the picks
 abbrev pub StopsTwice : Type 0
@@ -102,7 +102,7 @@ pair_of twice (a ∷ (b ∷ (c ∷ more))) fit few =
     too_many more p q many same few = omega arith
 
 -- such a trip is what its line and the row of its job tell
-trip_single : (world : World) (key : VehicleKey) (trip : Trip) → IsPair trip.acts → ((act : Act) → Contains trip.acts act → NamesItsJob world act) → IsTripOfJob (rows_of world) trip.order (trip_row key trip)
+trip_single : (world : World) (key : VehicleKey) (trip : Trip) → IsPair trip.acts → ((act : Act) → Contains trip.acts act → NamesItsJob world act) → IsTripOfJob (maps_of world) trip.order (trip_row key trip)
 trip_single world key trip pair named =
     let pick = pair.pick in
     let drop = pair.drop in
@@ -149,7 +149,7 @@ own_row q k x y found =
 squeezed : (n : ℕ) → 1 ≤ n → n ≤ 1 → n ≡ 1
 squeezed n low high = omega arith
 
-pub lawful_single : StopsTwice → (world : World) → IsLawful 1 world → CarriesOneEach (rows_of world)
+pub lawful_single : StopsTwice → (world : World) → IsLawful 1 world → CarriesOneEach (maps_of world)
 lawful_single twice world lawful = record {
   vehicles = λ key row at.
       let from = spread_from key_cmp-total key_cmp key_cmp-total vehicle_rows world.vehicles key row at in
@@ -161,15 +161,15 @@ lawful_single twice world lawful = record {
 }
   where
     trip_at : (order : List ℕ) (row : TripRow) (key : VehicleKey) (vehicle : Vehicle) (trip : Option Trip) → vehicle.trip ≡ trip → finite.get world.vehicles key ≡ Some vehicle
-        → finite.find name_cmp order (rows_of_trip key trip) ≡ Some row → IsTripOfJob (rows_of world) order row
+        → finite.find name_cmp order (rows_of_trip key trip) ≡ Some row → IsTripOfJob (maps_of world) order row
     trip_at order row key vehicle None is at found = absurd (cc found)
     trip_at order row key vehicle (Some trip) is at found =
         let own = of_one order trip.order (trip_row key trip) row found in
         let kept = lawful.trips.open_trips key vehicle trip at is in
         let few : count_by picks trip.acts ≤ 1 = between _ _ (lawful.capacity.picks_fit key vehicle trip at is) (lawful.capacity.seated key vehicle at) in
         let pair = pair_of twice trip.acts kept.well_formed.planned.stops few in
-        subst (λ q. IsTripOfJob (rows_of world) q row) (sym own.0)
-        (subst (IsTripOfJob (rows_of world) trip.order) own.1
+        subst (λ q. IsTripOfJob (maps_of world) q row) (sym own.0)
+        (subst (IsTripOfJob (maps_of world) trip.order) own.1
         (trip_single world key trip pair (λ act among. lawful.jobs.acts key trip act (record { open_trip = (vehicle, at, is); among = among }))))
       where
         between : (a b : ℕ) → a ≤ b → b ≤ 1 → a ≤ 1

@@ -12,7 +12,7 @@ use Rattle.sqlite.specs.State.{HasCleanDisk, Survives}
 use Rattle.agv_track.specs.Holds.{Holds as Holders}
 use Rattle.agv_world.specs.Kept.{Keeps}
 use Rattle.agv_world.specs.Lawful.{IsLawful}
-use Rattle.agv_world.specs.Rows.{rows_of}
+use Rattle.agv_world.specs.Maps.{maps_of}
 use Rattle.agv_world.specs.Worlds.{World}
 use Rattle.agv_world.specs.declared.world.World.{World as Tables}
 use Rattle.agv_first_schema.specs.FirstFound.{FindsFirst, FirstTablesStand, ReadsLists}
@@ -21,7 +21,7 @@ use Rattle.agv_first_schema.specs.FirstTold.{Finds, TellFirst}
 use Rattle.agv_rowids.specs.Rowids.{AreTablesKeyed}
 use Rattle.agv_rows.specs.DecodedTrips.{tables_of}
 use Rattle.agv_schema.specs.DeskRows.{HaveRows, Placing, width_of}
-use Rattle.agv_rows.specs.RowLists.{AreAlike}
+use Rattle.agv_rows.specs.Rows.{AreAlike}
 use Rattle.agv_row_reading.specs.declared.open_fault.OpenFault.{OpenFault}
 use Rattle.agv_row_reading.specs.declared.open_fault.OpenFault.TheVariants as fault
 use Rattle.agv_row_reading.specs.declared.held_things.HeldThings.{HeldThings}
@@ -67,11 +67,11 @@ module _ (at : Placing) (db : Database) where
 
 -- these are the tables of a lawful world with one place on each vehicle, and what is held is what its vehicles hold
 abbrev pub AreFirst : Tables → HeldThings → Type 0
-AreFirst tables held = (world : World) × Keeps tables world × IsLawful 1 world × (held.table ≡ (rows_of world).holds)
+AreFirst tables held = (world : World) × Keeps tables world × IsLawful 1 world × (held.table ≡ (maps_of world).holds)
 
 -- the rows of a lawful world tell it
 abbrev pub RowsTellTheirWorld : Type 0
-RowsTellTheirWorld = (world : World) (lists : List (List Row)) → IsLawful 1 world → AreAlike (first_lists (rows_of world)) lists → TellFirst lists (tables_of (rows_of world)) (rows_of world).holds
+RowsTellTheirWorld = (world : World) (lists : List (List Row)) → IsLawful 1 world → AreAlike (first_lists (maps_of world)) lists → TellFirst lists (tables_of (maps_of world)) (maps_of world).holds
 
 module _ {S : Type 0} (g : Ghosts S) where
   -- ---- before anything is read
@@ -112,7 +112,7 @@ module _ {S : Type 0} (g : Ghosts S) where
   reading_fails old new (Err made) why is stand reads = record {
     told = λ _. tt;
     damaged = λ clean damaged desk world has.
-        reads.damaged clean (sym is ∙ damaged) desk (stand_apart desk has.stands) has.rows.schema_is (are_keyed desk (state g old).now first_names (first_lists (rows_of world)) has.rows.rows);
+        reads.damaged clean (sym is ∙ damaged) desk (stand_apart desk has.stands) has.rows.schema_is (are_keyed desk (state g old).now first_names (first_lists (maps_of world)) has.rows.rows);
     caused = λ clean stored. reads.caused clean (sym is ∙ stored) stand.0 (stand_apart stand.0 stand.1) stand.2;
     kept = λ _. tt;
     failed = λ clean. inr (reads.failed clean);
@@ -124,10 +124,10 @@ module _ {S : Type 0} (g : Ghosts S) where
 
   module _ (tell : RowsTellTheirWorld) (old new : Held S) (lists : List (List Row)) (reads : ReadsLists g old new first_names (Ok lists)) where
     -- of a database that has the rows of a world they tell that world
-    tells_it : HasCleanDisk (state g new) → (desk : Placing) (world : World) → HasFirstWorld desk (state g old).now world → TellFirst lists (tables_of (rows_of world)) (rows_of world).holds
+    tells_it : HasCleanDisk (state g new) → (desk : Placing) (world : World) → HasFirstWorld desk (state g old).now world → TellFirst lists (tables_of (maps_of world)) (maps_of world).holds
     tells_it clean desk world has =
         tell world lists has.lawful
-        (are_alike desk (state g old).now first_names (first_lists (rows_of world)) lists has.rows.rows (reads.told clean desk (stand_apart desk has.stands) has.rows.schema_is))
+        (are_alike desk (state g old).now first_names (first_lists (maps_of world)) lists has.rows.rows (reads.told clean desk (stand_apart desk has.stands) has.rows.schema_is))
 
     ends : (r : Result Tables OpenFault) (why : OpenFault) → IsErrAnd r (λ made. made ≡ why) → ¬ (why ≡ fault.Storage) → (HasCleanDisk (state g new) → why ≡ fault.Damaged → HasNoFirstWorld (state g old).now) → FindsFirst g old new r
     ends (Ok tables) why is sound none = absurd is
@@ -148,7 +148,7 @@ module _ {S : Type 0} (g : Ghosts S) where
     pub telling_fails : (r : Result Tables OpenFault) (why : OpenFault) → IsErrAnd r (λ made. made ≡ why) → Finds {A = Tables × Holders} (Err why) (λ read. TellFirst lists read.0 read.1) → FindsFirst g old new r
     telling_fails r why is found =
         ends r why is (λ stored. subst (λ (w : OpenFault). Finds {A = Tables × Holders} (Err w) (λ read. TellFirst lists read.0 read.1)) stored found)
-        (λ clean damaged desk world has. subst (λ (w : OpenFault). Finds {A = Tables × Holders} (Err w) (λ read. TellFirst lists read.0 read.1)) damaged found (tables_of (rows_of world), (rows_of world).holds) (tells_it clean desk world has))
+        (λ clean damaged desk world has. subst (λ (w : OpenFault). Finds {A = Tables × Holders} (Err w) (λ read. TellFirst lists read.0 read.1)) damaged found (tables_of (maps_of world), (maps_of world).holds) (tells_it clean desk world has))
 
     module _ (tables : Tables) (held : HeldThings) (told : TellFirst lists tables held.table) where
       -- they tell the tables of no such world
@@ -168,7 +168,7 @@ module _ {S : Type 0} (g : Ghosts S) where
             let has : HasFirstWorld at (state g old).now world = record {
               stands = stand.1;
               lawful = are.2;
-              rows = record { schema_is = stand.2; rows = have_alike at (state g old).now first_names lists (first_lists (rows_of world)) alike read };
+              rows = record { schema_is = stand.2; rows = have_alike at (state g old).now first_names lists (first_lists (maps_of world)) alike read };
             } in
             (at, world, has, are.1);
         damaged = λ _. tt;

@@ -15,7 +15,7 @@ use Rattle.agv_trip_rows.specs.declared.act_key.ActKey.{ActKey}
 use Rattle.agv_trip_rows.specs.declared.act_row.ActRow.{ActRow}
 use Rattle.agv_trip_rows.specs.declared.journey_row.JourneyRow.{JourneyRow}
 use Rattle.agv_world.specs.Kept.{Keeps}
-use Rattle.agv_world.specs.Rows.{rows_of}
+use Rattle.agv_world.specs.Maps.{maps_of}
 use Rattle.agv_world.specs.Worlds.{World}
 use Rattle.agv_world.specs.declared.row.TripRow.{TripRow}
 use Rattle.agv_world.specs.declared.row.VehicleRow.{VehicleRow}
@@ -25,7 +25,7 @@ use Rattle.agv_first_schema.specs.FirstRows.{first_lists}
 use Rattle.agv_first_schema.specs.Moved.{for_each, moved_lists, with_journey, with_vehicle_capacity}
 use Rattle.agv_rows.specs.Columns.{act_columns, edge_columns, hold_columns, job_columns, journey_columns, leg_columns, load_columns, meta_columns, node_columns, vehicle_capacity_columns, station_columns, used_columns, vehicle_columns}
 use Rattle.agv_schema.specs.DeskRows.{with_rows}
-use Rattle.agv_rows.specs.RowLists.{AreAlike, row_lists, rows_for, rows_in, rows_of_acts}
+use Rattle.agv_rows.specs.Rows.{AreAlike, row_lists, rows_for, rows_in, rows_of, rows_of_acts}
 use Rattle.agv_schema.specs.SchemaNumbers.{schema_number}
 use Rattle.agv_rows.proofs.TripRowLaws.{ActsListed, JourneysListed}
 use Rattle.agv_statements.proofs.sql.EntryEdits.{map_of_map}
@@ -96,30 +96,30 @@ acts_are : ActsListed → (trips : finite.FinMap name_cmp TripRow) → flat_map 
 acts_are listed trips =
     sym (ap (map (λ (e : ActKey × ActRow). act_columns e.0 e.1)) (listed trips) ∙ map_parts (λ (e : ActKey × ActRow). act_columns e.0 e.1) (λ (e : List ℕ × TripRow). act_rows e.0 e.1) (finite.entries trips))
 
-number_is : (world : World) → rows_in meta_columns (rows_of world).meta ≡ meta_columns 1 schema_number ∷ []
+number_is : (world : World) → rows_in meta_columns (maps_of world).meta ≡ meta_columns 1 schema_number ∷ []
 number_is world = rw (finite.entries-insert nat_cmp_total (finite.empty {K = ℕ} {X = ℕ} {R = nat_cmp}) 1 schema_number, no_entries {K = ℕ} {X = ℕ} nat_cmp)
 
 -- ---- all tables
 
 pub moved_alike : JourneysListed → ActsListed → (tables : Tables) (world : World) → Keeps tables world
-    → AreAlike (moved_lists tables (first_lists (rows_of world) ++ [] ∷ [] ∷ [] ∷ [])) (row_lists (rows_of world))
+    → AreAlike (moved_lists tables (first_lists (maps_of world) ++ [] ∷ [] ∷ [] ∷ [])) (rows_of world)
 unfolding first_lists row_lists
 moved_alike journeys listed tables world keeps =
-    let rows = rows_of world in
+    let maps = maps_of world in
     let vehicles = finite.entries tables.vehicles in
     let trips = finite.entries tables.trips in
-    let capacities_are : IsPermutation (onto (map vehicle_capacity vehicles) []) (rows_in vehicle_capacity_columns rows.vehicles) =
+    let capacities_are : IsPermutation (onto (map vehicle_capacity vehicles) []) (rows_in vehicle_capacity_columns maps.vehicles) =
     subst (λ (m : finite.FinMap key_cmp VehicleRow). IsPermutation (onto (map vehicle_capacity vehicles) []) (rows_in vehicle_capacity_columns m)) keeps.vehicles (onto_nothing (map vehicle_capacity vehicles)) in
-    let journeys_moved : IsPermutation (onto (map journey trips) []) (rows_in journey_columns (journeys_of rows.trips)) =
+    let journeys_moved : IsPermutation (onto (map journey trips) []) (rows_in journey_columns (journeys_of maps.trips)) =
     subst (λ (m : finite.FinMap name_cmp TripRow). IsPermutation (onto (map journey trips) []) (rows_in journey_columns (journeys_of m))) keeps.trips
     (subst (IsPermutation (onto (map journey trips) [])) (journeys_are journeys tables.trips) (onto_nothing (map journey trips))) in
-    let acts_moved : IsPermutation (onto (flat_map acts trips) []) (rows_in act_columns (acts_of rows.trips)) =
+    let acts_moved : IsPermutation (onto (flat_map acts trips) []) (rows_in act_columns (acts_of maps.trips)) =
     subst (λ (m : finite.FinMap name_cmp TripRow). IsPermutation (onto (flat_map acts trips) []) (rows_in act_columns (acts_of m))) keeps.trips
     (subst (IsPermutation (onto (flat_map acts trips) [])) (acts_are listed tables.trips) (onto_nothing (flat_map acts trips))) in
-    let number : IsPermutation (meta_columns 1 schema_number ∷ []) (rows_in meta_columns rows.meta) =
+    let number : IsPermutation (meta_columns 1 schema_number ∷ []) (rows_in meta_columns maps.meta) =
     subst (IsPermutation (meta_columns 1 schema_number ∷ [])) (sym (number_is world)) (IsPermutation-refl _) in
     let same : (l : List Row) → IsPermutation l l = λ l. IsPermutation-refl l in
-    subst (λ lists. AreAlike lists (row_lists rows))
-    (sym (all_added (meta_columns 1 schema_number ∷ []) (rows_for node_columns rows.nodes) (rows_in edge_columns rows.edges) (rows_in station_columns rows.stations) (rows_in vehicle_columns rows.vehicles) []
-    (rows_in leg_columns rows.legs) (rows_in load_columns rows.loads) (rows_in job_columns rows.jobs) (rows_in hold_columns rows.holds) (rows_for used_columns rows.used) vehicles trips))
+    subst (λ lists. AreAlike lists (row_lists maps))
+    (sym (all_added (meta_columns 1 schema_number ∷ []) (rows_for node_columns maps.nodes) (rows_in edge_columns maps.edges) (rows_in station_columns maps.stations) (rows_in vehicle_columns maps.vehicles) []
+    (rows_in leg_columns maps.legs) (rows_in load_columns maps.loads) (rows_in job_columns maps.jobs) (rows_in hold_columns maps.holds) (rows_for used_columns maps.used) vehicles trips))
     (number, (same _, (same _, (same _, (same _, (same _, (same _, (same _, (same _, (same _, (same _, (capacities_are, (journeys_moved, (acts_moved, tt))))))))))))))

@@ -13,14 +13,13 @@ use Rattle.sqlite_catalog.proofs.StepLemmas.{same_itself}
 use Rattle.sqlite_tied.specs.Compute.{everything}
 use Rattle.sqlite.specs.Effect.{Database}
 use Rattle.sqlite.specs.State.{State}
-use Rattle.agv_world.specs.Rows.{rows_of}
+use Rattle.agv_world.specs.Maps.{maps_of}
 use Rattle.agv_world.specs.declared.world.World.{World as Tables}
 use Rattle.agv_schema.specs.declared.table_name.TableName.{TableName}
 use Rattle.agv_schema.specs.declared.table_name.TableName.TheVariants as the
 use Rattle.agv_first_schema.specs.FirstRows.{IsFirstDesk, first_lists, is_first}
 use Rattle.agv_first_schema.specs.Moved.{CanBeAdded, MovesTables, added_tables, added_texts, moved_lists}
 use Rattle.agv_schema.specs.DeskRows.{Makes, Placing, is_unreferred, table_for}
-use Rattle.agv_rows.specs.RowLists.{row_lists}
 use Rattle.agv_creation.specs.DeskTables.{HasTable}
 use Rattle.agv_creation.specs.TextsRun.{RunSteps, RunsSteps}
 use Rattle.agv_first_schema.proofs.AddedTables.{AreAdded, is_second, rows_stay, second, second_holds}
@@ -28,6 +27,7 @@ use Rattle.agv_first_schema.proofs.MovedRows.{moved_alike}
 use Rattle.agv_first_schema.proofs.WorldTold.{more_seats}
 use Rattle.agv_rows.proofs.ListsHeld.{held_alike}
 use Rattle.agv_rows.proofs.TripRowLaws.{ActsListed, JourneysListed}
+use Rattle.agv_rows.specs.Rows.{rows_of}
 use Rattle.agv_creation.proofs.Creations.{DefinesTable, unused}
 use Rattle.agv_creation.proofs.DeskMade.{free_of, tables_own}
 use Rattle.agv_creation.proofs.DeskStands.{AllowsTable, tables_leave}
@@ -108,13 +108,13 @@ module _ (journeys : JourneysListed) (acts : ActsListed) (tables_now : Tables) w
       let added = are_added first old.now mid.now was.stands was.rows.schema_is can made in
       let at = second first old.now mid.now added in
       let stands = is_second first old.now mid.now added in
-      let lists = first_lists (rows_of world) ++ [] ∷ [] ∷ [] ∷ [] in
-      let holds = done.made at stands lists (second_holds first old.now mid.now added (first_lists (rows_of world)) was.rows) in
+      let lists = first_lists (maps_of world) ++ [] ∷ [] ∷ [] ∷ [] in
+      let holds = done.made at stands lists (second_holds first old.now mid.now added (first_lists (maps_of world)) was.rows) in
       let others = done.others at stands refl in
       record {
         schema_is = others.schema_is ∙ made.schema_is;
         at = at;
-        has = record { stands = stands; lawful = more_seats world was.lawful; rows = held_alike at new.now (moved_lists tables_now lists) (row_lists (rows_of world)) (moved_alike journeys acts tables_now world keeps) holds };
+        has = record { stands = stands; lawful = more_seats world was.lawful; rows = held_alike at new.now (moved_lists tables_now lists) (rows_of world) (moved_alike journeys acts tables_now world keeps) holds };
         others = all_from _ old.now.schema.tables (λ t among other.
             all_has (λ (u : Table). ((name : TableName) → u.tree ≢ at.tree name) → new.now.trees u.tree ≡ mid.now.trees u.tree) mid.now.schema.tables t others.rows (made.grows.among t among)
             (elsewhere first old.now mid.now was.stands was.rows.schema_is can made t among other)

@@ -17,14 +17,14 @@ use Rattle.agv_trip_rows.specs.declared.act_key.ActKey.{ActKey}
 use Rattle.agv_trip_rows.specs.declared.act_row.ActRow.{ActRow}
 use Rattle.agv_trip_rows.specs.declared.journey_row.JourneyRow.{JourneyRow}
 use Rattle.agv_world.specs.Lawful.{IsKey, IsLawful}
-use Rattle.agv_world.specs.Rows.{Rows, rows_of}
+use Rattle.agv_world.specs.Maps.{Maps, maps_of}
 use Rattle.agv_world.specs.Worlds.{World}
 use Rattle.agv_world.specs.declared.row.JobRow.{JobRow}
 use Rattle.agv_world.specs.declared.row.TripRow.{TripRow}
 use Rattle.agv_rows.specs.ValueEncodings.{if_some}
 use Rattle.agv_rows.specs.TypedRows.{IsNumber}
 use Rattle.agv_row_reading.specs.ReadTables.{read_rows}
-use Rattle.agv_rows.specs.RowLists.{row_if}
+use Rattle.agv_rows.specs.Rows.{row_if}
 use Rattle.agv_first_schema.specs.FirstColumns.{trip_columns, trip_in, trip_with}
 use Rattle.agv_first_schema.specs.FirstRows.{trip_rows}
 use Rattle.agv_first_schema.specs.TripLines.{line_of, trip_told}
@@ -128,12 +128,12 @@ lined : (es : List (List ℕ × TripRow)) → AllByRecursion HasLine es → flat
 lined [] are = refl
 lined (e ∷ es) are = ap₂ ◌++◌ (one_row (line_of e.0 e.1) are.0.0 are.0.1) (lined es are.1)
 
-module _ (rows : Rows) (single : CarriesOneEach rows) (values : HaveValues rows.trips) where
-  typed : (order : List ℕ) (trip : TripRow) → finite.get rows.trips order ≡ Some trip → (one : IsTripOfJob rows order trip) → IsTripLine one.line
+module _ (maps : Maps) (single : CarriesOneEach maps) (values : HaveValues maps.trips) where
+  typed : (order : List ℕ) (trip : TripRow) → finite.get maps.trips order ≡ Some trip → (one : IsTripOfJob maps order trip) → IsTripLine one.line
   typed order trip at one =
       let line = one.line in
       let its = trip_told line one.job in
-      let there : finite.get rows.trips order ≡ Some its = at ∙ ap Some (sym one.told) in
+      let there : finite.get maps.trips order ≡ Some its = at ∙ ap Some (sym one.told) in
       let journey = values.journeys order its there in
       let pick : IsActValue (act_row (record { kind = Pick; job = line.job; load = one.job.load; station = one.job.origin; place_at = line.pick_at; status = line.pick_status })) = values.acts order its 0 _ there refl in
       let dropped : IsActValue (act_row (record { kind = Drop; job = line.job; load = one.job.load; station = one.job.target; place_at = line.drop_at; status = line.drop_status })) = values.acts order its 1 _ there refl in
@@ -151,31 +151,31 @@ module _ (rows : Rows) (single : CarriesOneEach rows) (values : HaveValues rows.
         drop_at = low line.drop_at dropped.place_at;
       }
 
-  trip_there : (order : List ℕ) (trip : TripRow) → finite.get rows.trips order ≡ Some trip → trip_with rows.jobs (columns_of order trip) ≡ Some (order, trip)
+  trip_there : (order : List ℕ) (trip : TripRow) → finite.get maps.trips order ≡ Some trip → trip_with maps.jobs (columns_of order trip) ≡ Some (order, trip)
   unfolding row_or
   trip_there order trip at =
       let one = single.trips order trip at in
       let line = one.line in
       let named = (trip_told_back order trip line one.is).order in
-      ap (λ (o : Option TripLine). trip_with rows.jobs (row_or o)) one.is
-      ∙ ap (λ (o : Option TripLine). if_some o (λ l. if_some (finite.get rows.jobs l.job) (λ job. Some (l.order, trip_told l job)))) (trip_kept line (typed order trip at one))
+      ap (λ (o : Option TripLine). trip_with maps.jobs (row_or o)) one.is
+      ∙ ap (λ (o : Option TripLine). if_some o (λ l. if_some (finite.get maps.jobs l.job) (λ job. Some (l.order, trip_told l job)))) (trip_kept line (typed order trip at one))
       ∙ ap (λ (o : Option JobRow). if_some o (λ job. Some (line.order, trip_told line job))) one.known
       ∙ (λ i. Some (named i, one.told i))
 
   -- all rows of trips, in any order, give them
-  pub reads_trips : (shown : List Row) → IsPermutation (trip_rows rows.trips) shown → read_rows (trip_with rows.jobs) finite.empty shown ≡ Some rows.trips
+  pub reads_trips : (shown : List Row) → IsPermutation (trip_rows maps.trips) shown → read_rows (trip_with maps.jobs) finite.empty shown ≡ Some maps.trips
   reads_trips shown same =
-      let have = all_weaker _ HasLine (λ e at. let one = single.trips e.0 e.1 at in (one.line, one.is)) (finite.entries rows.trips) (entries_found nat_list_cmp_total rows.trips) in
-      reads_all nat_list_cmp_total names_apart rows.trips columns_of (trip_with rows.jobs) trip_there shown (subst (λ l. IsPermutation l shown) (lined (finite.entries rows.trips) have) same)
+      let have = all_weaker _ HasLine (λ e at. let one = single.trips e.0 e.1 at in (one.line, one.is)) (finite.entries maps.trips) (entries_found nat_list_cmp_total maps.trips) in
+      reads_all nat_list_cmp_total names_apart maps.trips columns_of (trip_with maps.jobs) trip_there shown (subst (λ l. IsPermutation l shown) (lined (finite.entries maps.trips) have) same)
 
 -- ---- the values of a lawful world's rows, as the laws of journeys and acts have them
 
 abbrev pub JourneysHaveValues : Type 0
 JourneysHaveValues =
-    (seats : ℕ) (world : World) → IsLawful seats world → (order : List ℕ) (row : JourneyRow) → finite.get (journeys_of (rows_of world).trips) order ≡ Some row → IsName order × IsJourneyValue row
+    (seats : ℕ) (world : World) → IsLawful seats world → (order : List ℕ) (row : JourneyRow) → finite.get (journeys_of (maps_of world).trips) order ≡ Some row → IsName order × IsJourneyValue row
 
 abbrev pub ActsHaveValues : Type 0
-ActsHaveValues = (seats : ℕ) (world : World) → IsLawful seats world → (key : ActKey) (row : ActRow) → finite.get (rows_of_trips.acts_of (rows_of world).trips) key ≡ Some row → IsActKey key × IsActValue row
+ActsHaveValues = (seats : ℕ) (world : World) → IsLawful seats world → (key : ActKey) (row : ActRow) → finite.get (rows_of_trips.acts_of (maps_of world).trips) key ≡ Some row → IsActKey key × IsActValue row
 
 abbrev pub JourneysAreOfTrips : Type 0
 JourneysAreOfTrips = (trips : finite.FinMap name_cmp TripRow) (order : List ℕ) → finite.get (journeys_of trips) order ≡ option_map journey_of (finite.get trips order)
@@ -184,9 +184,9 @@ abbrev pub ActsAreOfTrips : Type 0
 ActsAreOfTrips =
     (trips : finite.FinMap name_cmp TripRow) (key : ActKey) → finite.get (rows_of_trips.acts_of trips) key ≡ option_and_then (λ trip. option_map act_row (slice_get trip.acts key.n)) (finite.get trips key.order)
 
-pub values_by : JourneysHaveValues → ActsHaveValues → JourneysAreOfTrips → ActsAreOfTrips → (world : World) → IsLawful 1 world → HaveValues (rows_of world).trips
+pub values_by : JourneysHaveValues → ActsHaveValues → JourneysAreOfTrips → ActsAreOfTrips → (world : World) → IsLawful 1 world → HaveValues (maps_of world).trips
 values_by journeys acts journeys_of_trips acts_of_trips world lawful =
-    let trips = (rows_of world).trips in
+    let trips = (maps_of world).trips in
     record {
       journeys = λ order trip at. journeys 1 world lawful order (journey_of trip) (journeys_of_trips trips order ∙ ap (option_map journey_of) at);
       acts = λ order trip k act at is.

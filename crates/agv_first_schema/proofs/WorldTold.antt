@@ -16,14 +16,14 @@ use Rattle.agv_world.specs.ConsistentTrips.{HasConsistentTrips}
 use Rattle.agv_world.specs.Kept.{Keeps}
 use Rattle.agv_world.specs.KeyOrders.{leg_cmp-IsAntisymmetric, leg_cmp-total, use_cmp-IsAntisymmetric, use_cmp-total}
 use Rattle.agv_world.specs.Lawful.{IsLawful}
-use Rattle.agv_world.specs.Rows.{rows_of}
+use Rattle.agv_world.specs.Maps.{maps_of}
 use Rattle.agv_world.specs.Worlds.{World}
 use Rattle.agv_world.specs.declared.row.JobRow.{JobRow}
 use Rattle.agv_world.specs.declared.world.World.{World as Tables}
 use Rattle.agv_rows.specs.Columns.{edge_columns, edge_in, hold_columns, hold_in, job_columns, job_in, leg_columns, leg_in, load_columns, load_in, meta_columns, meta_in, node_columns, node_in, station_columns, station_in, used_columns, used_in, vehicle_columns, vehicle_in}
 use Rattle.agv_rows.specs.DecodedTrips.{tables_of}
 use Rattle.agv_schema.specs.DeskRows.{place_of, table_at}
-use Rattle.agv_rows.specs.RowLists.{AreAlike, row_if, rows_for, rows_in}
+use Rattle.agv_rows.specs.Rows.{AreAlike, row_if, rows_for, rows_in}
 use Rattle.agv_row_reading.specs.ReadTables.{read_rows}
 use Rattle.agv_schema.specs.SchemaNumbers.{desk_seats}
 use Rattle.agv_schema.specs.declared.table_name.TableName.{TableName}
@@ -119,42 +119,42 @@ one_row (row ∷ (other ∷ rows)) is = absurd (cc is)
 
 -- ---- the lists of a lawful world tell its tables
 
-module _ (world : World) (first : IsLawful 1 world) (good : HasConsistentTrips world) (single : CarriesOneEach (rows_of world)) (values : HaveValues (rows_of world).trips)
-    (lists : List (List Row)) (alike : AreAlike (first_lists (rows_of world)) lists) where
+module _ (world : World) (first : IsLawful 1 world) (good : HasConsistentTrips world) (single : CarriesOneEach (maps_of world)) (values : HaveValues (maps_of world).trips)
+    (lists : List (List Row)) (alike : AreAlike (first_lists (maps_of world)) lists) where
   lawful : IsLawful desk_seats world
   lawful = more_seats world first
 
-  shown : (name : TableName) → IsPermutation (table_at (place_of name) (first_lists (rows_of world))) (table_at (place_of name) lists)
-  shown name = same_at (place_of name) (first_lists (rows_of world)) lists alike
+  shown : (name : TableName) → IsPermutation (table_at (place_of name) (first_lists (maps_of world))) (table_at (place_of name) lists)
+  shown name = same_at (place_of name) (first_lists (maps_of world)) lists alike
 
-  told_tables : TellTables lists (tables_of (rows_of world))
+  told_tables : TellTables lists (tables_of (maps_of world))
   unfolding first_lists
   told_tables = record {
     nodes = reads_members nat_list_cmp_total names_apart node_columns node_in world.layout.nodes (λ id there. name_kept id (node_named world lawful id there)) _ (shown the.Node);
     edges = reads_all nat_list_cmp_total names_apart world.layout.edges edge_columns edge_in (λ id x at. edge_kept id x (edge_named world lawful id x at) (ends_value world lawful id x at)) _ (shown the.Edge);
     stations = reads_all nat_list_cmp_total names_apart world.layout.stations station_columns station_in (λ id x at. station_kept id x (station_named world lawful id x at) (site_value world lawful id x at)) _ (shown the.Station);
-    vehicles = reads_all key_cmp-total key_cmp-IsAntisymmetric (rows_of world).vehicles vehicle_columns vehicle_in
+    vehicles = reads_all key_cmp-total key_cmp-IsAntisymmetric (maps_of world).vehicles vehicle_columns vehicle_in
         (λ key row at.
         let its = vehicle_value world lawful key row (sym (row_at world key) ∙ at) in
         vehicle_kept key row its.0 its.1 ∙ ap (λ n. Some (key, record row { capacity = n })) (sym (single.vehicles key row at))) _ (shown the.Vehicle);
     jobs = reads_all nat_list_cmp_total names_apart world.jobs job_columns job_in (λ id x at. job_kept id x (first.names.jobs_named id x at) (job_value world lawful id x at)) _ (shown the.Job);
-    trips = reads_trips (rows_of world) single values _ (shown the.Trip);
-    legs = reads_all leg_cmp-total leg_cmp-IsAntisymmetric (rows_of world).legs leg_columns leg_in (λ key id at. let its = leg_value world lawful good key id at in leg_kept key id its.0 its.1) _ (shown the.Leg);
+    trips = reads_trips (maps_of world) single values _ (shown the.Trip);
+    legs = reads_all leg_cmp-total leg_cmp-IsAntisymmetric (maps_of world).legs leg_columns leg_in (λ key id at. let its = leg_value world lawful good key id at in leg_kept key id its.0 its.1) _ (shown the.Leg);
     loads = reads_all nat_list_cmp_total names_apart world.places load_columns load_in (λ id x at. load_kept id x (first.names.loads_named id x at) (place_value world lawful id x at)) _ (shown the.Load);
-    used = reads_members use_cmp-total use_cmp-IsAntisymmetric used_columns used_in (rows_of world).used (λ key there. used_kept key (used_named world lawful key.kind key.name (sym (used_is world key.kind key.name) ∙ there))) _ (shown the.Used);
+    used = reads_members use_cmp-total use_cmp-IsAntisymmetric used_columns used_in (maps_of world).used (λ key there. used_kept key (used_named world lawful key.kind key.name (sym (used_is world key.kind key.name) ∙ there))) _ (shown the.Used);
   }
 
-  pub world_told : TellFirst lists (tables_of (rows_of world)) (rows_of world).holds
+  pub world_told : TellFirst lists (tables_of (maps_of world)) (maps_of world).holds
   unfolding first_lists
   world_told = record {
     meta = has_one _ (shown the.Meta);
     tables_are = told_tables;
-    holds = reads_all thing_cmp-total thing_cmp-IsAntisymmetric (rows_of world).holds hold_columns hold_in (λ thing key at. hold_kept thing key (held_value world lawful good thing key at) (holder_value world lawful thing key at)) _ (shown the.Hold);
+    holds = reads_all thing_cmp-total thing_cmp-IsAntisymmetric (maps_of world).holds hold_columns hold_in (λ thing key at. hold_kept thing key (held_value world lawful good thing key at) (holder_value world lawful thing key at)) _ (shown the.Hold);
   }
 
 -- ---- lists tell one world's tables alone
 
-pub one_told : (lists : List (List Row)) (tables : Tables) (held : Holders) (world : World) → TellFirst lists tables held → TellFirst lists (tables_of (rows_of world)) (rows_of world).holds → Keeps tables world × (held ≡ (rows_of world).holds)
+pub one_told : (lists : List (List Row)) (tables : Tables) (held : Holders) (world : World) → TellFirst lists tables held → TellFirst lists (tables_of (maps_of world)) (maps_of world).holds → Keeps tables world × (held ≡ (maps_of world).holds)
 one_told lists tables held world tell again =
     let these = tell.tables_are in
     let those = again.tables_are in
@@ -175,14 +175,14 @@ one_told lists tables held world tell again =
 
 -- ---- lists that tell tables have their rows
 
-pub rows_told : (lists : List (List Row)) (tables : Tables) (held : Holders) (world : World) → length lists ≡ 11 → TellFirst lists tables held → Keeps tables world → held ≡ (rows_of world).holds
-    → AreAlike lists (first_lists (rows_of world))
+pub rows_told : (lists : List (List Row)) (tables : Tables) (held : Holders) (world : World) → length lists ≡ 11 → TellFirst lists tables held → Keeps tables world → held ≡ (maps_of world).holds
+    → AreAlike lists (first_lists (maps_of world))
 unfolding first_lists
 rows_told lists tables held world as_many tell keeps are =
     let these = tell.tables_are in
     let at : TableName → List Row = λ name. table_at (place_of name) lists in
     let same : (rows : List Row) → IsPermutation rows rows = λ rows. IsPermutation-refl rows in
-    all_alike lists (first_lists (rows_of world)) as_many (
+    all_alike lists (first_lists (maps_of world)) as_many (
       one_row (at the.Meta) tell.meta,
       (
         subst (λ t. IsPermutation (at the.Node) (rows_for node_columns t)) keeps.nodes (shows_members nat_list_cmp_total names_apart node_columns node_in node_written _ (at the.Node) (Ok tables.nodes) these.nodes (same _)),

@@ -8,12 +8,12 @@ use Rattle.sqlite_schema.specs.declared.schema.Table.{Table}
 use Rattle.sqlite.specs.Effect.{Database}
 use Rattle.agv_header.specs.Name.{name_cmp}
 use Rattle.agv_world.specs.Lawful.{IsLawful}
-use Rattle.agv_world.specs.Rows.{Rows, rows_of}
+use Rattle.agv_world.specs.Maps.{Maps, maps_of}
 use Rattle.agv_world.specs.Worlds.{World}
 use Rattle.agv_world.specs.declared.row.TripRow.{TripRow}
 use Rattle.agv_rows.specs.Columns.{meta_columns, node_columns, edge_columns, station_columns, vehicle_columns, leg_columns, load_columns, job_columns, hold_columns, used_columns}
 use Rattle.agv_schema.specs.DeskRows.{Placing, HaveRows, TableStands, width_of}
-use Rattle.agv_rows.specs.RowLists.{row_if, rows_for, rows_in}
+use Rattle.agv_rows.specs.Rows.{row_if, rows_for, rows_in}
 use Rattle.agv_schema.specs.declared.table_name.TableName.{TableName}
 use Rattle.agv_schema.specs.declared.table_name.TableName.TheVariants as the
 use Rattle.agv_first_schema.specs.FirstColumns.{trip_columns}
@@ -54,19 +54,19 @@ abbrev pub trip_rows : finite.FinMap name_cmp TripRow → List Row
 trip_rows trips = flat_map (λ (entry : List ℕ × TripRow). row_if trip_columns (line_of entry.0 entry.1)) (finite.entries trips)
 
 -- the rows of a world, table by table
-unfoldable pub first_lists : Rows → List (List Row)
-first_lists rows =
+unfoldable pub first_lists : Maps → List (List Row)
+first_lists maps =
     (meta_columns 1 first_schema ∷ [])
-    ∷ rows_for node_columns rows.nodes
-    ∷ rows_in edge_columns rows.edges
-    ∷ rows_in station_columns rows.stations
-    ∷ rows_in vehicle_columns rows.vehicles
-    ∷ trip_rows rows.trips
-    ∷ rows_in leg_columns rows.legs
-    ∷ rows_in load_columns rows.loads
-    ∷ rows_in job_columns rows.jobs
-    ∷ rows_in hold_columns rows.holds
-    ∷ rows_for used_columns rows.used ∷ []
+    ∷ rows_for node_columns maps.nodes
+    ∷ rows_in edge_columns maps.edges
+    ∷ rows_in station_columns maps.stations
+    ∷ rows_in vehicle_columns maps.vehicles
+    ∷ trip_rows maps.trips
+    ∷ rows_in leg_columns maps.legs
+    ∷ rows_in load_columns maps.loads
+    ∷ rows_in job_columns maps.jobs
+    ∷ rows_in hold_columns maps.holds
+    ∷ rows_for used_columns maps.used ∷ []
 
 -- ---- a database
 
@@ -74,7 +74,7 @@ first_lists rows =
 pub record HasFirstWorld (desk : Placing) (db : Database) (world : World) : Type 0 where
   pub stands : IsFirstDesk desk
   pub lawful : IsLawful 1 world
-  pub rows : FirstHolds desk db (first_lists (rows_of world))
+  pub rows : FirstHolds desk db (first_lists (maps_of world))
 
 -- the database has the rows of no such world
 abbrev pub HasNoFirstWorld : Database → Type 0

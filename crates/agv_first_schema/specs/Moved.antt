@@ -21,7 +21,7 @@ use Rattle.agv_first_schema.specs.FirstRows.{HasFirstWorld, is_first}
 use Rattle.agv_row_reading.specs.WorldAnswers.{HasWorld}
 use Rattle.agv_rows.specs.Columns.{journey_columns, meta_columns, vehicle_capacity_columns}
 use Rattle.agv_schema.specs.DeskRows.{Placing, is_unreferred, on_table, place_of, table_for, with_row, with_rows}
-use Rattle.agv_rows.specs.RowLists.{rows_of_acts}
+use Rattle.agv_rows.specs.Rows.{rows_of_acts}
 use Rattle.agv_creation.specs.DeskSchema.{with_new_table}
 use Rattle.agv_schema.specs.Schema.{desk_tables}
 use Rattle.agv_schema.specs.SchemaNumbers.{schema_number}

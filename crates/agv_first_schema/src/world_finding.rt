@@ -3,7 +3,7 @@ ghost use Rattle.std.specs.Prelude.{◌≡◌, ◌↔◌, IfOk, IsTrue};
 ghost use Rattle.agv_first_schema.specs.FirstFound.{FindsFirst};
 ghost use Rattle.agv_world.specs.Kept.{Keeps};
 ghost use Rattle.agv_world.specs.Lawful.{IsLawful};
-ghost use Rattle.agv_world.specs.Rows.{rows_of};
+ghost use Rattle.agv_world.specs.Maps.{maps_of};
 ghost use Rattle.agv_world.specs.Worlds.{World as WorldOf};
 
 use crate::first_laws::first_rows_tell_their_world;
@@ -43,7 +43,7 @@ pub fn find_first_world<S: Alter>(
 
 // Whether these are the tables of a lawful world with one place on each vehicle, and what is held is what its vehicles hold.
 fn are_of_a_first_world(alloc: Global, tables: &World, held: &HeldThings) -> Result<bool, Memory>
-    ensures { IfOk result (λ are. IsTrue are ↔ ((world : WorldOf) × Keeps tables.now world × IsLawful 1 world × (held.now.table ≡ (rows_of world).holds))) }
+    ensures { IfOk result (λ are. IsTrue are ↔ ((world : WorldOf) × Keeps tables.now world × IsLawful 1 world × (held.now.table ≡ (maps_of world).holds))) }
 {
     Ok(tables.is_lawful(alloc, 1)? && held.are_footprints(alloc, tables)?)
 }

@@ -9,7 +9,7 @@ use Rattle.agv_stock.specs.Rooms.{is_at, is_on}
 use Rattle.agv_stock.specs.declared.place.Place.{Place}
 use Rattle.agv_stock.specs.declared.place.Place.TheVariants as place
 use Rattle.agv_trip_rows.specs.TripRows.{is_of}
-use Rattle.agv_world.specs.Rows.{Rows}
+use Rattle.agv_world.specs.Maps.{Maps}
 use Rattle.agv_world.specs.Told.{is_of_order}
 use Rattle.agv_world.specs.declared.row.JobRow.{JobRow}
 use Rattle.agv_queries.specs.QueriedRows.{ShowAsked, is_in_phase, name_and_phase}
@@ -18,7 +18,7 @@ use Rattle.agv_rows.specs.Columns.{load_columns}
 use Rattle.agv_rows.specs.DecodedTrips.{is_driven_by}
 use Rattle.agv_schema.specs.DeskRows.{is_equal}
 use Rattle.agv_rows.specs.RowKeys.{name_key, vehicle_key}
-use Rattle.agv_rows.specs.RowLists.{TellRows}
+use Rattle.agv_rows.specs.Rows.{TellRows}
 use Rattle.agv_statements.specs.CountQueries.{columns_counted}
 use Rattle.agv_statements.specs.RowQueries.{columns_asked, equal_from}
 use Rattle.agv_schema.specs.declared.rows_by.RowsBy.TheVariants as by
@@ -53,9 +53,9 @@ load_on key id (place.Vehicle other) = two_texts other.manufacturer other.serial
 load_on key id place.Checking = null_fails key.manufacturer _
 load_on key id place.Left = null_fails key.manufacturer _
 
-pub shown_asked : (lists : List (List Row)) (rows : Rows) → TellRows lists rows → ShowAsked lists rows
-shown_asked lists rows told =
-    let all = all_shown lists rows told in
+pub shown_asked : (lists : List (List Row)) (maps : Maps) → TellRows lists maps → ShowAsked lists maps
+shown_asked lists maps told =
+    let all = all_shown lists maps told in
     record {
       journey = λ key. all.journeys (equal_from 0 (columns_asked by.VehicleJourney) (vehicle_key key)) (is_driven_by key)
           (λ order journey. two_texts journey.vehicle.manufacturer journey.vehicle.serial key.manufacturer key.serial);

@@ -11,14 +11,14 @@ use Rattle.agv_stock.specs.declared.job.Phase.{Phase}
 use Rattle.agv_stock.specs.declared.job.Phase.TheVariants as phase
 use Rattle.agv_world.specs.Lawful.{IsLawful}
 use Rattle.agv_world.specs.Questions.{is_live_for, is_live_to, job_of, reserved}
-use Rattle.agv_world.specs.Rows.{rows_of}
+use Rattle.agv_world.specs.Maps.{maps_of}
 use Rattle.agv_world.specs.Worlds.{World}
 use Rattle.agv_world.specs.declared.row.JobRow.{JobRow}
 use Rattle.agv_queries.specs.QueriedRows.{is_in_phase, name_and_phase}
 use Rattle.agv_rows.specs.ValueEncodings.{phase_name}
 use Rattle.agv_rows.specs.Columns.{job_columns, job_in}
 use Rattle.agv_row_reading.specs.FirstRow.{first_key_in, key_of}
-use Rattle.agv_rows.specs.RowLists.{TellRows, row_if, row_lists}
+use Rattle.agv_rows.specs.Rows.{TellRows, row_if, rows_of}
 use Rattle.agv_statements.specs.CountQueries.{rows_counted}
 use Rattle.agv_statements.specs.RowQueries.{rows_asked}
 use Rattle.agv_schema.specs.SchemaNumbers.{desk_seats}
@@ -89,9 +89,9 @@ first_key told f (Some e) back = ap key_of (back e refl)
 
 module _ (world : World) (lawful : IsLawful desk_seats world) where
   abbrev lists : List (List Row)
-  lists = row_lists (rows_of world)
+  lists = rows_of world
 
-  its_own : TellRows lists (rows_of world)
+  its_own : TellRows lists (maps_of world)
   its_own = alike_itself lists
 
   -- ---- jobs to a station
@@ -100,7 +100,7 @@ module _ (world : World) (lawful : IsLawful desk_seats world) where
       → length (rows_counted counted.TargetJobs values lists) ≡ count_by (is_to station one) (finite.entries world.jobs)
   counts_jobs_to station one values is =
       ap (λ v. length (rows_counted counted.TargetJobs v lists)) is
-      ∙ as_many (λ (job : List ℕ × JobRow). job_columns job.0 job.1) (is_to station one) (finite.entries world.jobs) _ ((shown_asked lists (rows_of world) its_own).jobs_to station one)
+      ∙ as_many (λ (job : List ℕ × JobRow). job_columns job.0 job.1) (is_to station one) (finite.entries world.jobs) _ ((shown_asked lists (maps_of world) its_own).jobs_to station one)
 
   pub counts_reserved : (station : List ℕ) → reserved world station ≡ count_by (is_to station phase.Waiting) (finite.entries world.jobs) + count_by (is_to station phase.Riding) (finite.entries world.jobs)
   unfolding reserved
@@ -141,7 +141,7 @@ module _ (world : World) (lawful : IsLawful desk_seats world) where
   tells_job_in load one live values is rows shown r given =
       let columns : List ℕ × JobRow → Row = λ job. job_columns job.0 job.1 in
       let es = finite.entries world.jobs in
-      let perm = again ((shown_asked lists (rows_of world) its_own).jobs_of load one) (subst (λ v. IsPermutation (rows_asked by.LoadJobs v lists) rows) is shown) in
+      let perm = again ((shown_asked lists (maps_of world) its_own).jobs_of load one) (subst (λ v. IsPermutation (rows_asked by.LoadJobs v lists) rows) is shown) in
       let few = ap (map columns) (one_passes nat_list_cmp_total world.jobs (is_for load one) (unique load (is_for load one) (live_one load one live))) ∙ rows_if columns (find (is_for load one) es) in
       let alone = only columns (find (is_for load one) es) rows (subst (λ l. IsPermutation l rows) few perm) in
       let so : r ≡ Ok (option_map (λ (e : List ℕ × JobRow). e.0) (find (is_for load one) es)) =

@@ -15,7 +15,7 @@ use Rattle.agv_layout.specs.declared.station.StationSite.{StationSite}
 use Rattle.agv_stock.specs.declared.place.Place.{Place}
 use Rattle.agv_world.specs.Lawful.{IsLawful}
 use Rattle.agv_world.specs.Questions.{holder_of, is_used, row_of}
-use Rattle.agv_world.specs.Rows.{rows_of}
+use Rattle.agv_world.specs.Maps.{maps_of}
 use Rattle.agv_world.specs.Worlds.{World}
 use Rattle.agv_world.specs.declared.key.UseKey.{UseKey}
 use Rattle.agv_world.specs.declared.row.JobRow.{JobRow}
@@ -24,7 +24,7 @@ use Rattle.agv_rows.specs.Columns.{capacity_in, edge_columns, edge_in, hold_colu
 use Rattle.agv_schema.specs.DeskRows.{rows_of_key, table_for}
 use Rattle.agv_row_reading.specs.FirstRow.{first_in, value_of}
 use Rattle.agv_rows.specs.RowKeys.{hold_key, name_key, vehicle_key}
-use Rattle.agv_rows.specs.RowLists.{TellRows, row_if, row_lists}
+use Rattle.agv_rows.specs.Rows.{TellRows, row_if, rows_of}
 use Rattle.agv_statements.specs.RowQueries.{FitsColumns}
 use Rattle.agv_schema.specs.SchemaNumbers.{desk_seats}
 use Rattle.agv_rows.specs.TypedRows.{IsThing}
@@ -109,61 +109,61 @@ fits_hold (thing.Edge id) = refl
 
 module _ (world : World) (lawful : IsLawful desk_seats world) where
   abbrev lists : List (List Row)
-  lists = row_lists (rows_of world)
+  lists = rows_of world
 
-  its_own : TellRows lists (rows_of world)
+  its_own : TellRows lists (maps_of world)
   its_own = alike_itself lists
 
   pub tells_place : (id : List ℕ) (key : Row) → key ≡ name_key id → (rows : List Row) → IsPermutation (rows_of_key the.Load key lists) rows
       → (r : Result (Option Place) OpenFault) → r ≡ first_in load_in rows → Follows r (λ where_is. where_is ≡ finite.get world.places id)
   tells_place id key is rows shown =
       tells_it load_in (load_columns id) id (finite.get world.places id) (λ where_is at. load_kept id where_is (lawful.names.loads_named id where_is at) (place_value world lawful id where_is at))
-      (rows_of_key the.Load key lists) rows (ap (λ k. rows_of_key the.Load k lists) is ∙ load_shown lists (rows_of world) its_own id) shown
+      (rows_of_key the.Load key lists) rows (ap (λ k. rows_of_key the.Load k lists) is ∙ load_shown lists (maps_of world) its_own id) shown
 
   pub tells_job : (id : List ℕ) (key : Row) → key ≡ name_key id → (rows : List Row) → IsPermutation (rows_of_key the.Job key lists) rows
       → (r : Result (Option JobRow) OpenFault) → r ≡ first_in job_in rows → Follows r (λ job. job ≡ finite.get world.jobs id)
   tells_job id key is rows shown =
       tells_it job_in (job_columns id) id (finite.get world.jobs id) (λ job at. job_kept id job (lawful.names.jobs_named id job at) (job_value world lawful id job at))
-      (rows_of_key the.Job key lists) rows (ap (λ k. rows_of_key the.Job k lists) is ∙ job_shown lists (rows_of world) its_own id) shown
+      (rows_of_key the.Job key lists) rows (ap (λ k. rows_of_key the.Job k lists) is ∙ job_shown lists (maps_of world) its_own id) shown
 
   pub tells_station : (id : List ℕ) (key : Row) → key ≡ name_key id → (rows : List Row) → IsPermutation (rows_of_key the.Station key lists) rows
       → (r : Result (Option StationSite) OpenFault) → r ≡ first_in station_in rows → Follows r (λ site. site ≡ finite.get world.layout.stations id)
   tells_station id key is rows shown =
       tells_it station_in (station_columns id) id (finite.get world.layout.stations id) (λ site at. station_kept id site (station_named world lawful id site at) (site_value world lawful id site at))
-      (rows_of_key the.Station key lists) rows (ap (λ k. rows_of_key the.Station k lists) is ∙ station_shown lists (rows_of world) its_own id) shown
+      (rows_of_key the.Station key lists) rows (ap (λ k. rows_of_key the.Station k lists) is ∙ station_shown lists (maps_of world) its_own id) shown
 
   pub tells_ends : (id : List ℕ) (key : Row) → key ≡ name_key id → (rows : List Row) → IsPermutation (rows_of_key the.Edge key lists) rows
       → (r : Result (Option EdgeEnds) OpenFault) → r ≡ first_in edge_in rows → Follows r (λ ends. ends ≡ finite.get world.layout.edges id)
   tells_ends id key is rows shown =
       tells_it edge_in (edge_columns id) id (finite.get world.layout.edges id) (λ ends at. edge_kept id ends (edge_named world lawful id ends at) (ends_value world lawful id ends at))
-      (rows_of_key the.Edge key lists) rows (ap (λ k. rows_of_key the.Edge k lists) is ∙ edge_shown lists (rows_of world) its_own id) shown
+      (rows_of_key the.Edge key lists) rows (ap (λ k. rows_of_key the.Edge k lists) is ∙ edge_shown lists (maps_of world) its_own id) shown
 
   -- its row, as if its capacity was 1
   pub tells_vehicle : (id : VehicleKey) (key : Row) → key ≡ vehicle_key id → (rows : List Row) → IsPermutation (rows_of_key the.Vehicle key lists) rows
       → (r : Result (Option VehicleRow) OpenFault) → r ≡ first_in vehicle_in rows → Follows r (λ row. row ≡ option_map single (row_of world id))
   tells_vehicle id key is rows shown =
       tells_part vehicle_in (vehicle_columns id) id single (row_of world id) (λ row at. let its = vehicle_value world lawful id row at in vehicle_kept id row its.0 its.1)
-      (rows_of_key the.Vehicle key lists) rows (ap (λ k. rows_of_key the.Vehicle k lists) is ∙ vehicle_shown lists (rows_of world) its_own id ∙ ap (row_if (vehicle_columns id)) (row_at world id)) shown
+      (rows_of_key the.Vehicle key lists) rows (ap (λ k. rows_of_key the.Vehicle k lists) is ∙ vehicle_shown lists (maps_of world) its_own id ∙ ap (row_if (vehicle_columns id)) (row_at world id)) shown
 
   -- its capacity
   pub tells_capacity : (id : VehicleKey) (key : Row) → key ≡ vehicle_key id → (rows : List Row) → IsPermutation (rows_of_key the.Capacity key lists) rows
       → (r : Result (Option CapacityRow) OpenFault) → r ≡ first_in capacity_in rows → Follows r (λ room. room ≡ option_map capacity_row_of (row_of world id))
   tells_capacity id key is rows shown =
       tells_part capacity_in (vehicle_capacity_columns id) id capacity_row_of (row_of world id) (λ row at. let its = vehicle_value world lawful id row at in capacity_kept id (capacity_row_of row) its.0 its.1.capacity)
-      (rows_of_key the.Capacity key lists) rows (ap (λ k. rows_of_key the.Capacity k lists) is ∙ capacity_shown lists (rows_of world) its_own id ∙ ap (row_if (vehicle_capacity_columns id)) (row_at world id)) shown
+      (rows_of_key the.Capacity key lists) rows (ap (λ k. rows_of_key the.Capacity k lists) is ∙ capacity_shown lists (maps_of world) its_own id ∙ ap (row_if (vehicle_capacity_columns id)) (row_at world id)) shown
 
   pub tells_holder : (thing : Thing) → IsThing thing → (key : Row) → key ≡ hold_key thing → (rows : List Row) → IsPermutation (rows_of_key the.Hold key lists) rows
       → (r : Result (Option VehicleKey) OpenFault) → r ≡ first_in hold_in rows → Follows r (λ holder. holder ≡ holder_of world thing)
   unfolding holder_of
   tells_holder thing named key is rows shown =
-      tells_it hold_in (hold_columns thing) thing (finite.get (rows_of world).holds thing) (λ holder at. hold_kept thing holder named (holder_value world lawful thing holder at))
-      (rows_of_key the.Hold key lists) rows (ap (λ k. rows_of_key the.Hold k lists) is ∙ hold_shown lists (rows_of world) its_own thing) shown
+      tells_it hold_in (hold_columns thing) thing (finite.get (maps_of world).holds thing) (λ holder at. hold_kept thing holder named (holder_value world lawful thing holder at))
+      (rows_of_key the.Hold key lists) rows (ap (λ k. rows_of_key the.Hold k lists) is ∙ hold_shown lists (maps_of world) its_own thing) shown
 
   pub tells_node : (id : List ℕ) (key : Row) → key ≡ name_key id → (rows : List Row) → IsPermutation (rows_of_key the.Node key lists) rows → not (length rows == 0) ≡ set.contains world.layout.nodes id
   tells_node id key is rows shown =
-      tested rows (node_columns id) (set.contains world.layout.nodes id) (subst (λ a. IsPermutation a rows) (ap (λ k. rows_of_key the.Node k lists) is ∙ node_shown lists (rows_of world) its_own id) shown)
+      tested rows (node_columns id) (set.contains world.layout.nodes id) (subst (λ a. IsPermutation a rows) (ap (λ k. rows_of_key the.Node k lists) is ∙ node_shown lists (maps_of world) its_own id) shown)
 
   pub tells_used : (id : UseKey) (key : Row) → key ≡ used_columns id → (rows : List Row) → IsPermutation (rows_of_key the.Used key lists) rows → not (length rows == 0) ≡ is_used world id.kind id.name
   tells_used id key is rows shown =
-      tested rows (used_columns id) (set.contains (rows_of world).used id) (subst (λ a. IsPermutation a rows) (ap (λ k. rows_of_key the.Used k lists) is ∙ used_shown lists (rows_of world) its_own id) shown)
+      tested rows (used_columns id) (set.contains (maps_of world).used id) (subst (λ a. IsPermutation a rows) (ap (λ k. rows_of_key the.Used k lists) is ∙ used_shown lists (maps_of world) its_own id) shown)
       ∙ used_is world id.kind id.name

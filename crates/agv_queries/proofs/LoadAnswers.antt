@@ -12,12 +12,12 @@ use Rattle.agv_stock.specs.Rooms.{is_at, is_on, room_left}
 use Rattle.agv_stock.specs.declared.place.Place.{Place}
 use Rattle.agv_world.specs.Lawful.{IsLawful}
 use Rattle.agv_world.specs.Questions.{loads_at, loads_on, reserved, room_at}
-use Rattle.agv_world.specs.Rows.{rows_of}
+use Rattle.agv_world.specs.Maps.{maps_of}
 use Rattle.agv_world.specs.Worlds.{World}
 use Rattle.agv_queries.specs.QueriedRows.{loads_shown}
 use Rattle.agv_rows.specs.Columns.{load_columns}
 use Rattle.agv_rows.specs.RowKeys.{name_key, vehicle_key}
-use Rattle.agv_rows.specs.RowLists.{TellRows, row_lists}
+use Rattle.agv_rows.specs.Rows.{TellRows, rows_of}
 use Rattle.agv_statements.specs.CountQueries.{rows_counted}
 use Rattle.agv_statements.specs.RowQueries.{rows_asked}
 use Rattle.agv_schema.specs.SchemaNumbers.{desk_seats}
@@ -35,9 +35,9 @@ again one two = IsPermutation-trans _ _ _ (IsPermutation-sym _ _ one) two
 
 module _ (world : World) (lawful : IsLawful desk_seats world) where
   abbrev lists : List (List Row)
-  lists = row_lists (rows_of world)
+  lists = rows_of world
 
-  its_own : TellRows lists (rows_of world)
+  its_own : TellRows lists (maps_of world)
   its_own = alike_itself lists
 
   -- ---- loads
@@ -46,11 +46,11 @@ module _ (world : World) (lawful : IsLawful desk_seats world) where
   unfolding loads_on
   counts_loads_on key values is =
       ap (λ v. length (rows_counted counted.VehicleLoads v lists)) is
-      ∙ as_many (λ (load : List ℕ × Place). load_columns load.0 load.1) (λ load. is_on key load.1) (finite.entries world.places) _ ((shown_asked lists (rows_of world) its_own).loads_on key)
+      ∙ as_many (λ (load : List ℕ × Place). load_columns load.0 load.1) (λ load. is_on key load.1) (finite.entries world.places) _ ((shown_asked lists (maps_of world) its_own).loads_on key)
 
   pub shows_loads_at : (station : List ℕ) (values : Row) → values ≡ name_key station → (rows : List Row) → IsPermutation (rows_asked by.StationLoads values lists) rows
       → IsPermutation (loads_shown (filter (λ (load : List ℕ × Place). is_at station load.1) (finite.entries world.places))) rows
-  shows_loads_at station values is rows shown = again ((shown_asked lists (rows_of world) its_own).loads_at station) (subst (λ v. IsPermutation (rows_asked by.StationLoads v lists) rows) is shown)
+  shows_loads_at station values is rows shown = again ((shown_asked lists (maps_of world) its_own).loads_at station) (subst (λ v. IsPermutation (rows_asked by.StationLoads v lists) rows) is shown)
 
   pub counts_loads_at : (station : List ℕ) (values : Row) → values ≡ name_key station → length (rows_counted counted.StationLoads values lists) ≡ length (loads_at world station)
   unfolding loads_at

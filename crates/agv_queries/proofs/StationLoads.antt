@@ -15,13 +15,11 @@ use Rattle.agv_stock.specs.Rooms.{is_at}
 use Rattle.agv_stock.specs.declared.place.Place.{Place}
 use Rattle.agv_world.specs.Lawful.{IsLawful}
 use Rattle.agv_world.specs.Questions.{loads_at}
-use Rattle.agv_world.specs.Rows.{rows_of}
 use Rattle.agv_world.specs.Worlds.{World}
 use Rattle.agv_queries.specs.QueriedRows.{loads_shown}
 use Rattle.agv_rows.specs.Columns.{load_columns, load_in}
 use Rattle.agv_row_reading.specs.ReadTables.{Reads, read_rows}
 use Rattle.agv_rows.specs.RowKeys.{name_key}
-use Rattle.agv_rows.specs.RowLists.{row_lists}
 use Rattle.agv_statements.specs.RowQueries.{rows_asked}
 use Rattle.agv_schema.specs.SchemaNumbers.{desk_seats}
 use Rattle.agv_row_reading.specs.declared.open_fault.OpenFault.{OpenFault}
@@ -30,6 +28,7 @@ use Rattle.agv_row_reading.proofs.Asking.{Follows}
 use Rattle.agv_rows.proofs.ColumnsKept.{load_kept}
 use Rattle.agv_rows.proofs.LawfulValues.{place_value}
 use Rattle.agv_rows.proofs.KeyTests.{names_apart}
+use Rattle.agv_rows.specs.Rows.{rows_of}
 use Rattle.agv_queries.proofs.LoadAnswers.{shows_loads_at}
 use Rattle.agv_schema.proofs.MapEntries.{left, right}
 use Rattle.agv_schema.proofs.SpreadRows.{entries_found}
@@ -101,7 +100,7 @@ module _ (world : World) (lawful : IsLawful desk_seats world) (station : List �
   unfolding loads_at
   names_there = ap keys_of (entries-passing is_there world.places)
 
-  module _ (values : Row) (is : values ≡ name_key station) (rows : List Row) (shown : IsPermutation (rows_asked by.StationLoads values (row_lists (rows_of world))) rows) where
+  module _ (values : Row) (is : values ≡ name_key station) (rows : List Row) (shown : IsPermutation (rows_asked by.StationLoads values (rows_of world)) rows) where
     given : read_rows load_in finite.empty rows ≡ Some loads_there
     given = reads_there rows (shows_loads_at world lawful station values is rows shown)
 

@@ -25,7 +25,7 @@ use Rattle.agv_world.specs.ConsistentTrips.{HasConsistentTrips}
 use Rattle.agv_world.specs.KeyOrders.{leg_cmp-IsAntisymmetric, leg_cmp-total}
 use Rattle.agv_world.specs.Keys.{leg_cmp}
 use Rattle.agv_world.specs.Lawful.{IsLawful}
-use Rattle.agv_world.specs.Rows.{rows_of}
+use Rattle.agv_world.specs.Maps.{maps_of}
 use Rattle.agv_world.specs.Told.{edge_named, edges_of, is_of_order, trip_in}
 use Rattle.agv_world.specs.Worlds.{World}
 use Rattle.agv_world.specs.declared.key.LegKey.{LegKey}
@@ -36,7 +36,7 @@ use Rattle.agv_rows.specs.Columns.{act_columns, act_in, journey_columns, journey
 use Rattle.agv_row_reading.specs.FirstRow.{first_whole_in, whole_of}
 use Rattle.agv_row_reading.specs.ReadTables.{Reads, read_rows}
 use Rattle.agv_rows.specs.RowKeys.{name_key, vehicle_key}
-use Rattle.agv_rows.specs.RowLists.{TellRows, row_if, row_lists, rows_of_acts}
+use Rattle.agv_rows.specs.Rows.{TellRows, row_if, rows_of, rows_of_acts}
 use Rattle.agv_statements.specs.RowQueries.{rows_asked}
 use Rattle.agv_schema.specs.SchemaNumbers.{desk_seats}
 use Rattle.agv_rows.specs.DecodedTrips.{is_driven_by, journey_for, tables_of, told_by_journey, trip_told_by}
@@ -77,33 +77,33 @@ first_journey (Some e) back = ap whole_of (back e refl)
 
 -- the journeys that name a vehicle are of one order
 abbrev pub OneDrives : World → Type 0
-OneDrives world = (key : VehicleKey) (a b : Entry) → finite.get (journeys_of (rows_of world).trips) a.0 ≡ Some a.1 → finite.get (journeys_of (rows_of world).trips) b.0 ≡ Some b.1
+OneDrives world = (key : VehicleKey) (a b : Entry) → finite.get (journeys_of (maps_of world).trips) a.0 ≡ Some a.1 → finite.get (journeys_of (maps_of world).trips) b.0 ≡ Some b.1
     → is_driven_by key a ≡ true → is_driven_by key b ≡ true → a.0 ≡ b.0
 
 -- each journey has its values
 abbrev pub JourneysAreTyped : World → Type 0
-JourneysAreTyped world = (order : List ℕ) (journey : JourneyRow) → finite.get (journeys_of (rows_of world).trips) order ≡ Some journey → IsName order × IsJourneyRow journey
+JourneysAreTyped world = (order : List ℕ) (journey : JourneyRow) → finite.get (journeys_of (maps_of world).trips) order ≡ Some journey → IsName order × IsJourneyRow journey
 
 module _ (world : World) where
   abbrev lists : List (List Row)
-  lists = row_lists (rows_of world)
+  lists = rows_of world
 
-  its_own : TellRows lists (rows_of world)
+  its_own : TellRows lists (maps_of world)
   its_own = alike_itself lists
 
   -- the rows that are shown are that of the journey, where there is one
-  alone : OneDrives world → (key : VehicleKey) (values : Row) → values ≡ vehicle_key key → (rows : List Row) → IsPermutation (rows_asked by.VehicleJourney values lists) rows → rows ≡ row_if entry_columns (journey_for (rows_of world) key)
+  alone : OneDrives world → (key : VehicleKey) (values : Row) → values ≡ vehicle_key key → (rows : List Row) → IsPermutation (rows_asked by.VehicleJourney values lists) rows → rows ≡ row_if entry_columns (journey_for (maps_of world) key)
   alone one key values is rows shown =
-      let journeys = journeys_of (rows_of world).trips in
-      let perm = again ((shown_asked lists (rows_of world) its_own).journey key) (subst (λ v. IsPermutation (rows_asked by.VehicleJourney v lists) rows) is shown) in
-      let few = ap journeys_shown (one_passes nat_list_cmp_total journeys (is_driven_by key) (one key)) ∙ one_shown (journey_for (rows_of world) key) in
-      only entry_columns (journey_for (rows_of world) key) rows (subst (λ l. IsPermutation l rows) few perm)
+      let journeys = journeys_of (maps_of world).trips in
+      let perm = again ((shown_asked lists (maps_of world) its_own).journey key) (subst (λ v. IsPermutation (rows_asked by.VehicleJourney v lists) rows) is shown) in
+      let few = ap journeys_shown (one_passes nat_list_cmp_total journeys (is_driven_by key) (one key)) ∙ one_shown (journey_for (maps_of world) key) in
+      only entry_columns (journey_for (maps_of world) key) rows (subst (λ l. IsPermutation l rows) few perm)
 
   pub tells_journey : OneDrives world → JourneysAreTyped world → (key : VehicleKey) (values : Row) → values ≡ vehicle_key key → (rows : List Row) → IsPermutation (rows_asked by.VehicleJourney values lists) rows
-      → (r : Result (Option Entry) OpenFault) → r ≡ first_whole_in journey_in rows → Follows r (λ journey. journey ≡ journey_for (rows_of world) key)
+      → (r : Result (Option Entry) OpenFault) → r ≡ first_whole_in journey_in rows → Follows r (λ journey. journey ≡ journey_for (maps_of world) key)
   tells_journey one typed key values is rows shown r given =
-      let journeys = journeys_of (rows_of world).trips in
-      let found = journey_for (rows_of world) key in
+      let journeys = journeys_of (maps_of world).trips in
+      let found = journey_for (maps_of world) key in
       let so : r ≡ Ok found =
       given ∙ ap (first_whole_in journey_in) (alone one key values is rows shown)
       ∙ first_journey found (λ e at. let its = typed e.0 e.1 (found_entry nat_list_cmp_total journeys (is_driven_by key) e at).0 in journey_kept e.0 e.1 its.0 its.1) in
@@ -111,19 +111,19 @@ module _ (world : World) where
 
   -- there is a row just where there is a journey
   pub tells_driven : OneDrives world → (key : VehicleKey) (values : Row) → values ≡ vehicle_key key → (rows : List Row) → IsPermutation (rows_asked by.VehicleJourney values lists) rows
-      → not (length rows == 0) ≡ is_some (journey_for (rows_of world) key)
+      → not (length rows == 0) ≡ is_some (journey_for (maps_of world) key)
   tells_driven one key values is rows shown =
-      ap (λ (l : List Row). not (length l == 0)) (alone one key values is rows shown) ∙ row_there (journey_for (rows_of world) key)
+      ap (λ (l : List Row). not (length l == 0)) (alone one key values is rows shown) ∙ row_there (journey_for (maps_of world) key)
 
 -- ---- the acts of an order
 
 -- the acts of a world's order, as they are told
 abbrev pub acts_for : World → List ℕ → Option (List Act)
-acts_for world order = acts_told (rows_of world).jobs 0 (filter (is_of order) (finite.entries (acts_of (rows_of world).trips)))
+acts_for world order = acts_told (maps_of world).jobs 0 (filter (is_of order) (finite.entries (acts_of (maps_of world).trips)))
 
 -- each act has its values
 abbrev pub ActsAreTyped : World → Type 0
-ActsAreTyped world = (key : ActKey) (act : ActRow) → finite.get (acts_of (rows_of world).trips) key ≡ Some act → IsActRowKey key × IsActRow act
+ActsAreTyped world = (key : ActKey) (act : ActRow) → finite.get (acts_of (maps_of world).trips) key ≡ Some act → IsActRowKey key × IsActRow act
 
 -- what is left tells more acts, which follow those so far
 pub record Told (jobs : finite.FinMap name_cmp JobRow) (acts : List Act) (rest : List (ActKey × ActRow)) (all : Option (List Act)) : Type 0 where
@@ -132,20 +132,20 @@ pub record Told (jobs : finite.FinMap name_cmp JobRow) (acts : List Act) (rest :
   pub are : all ≡ Some (acts ++ more)
 
 abbrev pub GoesActs : List Act → List (ActKey × ActRow) → List ℕ → World → Unit {0} → Type 0
-GoesActs acts rest order world nothing = Told (rows_of world).jobs acts rest (acts_for world order)
+GoesActs acts rest order world nothing = Told (maps_of world).jobs acts rest (acts_for world order)
 
 module _ (world : World) (typed : ActsAreTyped world) (order : List ℕ) where
   abbrev acts_there : finite.FinMap act_cmp ActRow
-  acts_there = passing (is_of order) (acts_of (rows_of world).trips)
+  acts_there = passing (is_of order) (acts_of (maps_of world).trips)
 
-  module _ (values : Row) (is : values ≡ name_key order) (rows : List Row) (shown : IsPermutation (rows_asked by.OrderActs values (row_lists (rows_of world))) rows) where
+  module _ (values : Row) (is : values ≡ name_key order) (rows : List Row) (shown : IsPermutation (rows_asked by.OrderActs values (rows_of world)) rows) where
     given_acts : read_rows act_in finite.empty rows ≡ Some acts_there
     given_acts =
-        let lists = row_lists (rows_of world) in
-        let perm = again ((shown_asked lists (rows_of world) (alike_itself lists)).acts order) (subst (λ v. IsPermutation (rows_asked by.OrderActs v lists) rows) is shown) in
+        let lists = rows_of world in
+        let perm = again ((shown_asked lists (maps_of world) (alike_itself lists)).acts order) (subst (λ v. IsPermutation (rows_asked by.OrderActs v lists) rows) is shown) in
         reads_all act_cmp-total act_cmp-IsAntisymmetric acts_there act_columns act_in
-        (λ key act at. let its = typed key act (get-passing act_cmp-total act_cmp-IsAntisymmetric (is_of order) (acts_of (rows_of world).trips) key act at) in act_kept key act its.0 its.1) rows
-        (subst (λ es. IsPermutation (rows_of_acts es) rows) (sym (entries-passing (is_of order) (acts_of (rows_of world).trips))) perm)
+        (λ key act at. let its = typed key act (get-passing act_cmp-total act_cmp-IsAntisymmetric (is_of order) (acts_of (maps_of world).trips) key act at) in act_kept key act its.0 its.1) rows
+        (subst (λ es. IsPermutation (rows_of_acts es) rows) (sym (entries-passing (is_of order) (acts_of (maps_of world).trips))) perm)
 
     -- the reading of these rows fails for want of memory alone
     pub acts_fail : {B : Type 0} (f : OpenFault) → Reads {A = finite.FinMap act_cmp ActRow} (Err f) (read_rows act_in finite.empty rows) → (r : Result B OpenFault) → IsErrAnd r (λ why. why ≡ f) → (says : B → Type 0) → Follows r says
@@ -156,10 +156,10 @@ module _ (world : World) (typed : ActsAreTyped world) (order : List ℕ) where
         → (acts : List Act) (rest : List (ActKey × ActRow)) → acts ≡ [] → rest ≡ finite.entries table → GoesActs acts rest order world tt
     acts_begin those known table read acts rest none all =
         let same : table ≡ acts_there = same_Some table acts_there (sym read ∙ given_acts) in
-        let listed_there : rest ≡ filter (is_of order) (finite.entries (acts_of (rows_of world).trips)) = all ∙ ap finite.entries same ∙ entries-passing (is_of order) (acts_of (rows_of world).trips) in
+        let listed_there : rest ≡ filter (is_of order) (finite.entries (acts_of (maps_of world).trips)) = all ∙ ap finite.entries same ∙ entries-passing (is_of order) (acts_of (maps_of world).trips) in
         record {
           more = those;
-          told = ap₂ (λ (a : List Act) l. acts_told (rows_of world).jobs (length a) l) none listed_there ∙ known;
+          told = ap₂ (λ (a : List Act) l. acts_told (maps_of world).jobs (length a) l) none listed_there ∙ known;
           are = known ∙ ap (λ (a : List Act). Some (a ++ those)) (sym none);
         }
 
@@ -185,8 +185,8 @@ next_of jobs n row rows all is = at (nat_eq row.0.n n) refl (finite.get jobs row
     at false number o known t told same = absurd (cc same)
 
 module _ (world : World) (order : List ℕ) (acts : List Act) (rest : List (ActKey × ActRow)) (row : ActKey × ActRow) (rows : List (ActKey × ActRow)) (goes : GoesActs acts rest order world tt) (next : rest ≡ row ∷ rows) where
-  next_act : Next (rows_of world).jobs (length acts) row rows goes.more
-  next_act = next_of (rows_of world).jobs (length acts) row rows goes.more (ap (acts_told (rows_of world).jobs (length acts)) (sym next) ∙ goes.told)
+  next_act : Next (maps_of world).jobs (length acts) row rows goes.more
+  next_act = next_of (maps_of world).jobs (length acts) row rows goes.more (ap (acts_told (maps_of world).jobs (length acts)) (sym next) ∙ goes.told)
 
   -- its number is that of the acts so far
   pub act_numbered : row.0.n ≡ length acts
@@ -205,7 +205,7 @@ module _ (world : World) (order : List ℕ) (acts : List Act) (rest : List (ActK
       let same : one.job ≡ job = same_Some _ _ (sym one.known ∙ sym there) in
       record {
         more = one.more;
-        told = ap (λ n. acts_told (rows_of world).jobs n rows) (ap length pushed ∙ length-append acts (act_told row.1 job ∷ [])) ∙ one.told;
+        told = ap (λ n. acts_told (maps_of world).jobs n rows) (ap length pushed ∙ length-append acts (act_told row.1 job ∷ [])) ∙ one.told;
         are =
             goes.are ∙ ap (λ (l : List Act). Some (acts ++ l)) (one.are ∙ ap (λ j. act_told row.1 j ∷ one.more) same)
             ∙ ap Some (sym (append_assoc acts (act_told row.1 job ∷ []) one.more) ∙ ap (λ (l : List Act). l ++ one.more) (sym pushed));
@@ -214,7 +214,7 @@ module _ (world : World) (order : List ℕ) (acts : List Act) (rest : List (ActK
 -- they are at their end
 pub acts_end : (world : World) (order : List ℕ) (acts : List Act) (rest : List (ActKey × ActRow)) → GoesActs acts rest order world tt → rest ≡ [] → (all : List Act) → all ≡ acts → acts_for world order ≡ Some all
 acts_end world order acts rest goes none all are =
-    let no_more : goes.more ≡ [] = same_Some _ _ (sym goes.told ∙ ap (acts_told (rows_of world).jobs (length acts)) none) in
+    let no_more : goes.more ≡ [] = same_Some _ _ (sym goes.told ∙ ap (acts_told (maps_of world).jobs (length acts)) none) in
     goes.are ∙ ap (λ (l : List Act). Some (acts ++ l)) no_more ∙ ap Some (append-nil acts ∙ sym are)
 
 -- ---- the edges of an order
@@ -229,7 +229,7 @@ edge_at world leg = edge_named world.layout.edges leg.1
 -- the layout has what is left; and the edges so far, with those of what is left, are those of the order, where a known layout is the world's
 abbrev pub Goes : Option Layout → List Edge → List (LegKey × List ℕ) → List ℕ → World → Unit {0} → Type 0
 Goes known edges rest order world nothing =
-    (AgreesWith known world → edges ++ filter_map (edge_at world) rest ≡ edges_of (tables_of (rows_of world)) order) × AllByRecursion (IsKnown world) rest
+    (AgreesWith known world → edges ++ filter_map (edge_at world) rest ≡ edges_of (tables_of (maps_of world)) order) × AllByRecursion (IsKnown world) rest
 
 pub all_of : {A : Type 0} (P Q : A → Type 0) → ((a : A) → P a → Q a) → (xs : List A) → AllByRecursion P xs → AllByRecursion Q xs
 all_of P Q so [] h = tt
@@ -237,16 +237,16 @@ all_of P Q so (x ∷ xs) h = (so x h.0, all_of P Q so xs h.1)
 
 module _ (world : World) (lawful : IsLawful desk_seats world) (good : HasConsistentTrips world) (order : List ℕ) where
   abbrev pub legs_there : finite.FinMap leg_cmp (List ℕ)
-  legs_there = passing (is_of_order order) (rows_of world).legs
+  legs_there = passing (is_of_order order) (maps_of world).legs
 
-  module _ (values : Row) (is : values ≡ name_key order) (rows : List Row) (shown : IsPermutation (rows_asked by.OrderLegs values (row_lists (rows_of world))) rows) where
+  module _ (values : Row) (is : values ≡ name_key order) (rows : List Row) (shown : IsPermutation (rows_asked by.OrderLegs values (rows_of world)) rows) where
     given : read_rows leg_in finite.empty rows ≡ Some legs_there
     given =
-        let lists = row_lists (rows_of world) in
-        let perm = again ((shown_asked lists (rows_of world) (alike_itself lists)).legs order) (subst (λ v. IsPermutation (rows_asked by.OrderLegs v lists) rows) is shown) in
+        let lists = rows_of world in
+        let perm = again ((shown_asked lists (maps_of world) (alike_itself lists)).legs order) (subst (λ v. IsPermutation (rows_asked by.OrderLegs v lists) rows) is shown) in
         reads_all leg_cmp-total leg_cmp-IsAntisymmetric legs_there leg_columns leg_in
-        (λ key id at. let its = leg_value world lawful good key id (get-passing leg_cmp-total leg_cmp-IsAntisymmetric (is_of_order order) (rows_of world).legs key id at) in leg_kept key id its.0 its.1) rows
-        (subst (λ es. IsPermutation (legs_shown es) rows) (sym (entries-passing (is_of_order order) (rows_of world).legs)) perm)
+        (λ key id at. let its = leg_value world lawful good key id (get-passing leg_cmp-total leg_cmp-IsAntisymmetric (is_of_order order) (maps_of world).legs key id at) in leg_kept key id its.0 its.1) rows
+        (subst (λ es. IsPermutation (legs_shown es) rows) (sym (entries-passing (is_of_order order) (maps_of world).legs)) perm)
 
     -- the reading of these rows fails for want of memory alone
     pub fails_there : {B : Type 0} (f : OpenFault) → Reads {A = finite.FinMap leg_cmp (List ℕ)} (Err f) (read_rows leg_in finite.empty rows) → (r : Result B OpenFault) → IsErrAnd r (λ why. why ≡ f) → (says : B → Type 0) → Follows r says
@@ -258,11 +258,11 @@ module _ (world : World) (lawful : IsLawful desk_seats world) (good : HasConsist
     unfolding edges_of
     begins table read known edges rest none all =
         let same : table ≡ legs_there = same_Some table legs_there (sym read ∙ given) in
-        let listed_there : rest ≡ filter (is_of_order order) (finite.entries (rows_of world).legs) = all ∙ ap finite.entries same ∙ entries-passing (is_of_order order) (rows_of world).legs in (
+        let listed_there : rest ≡ filter (is_of_order order) (finite.entries (maps_of world).legs) = all ∙ ap finite.entries same ∙ entries-passing (is_of_order order) (maps_of world).legs in (
           λ _. ap₂ (λ (es : List Edge) l. es ++ filter_map (edge_at world) l) none listed_there,
           subst (AllByRecursion (IsKnown world)) (sym listed_there)
-              (all-filter (IsKnown world) (is_of_order order) (finite.entries (rows_of world).legs)
-              (all_of _ (IsKnown world) (λ e at. let its = leg_value world lawful good e.0 e.1 at in (its.2, its.3)) (finite.entries (rows_of world).legs) (entries_found leg_cmp-total (rows_of world).legs))),
+              (all-filter (IsKnown world) (is_of_order order) (finite.entries (maps_of world).legs)
+              (all_of _ (IsKnown world) (λ e at. let its = leg_value world lawful good e.0 e.1 at in (its.2, its.3)) (finite.entries (maps_of world).legs) (entries_found leg_cmp-total (maps_of world).legs))),
         )
 
 -- ---- one edge after the other
@@ -290,18 +290,18 @@ module _ (known : Option Layout) (world : World) (order : List ℕ) (edges : Lis
         cc wrong
 
   -- the way is at its end
-  pub goes_all : rest ≡ [] → AgreesWith known world → edges ≡ edges_of (tables_of (rows_of world)) order
+  pub goes_all : rest ≡ [] → AgreesWith known world → edges ≡ edges_of (tables_of (maps_of world)) order
   goes_all none agrees = sym (append-nil edges) ∙ (subst (λ l. Goes known edges l order world tt) none goes).0 agrees
 
 -- ---- what is told of the journey
 
-pub told_journey : (world : World) (journey : Entry) (acts : List Act) (edges : List Edge) → acts_for world journey.0 ≡ Some acts → edges ≡ edges_of (tables_of (rows_of world)) journey.0
-    → told_by_journey (rows_of world) journey ≡ Some (trip_told_by journey edges acts)
+pub told_journey : (world : World) (journey : Entry) (acts : List Act) (edges : List Edge) → acts_for world journey.0 ≡ Some acts → edges ≡ edges_of (tables_of (maps_of world)) journey.0
+    → told_by_journey (maps_of world) journey ≡ Some (trip_told_by journey edges acts)
 told_journey world journey acts edges told way =
-    ap (λ (o : Option (List Act)). option_map (trip_in (tables_of (rows_of world))) (option_map (λ (acts : List Act). (journey.0, trip_told journey.1 acts)) o)) told
+    ap (λ (o : Option (List Act)). option_map (trip_in (tables_of (maps_of world))) (option_map (λ (acts : List Act). (journey.0, trip_told journey.1 acts)) o)) told
     ∙ ap (λ (es : List Edge). Some (trip_told_by journey es acts)) (sym way)
 
 -- a trip is told just where there is a journey, since the acts of each order are told
-pub trip_there : (world : World) → ((order : List ℕ) → (acts : List Act) × (acts_for world order ≡ Some acts)) → (journey : Option Entry) → is_some (option_and_then (told_by_journey (rows_of world)) journey) ≡ is_some journey
+pub trip_there : (world : World) → ((order : List ℕ) → (acts : List Act) × (acts_for world order ≡ Some acts)) → (journey : Option Entry) → is_some (option_and_then (told_by_journey (maps_of world)) journey) ≡ is_some journey
 trip_there world told None = refl
-trip_there world told (Some e) = ap is_some (told_journey world e (told e.0).0 (edges_of (tables_of (rows_of world)) e.0) (told e.0).1 refl)
+trip_there world told (Some e) = ap is_some (told_journey world e (told e.0).0 (edges_of (tables_of (maps_of world)) e.0) (told e.0).1 refl)

@@ -8,7 +8,7 @@ use Rattle.agv_header.specs.declared.key.VehicleKey.{VehicleKey}
 use Rattle.agv_stock.specs.Rooms.{is_at, is_on}
 use Rattle.agv_stock.specs.declared.job.Phase.{Phase}
 use Rattle.agv_stock.specs.declared.place.Place.{Place}
-use Rattle.agv_world.specs.Rows.{Rows}
+use Rattle.agv_world.specs.Maps.{Maps}
 use Rattle.agv_world.specs.Told.{is_of_order}
 use Rattle.agv_world.specs.declared.key.LegKey.{LegKey}
 use Rattle.agv_world.specs.declared.row.JobRow.{JobRow}
@@ -17,7 +17,7 @@ use Rattle.agv_trip_rows.specs.declared.journey_row.JourneyRow.{JourneyRow}
 use Rattle.agv_rows.specs.ValueEncodings.{phase_name}
 use Rattle.agv_rows.specs.Columns.{job_columns, leg_columns, load_columns, journey_columns}
 use Rattle.agv_rows.specs.RowKeys.{name_key, vehicle_key}
-use Rattle.agv_rows.specs.RowLists.{rows_of_acts}
+use Rattle.agv_rows.specs.Rows.{rows_of_acts}
 use Rattle.agv_statements.specs.CountQueries.{rows_counted}
 use Rattle.agv_statements.specs.RowQueries.{rows_asked}
 use Rattle.agv_rows.specs.DecodedTrips.{is_driven_by}
@@ -50,13 +50,13 @@ name_and_phase name phase = Text name ∷ Text (phase_name phase) ∷ []
 -- ---- the answers
 
 -- each look-up shows, and each count counts, the rows of just those entries, in some order
-pub record ShowAsked (lists : List (List Row)) (rows : Rows) : Type 0 where
-  pub journey : (key : VehicleKey) → IsPermutation (rows_asked by.VehicleJourney (vehicle_key key) lists) (journeys_shown (filter (is_driven_by key) (finite.entries (journeys_of rows.trips))))
-  pub acts : (order : List ℕ) → IsPermutation (rows_asked by.OrderActs (name_key order) lists) (rows_of_acts (filter (is_of order) (finite.entries (acts_of rows.trips))))
-  pub legs : (order : List ℕ) → IsPermutation (rows_asked by.OrderLegs (name_key order) lists) (legs_shown (filter (is_of_order order) (finite.entries rows.legs)))
-  pub loads_at : (station : List ℕ) → IsPermutation (rows_asked by.StationLoads (name_key station) lists) (loads_shown (filter (λ (load : List ℕ × Place). is_at station load.1) (finite.entries rows.loads)))
-  pub loads_on : (key : VehicleKey) → IsPermutation (rows_counted counted.VehicleLoads (vehicle_key key) lists) (loads_shown (filter (λ (load : List ℕ × Place). is_on key load.1) (finite.entries rows.loads)))
+pub record ShowAsked (lists : List (List Row)) (maps : Maps) : Type 0 where
+  pub journey : (key : VehicleKey) → IsPermutation (rows_asked by.VehicleJourney (vehicle_key key) lists) (journeys_shown (filter (is_driven_by key) (finite.entries (journeys_of maps.trips))))
+  pub acts : (order : List ℕ) → IsPermutation (rows_asked by.OrderActs (name_key order) lists) (rows_of_acts (filter (is_of order) (finite.entries (acts_of maps.trips))))
+  pub legs : (order : List ℕ) → IsPermutation (rows_asked by.OrderLegs (name_key order) lists) (legs_shown (filter (is_of_order order) (finite.entries maps.legs)))
+  pub loads_at : (station : List ℕ) → IsPermutation (rows_asked by.StationLoads (name_key station) lists) (loads_shown (filter (λ (load : List ℕ × Place). is_at station load.1) (finite.entries maps.loads)))
+  pub loads_on : (key : VehicleKey) → IsPermutation (rows_counted counted.VehicleLoads (vehicle_key key) lists) (loads_shown (filter (λ (load : List ℕ × Place). is_on key load.1) (finite.entries maps.loads)))
   pub jobs_of : (load : List ℕ) (phase : Phase)
-      → IsPermutation (rows_asked by.LoadJobs (name_and_phase load phase) lists) (jobs_shown (filter (λ (job : List ℕ × JobRow). pointwise nat_eq job.1.load load && is_in_phase phase job.1) (finite.entries rows.jobs)))
+      → IsPermutation (rows_asked by.LoadJobs (name_and_phase load phase) lists) (jobs_shown (filter (λ (job : List ℕ × JobRow). pointwise nat_eq job.1.load load && is_in_phase phase job.1) (finite.entries maps.jobs)))
   pub jobs_to : (station : List ℕ) (phase : Phase)
-      → IsPermutation (rows_counted counted.TargetJobs (name_and_phase station phase) lists) (jobs_shown (filter (λ (job : List ℕ × JobRow). pointwise nat_eq job.1.target station && is_in_phase phase job.1) (finite.entries rows.jobs)))
+      → IsPermutation (rows_counted counted.TargetJobs (name_and_phase station phase) lists) (jobs_shown (filter (λ (job : List ℕ × JobRow). pointwise nat_eq job.1.target station && is_in_phase phase job.1) (finite.entries maps.jobs)))

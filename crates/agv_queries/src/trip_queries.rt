@@ -8,7 +8,7 @@ ghost use Rattle.std.specs.FinMap as map;
 ghost use Rattle.agv_trip_rows.specs.TripRows.{acts_of, is_of};
 ghost use Rattle.agv_trip_rows.specs.TripsTold.{acts_told};
 ghost use Rattle.agv_world.specs.Questions.{trip_of};
-ghost use Rattle.agv_world.specs.Rows.{rows_of};
+ghost use Rattle.agv_world.specs.Maps.{maps_of};
 ghost use Rattle.agv_world.specs.Told.{edges_of};
 ghost use Rattle.agv_rows.specs.Columns.{journey_in};
 ghost use Rattle.agv_row_reading.specs.FirstRow.{first_whole_in};
@@ -61,7 +61,7 @@ fn query_journey<S: Alter>(
     conn: &mut Connection<S>,
     key: &VehicleKey,
 ) -> Result<Option<(Name, JourneyRow)>, OpenFault>
-    ensures { AnswersQuery S.Store conn.old conn.new result (λ world journey. journey ≡ journey_for (rows_of world) key.now) }
+    ensures { AnswersQuery S.Store conn.old conn.new result (λ world journey. journey ≡ journey_for (maps_of world) key.now) }
 {
     rows_tell_trips();
     let rows = query_rows_by(conn, RowsBy::VehicleJourney, &vehicle_key_values(key))?;
@@ -88,7 +88,7 @@ fn query_told_trip<S: Alter>(
     known: &Option<Layout>,
     journey: &(Name, JourneyRow),
 ) -> Result<Trip, OpenFault>
-    ensures { AnswersQuery S.Store conn.old conn.new result (λ world trip. AgreesWith known.now world → told_by_journey (rows_of world) journey.now ≡ Some trip) }
+    ensures { AnswersQuery S.Store conn.old conn.new result (λ world trip. AgreesWith known.now world → told_by_journey (maps_of world) journey.now ≡ Some trip) }
 {
     let acts = query_acts(alloc, conn, &journey.0)?;
     let edges = query_way(alloc, conn, known, &journey.0)?;
@@ -121,7 +121,7 @@ fn query_acts<S: Alter>(
     order: &Name,
 ) -> Result<Sequence<Act>, OpenFault>
     ensures { AnswersQuery S.Store conn.old conn.new result
-        (λ world acts. acts_told (rows_of world).jobs 0 (filter (is_of order.now) (map.entries (acts_of (rows_of world).trips))) ≡ Some acts) }
+        (λ world acts. acts_told (maps_of world).jobs 0 (filter (is_of order.now) (map.entries (acts_of (maps_of world).trips))) ≡ Some acts) }
 {
     rows_tell_trips();
     let rows = query_rows_by(conn, RowsBy::OrderActs, &name_key_values(order))?;
@@ -147,7 +147,7 @@ fn query_way<S: Alter>(
     known: &Option<Layout>,
     order: &Name,
 ) -> Result<Sequence<Edge>, OpenFault>
-    ensures { AnswersQuery S.Store conn.old conn.new result (λ world edges. AgreesWith known.now world → edges ≡ edges_of (tables_of (rows_of world)) order.now) }
+    ensures { AnswersQuery S.Store conn.old conn.new result (λ world edges. AgreesWith known.now world → edges ≡ edges_of (tables_of (maps_of world)) order.now) }
 {
     has_consistent_trips();
     let rows = query_rows_by(conn, RowsBy::OrderLegs, &name_key_values(order))?;

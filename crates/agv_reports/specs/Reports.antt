@@ -8,7 +8,7 @@ use Rattle.agv_layout.specs.declared.station.StationSite.{StationSite}
 use Rattle.agv_layout.specs.declared.station.Station.{Station}
 use Rattle.agv_count.specs.Reports.{stock_text, hold_text, loads_text}
 use Rattle.agv_world.specs.Questions.{reserved}
-use Rattle.agv_world.specs.Rows.{rows_of}
+use Rattle.agv_world.specs.Maps.{maps_of}
 use Rattle.agv_world.specs.Worlds.{World}
 use Rattle.agv_desk.specs.declared.answer.Answer.{Answer}
 use Rattle.agv_desk.specs.declared.answer.Answer.TheVariants as answer
@@ -22,7 +22,7 @@ stations_told world = map (λ (site : List ℕ × StationSite). (station_of site
 -- the text of a report of this world
 abbrev pub report_text : World → Report → List ℕ
 report_text world report.Stock = stock_text (stations_told world) (finite.entries world.places) (keys_of (finite.entries world.vehicles))
-report_text world report.Holds = hold_text (finite.entries (rows_of world).holds) (set.len world.layout.nodes + finite.len world.layout.edges)
+report_text world report.Holds = hold_text (finite.entries (maps_of world).holds) (set.len world.layout.nodes + finite.len world.layout.edges)
 report_text world report.Loads = loads_text (finite.entries world.places)
 
 -- the report that an answer names, if it names one

@@ -9,13 +9,12 @@ use Rattle.sqlite.specs.Held.{Held, state}
 use Rattle.sqlite.specs.State.{State, HasCleanDisk, IsUnchanged, IsRolledBack, Survives}
 use Rattle.sqlite.proofs.StateLemmas.{survives_then}
 use Rattle.agv_world.specs.Lawful.{IsLawful}
-use Rattle.agv_world.specs.Rows.{rows_of}
 use Rattle.agv_world.specs.Worlds.{World}
 use Rattle.agv_schema.specs.DeskRows.{Answers, Placing, Holds, IsDesk}
 use Rattle.agv_schema.specs.Errors.{IsOfStore, is_of_store}
 use Rattle.agv_schema.specs.Connections.{HasStorageCause}
 use Rattle.agv_row_reading.specs.OpenFault.{open_fault_of}
-use Rattle.agv_rows.specs.RowLists.{row_lists}
+use Rattle.agv_rows.specs.Rows.{rows_of}
 use Rattle.agv_schema.specs.SchemaNumbers.{desk_seats}
 use Rattle.agv_row_reading.specs.WorldAnswers.{HasWorld, AnswersQuery}
 use Rattle.agv_row_reading.specs.declared.open_fault.OpenFault.{OpenFault}
@@ -46,9 +45,9 @@ sound_of false is = cc is
 module _ {S : Type 0} (g : Ghosts S) (old new : Held S) where
   -- rows that are shown
   pub tells_rows : (asked : List (List Row) → List Row) (rows : Vec Row Global) → (HasCleanDisk (state g new) → Answers asked (state g old) rows.items) → (HasCleanDisk (state g new) → IsUnchanged (state g old) (state g new))
-      → (old.in_transaction ≡ false → new.in_transaction ≡ false) → Survives (state g old) (state g new) (λ _. ⊥) → AnswersQuery g old new (Ok rows) (λ world rows. IsPermutation (asked (row_lists (rows_of world))) rows.items)
+      → (old.in_transaction ≡ false → new.in_transaction ≡ false) → Survives (state g old) (state g new) (λ _. ⊥) → AnswersQuery g old new (Ok rows) (λ world rows. IsPermutation (asked (rows_of world)) rows.items)
   tells_rows asked rows shown same at_rest saved = record {
-    told = λ clean desk world has. shown clean desk has.stands (row_lists (rows_of world)) has.rows;
+    told = λ clean desk world has. shown clean desk has.stands (rows_of world) has.rows;
     kept = same;
     answering = λ clean. ((same clean).0.was_open, (same clean).0.is_open);
     idle = at_rest;

@@ -7,10 +7,9 @@ use Rattle.sqlite.proofs.Callers.{one_permutation}
 use Rattle.sqlite_value.specs.Order.{Row}
 use Rattle.sqlite_sql.specs.Aggregate.{count}
 use Rattle.agv_world.specs.Lawful.{IsLawful}
-use Rattle.agv_world.specs.Rows.{rows_of}
 use Rattle.agv_world.specs.Worlds.{World}
 use Rattle.agv_row_reading.specs.FirstRow.{first_number_in, number_of}
-use Rattle.agv_rows.specs.RowLists.{row_lists}
+use Rattle.agv_rows.specs.Rows.{row_lists, rows_of}
 use Rattle.agv_rows.specs.ValueEncodings.{number_cell, number_in}
 use Rattle.agv_schema.specs.SchemaNumbers.{desk_seats}
 use Rattle.agv_statements.specs.CountQueries.{count_shown, rows_counted}
@@ -42,7 +41,7 @@ number_told n few = ap (λ m. number_of (number_in (number_cell m))) (uncut n fe
 
 module _ (world : World) (lawful : IsLawful desk_seats world) where
   abbrev lists : List (List Row)
-  lists = row_lists (rows_of world)
+  lists = rows_of world
 
   few_counted : (query : RowsCounted) (values : Row) → length (rows_counted query values lists) ≤ 1000000
   unfolding row_lists

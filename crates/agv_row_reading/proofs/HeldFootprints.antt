@@ -18,7 +18,7 @@ use Rattle.agv_order.specs.declared.trip.Trip.{Trip}
 use Rattle.agv_track.specs.Footprints.{footprint_of}
 use Rattle.agv_track.specs.Holds.{Holds, is_in, is_own}
 use Rattle.agv_world.specs.ConsistentTrips.{IsHolder, IsVehicle}
-use Rattle.agv_world.specs.Rows.{rows_of, standing_of}
+use Rattle.agv_world.specs.Maps.{maps_of, standing_of}
 use Rattle.agv_world.specs.Worlds.{Vehicle, World}
 use Rattle.agv_world.specs.declared.row.VehicleRow.{VehicleRow}
 use Rattle.agv_row_reading.specs.HeldThings.{HasEach, are_entries, are_holders, footprint_in, hold_their_own, holds_each, holds_its_own, holds_only, is_kept}
@@ -96,14 +96,14 @@ module _ (table : Holds) (pairs : List (Thing × VehicleKey)) (same : IsPermutat
 
 -- ---- the holds of a world
 
-module _ (world : World) (holders : (thing : Thing) (key : VehicleKey) → (finite.get (rows_of world).holds thing ≡ Some key) ↔ IsHolder world key thing)
+module _ (world : World) (holders : (thing : Thing) (key : VehicleKey) → (finite.get (maps_of world).holds thing ≡ Some key) ↔ IsHolder world key thing)
     (member : (thing : Thing) (things : List Thing) → (is_in thing things ≡ true) ↔ Contains things thing)
     (table : Holds) (pairs : List (Thing × VehicleKey)) (listed : are_entries table pairs ≡ true) (whole : HasEach table pairs) where
   abbrev held : Holds
-  held = (rows_of world).holds
+  held = (maps_of world).holds
 
   abbrev vehicles : finite.FinMap key_cmp VehicleRow
-  vehicles = (rows_of world).vehicles
+  vehicles = (maps_of world).vehicles
 
   row_there : (key : VehicleKey) (vehicle : Vehicle) → IsVehicle world key vehicle → finite.get vehicles key ≡ Some vehicle.row
   row_there key vehicle at = row_at world key ∙ ap (option_map (λ (v : Vehicle). v.row)) at

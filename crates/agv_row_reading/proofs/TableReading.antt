@@ -13,7 +13,7 @@ use Rattle.sqlite_trees.proofs.ListLemmas.{all-permutation, IsPermutation-filter
 use Rattle.sqlite_value.specs.Order.{Row}
 use Rattle.agv_rows.specs.ValueEncodings.{if_some}
 use Rattle.agv_row_reading.specs.ReadTables.{Reads, if_free, read_rows}
-use Rattle.agv_rows.specs.RowLists.{rows_in}
+use Rattle.agv_rows.specs.Rows.{rows_in}
 use Rattle.agv_row_reading.specs.declared.open_fault.OpenFault.{OpenFault}
 use Rattle.agv_row_reading.specs.declared.open_fault.OpenFault.TheVariants as fault
 use Rattle.agv_row_reading.proofs.Asking.{Follows}

@@ -10,7 +10,7 @@ use Rattle.sqlite_trees.proofs.ListLemmas.{IsPermutation-flat_map, IsPermutation
 use Rattle.sqlite_value.specs.Order.{Row}
 use Rattle.agv_rows.specs.ValueEncodings.{if_some}
 use Rattle.agv_row_reading.specs.ReadTables.{Reads, if_free, read_members, read_rows}
-use Rattle.agv_rows.specs.RowLists.{marked, rows_for, rows_in}
+use Rattle.agv_rows.specs.Rows.{marked, rows_for, rows_in}
 use Rattle.agv_row_reading.specs.declared.open_fault.OpenFault.{OpenFault}
 use Rattle.agv_rows.proofs.KeyedRows.{entry_rows}
 use Rattle.agv_rows.proofs.Members.{get-marked, mark, marked-insert, same_marked}

@@ -13,7 +13,7 @@ use Rattle.agv_world.specs.declared.world.World.{World as Tables}
 use Rattle.agv_rows.specs.Columns.{act_columns, edge_columns, journey_columns, hold_columns, job_columns, leg_columns, load_columns, meta_columns, node_columns, vehicle_capacity_columns, station_columns, used_columns, vehicle_columns}
 use Rattle.agv_schema.specs.Connections.{HasStorageCause}
 use Rattle.agv_schema.specs.DeskRows.{Placing, Holds, IsDesk, place_of, table_at}
-use Rattle.agv_rows.specs.RowLists.{rows_for, rows_in}
+use Rattle.agv_rows.specs.Rows.{rows_for, rows_in}
 use Rattle.agv_schema.specs.SchemaNumbers.{schema_number}
 use Rattle.agv_row_reading.specs.WorldAnswers.{AnswersQuery}
 use Rattle.agv_row_reading.specs.declared.open_fault.OpenFault.{OpenFault}

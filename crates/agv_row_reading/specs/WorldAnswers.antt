@@ -9,7 +9,7 @@ use Rattle.agv_world.specs.Lawful.{IsLawful}
 use Rattle.agv_world.specs.Worlds.{World}
 use Rattle.agv_schema.specs.DeskRows.{Placing, IsDesk}
 use Rattle.agv_schema.specs.Connections.{HasStorageCause}
-use Rattle.agv_rows.specs.RowLists.{HoldsWorld}
+use Rattle.agv_rows.specs.Rows.{HoldsWorld}
 use Rattle.agv_schema.specs.SchemaNumbers.{desk_seats}
 use Rattle.agv_row_reading.specs.declared.open_fault.OpenFault.{OpenFault}
 use Rattle.agv_row_reading.specs.declared.open_fault.OpenFault.TheVariants as fault

@@ -3,7 +3,7 @@ ghost use Rattle.std.specs.Prelude.{◌≡◌, ◌↔◌, ◌&&◌, true, IfOk, 
 ghost use Rattle.std.specs.FinMap as map;
 ghost use Rattle.agv_world.specs.Kept.{Keeps};
 ghost use Rattle.agv_world.specs.Lawful.{IsLawful};
-ghost use Rattle.agv_world.specs.Rows.{rows_of};
+ghost use Rattle.agv_world.specs.Maps.{maps_of};
 ghost use Rattle.agv_world.specs.Told.{world_of};
 ghost use Rattle.agv_world.specs.Worlds.{World as WorldOf};
 ghost use Rattle.agv_schema.specs.SchemaNumbers.{desk_seats};
@@ -34,7 +34,7 @@ impl HeldThings {
     /// `Memory` only when out of memory. It takes time in proportion to the vehicles times what is held and what is open, and
     /// for each thing that is held it looks over the footprint of its vehicle.
     pub fn are_footprints(&self, alloc: Global, tables: &World) -> Result<bool, Memory>
-        ensures { IfOk result (λ are. (world : WorldOf) → Keeps tables.now world → IsLawful desk_seats world → IsTrue are ↔ (self.now.table ≡ (rows_of world).holds)) }
+        ensures { IfOk result (λ are. (world : WorldOf) → Keeps tables.now world → IsLawful desk_seats world → IsTrue are ↔ (self.now.table ≡ (maps_of world).holds)) }
     {
         has_consistent_trips();
         holds_are_footprints();

@@ -2,9 +2,8 @@
 //! of a table.
 ghost use Rattle.std.specs.Prelude.{◌≡◌, length, true, IsPermutation};
 ghost use Rattle.sqlite.specs.Values.{bound};
-ghost use Rattle.agv_world.specs.Rows.{rows_of};
 ghost use Rattle.agv_schema.specs.DeskRows.{rows_of_key, table_for};
-ghost use Rattle.agv_rows.specs.RowLists.{row_lists};
+ghost use Rattle.agv_rows.specs.Rows.{rows_of};
 ghost use Rattle.agv_statements.specs.CountQueries.{columns_counted, rows_counted, table_counted};
 ghost use Rattle.agv_statements.specs.RowQueries.{FitsColumns, all_rows_of, columns_asked, rows_asked, table_asked};
 ghost use Rattle.agv_schema.specs.RowTexts.{is_looked_up};
@@ -29,7 +28,7 @@ pub fn query_rows<S: Alter>(
 ) -> Result<Vec<Row>, OpenFault>
     requires looked_up { is_looked_up table ≡ true }
     requires fits { FitsColumns table (table_for table).primary (bound key.now) }
-    ensures { AnswersQuery S.Store conn.old conn.new result (λ world rows. IsPermutation (rows_of_key table (bound key.now) (row_lists (rows_of world))) rows.items) }
+    ensures { AnswersQuery S.Store conn.old conn.new result (λ world rows. IsPermutation (rows_of_key table (bound key.now) (rows_of world)) rows.items) }
 {
     let rows = find_rows(conn, table, key)?;
     Ok(rows)
@@ -42,7 +41,7 @@ pub fn query_rows_by<S: Alter>(
     values: &[ValueRef<'_>],
 ) -> Result<Vec<Row>, OpenFault>
     requires { FitsColumns (table_asked by) (columns_asked by) (bound values.now) }
-    ensures { AnswersQuery S.Store conn.old conn.new result (λ world rows. IsPermutation (rows_asked by (bound values.now) (row_lists (rows_of world))) rows.items) }
+    ensures { AnswersQuery S.Store conn.old conn.new result (λ world rows. IsPermutation (rows_asked by (bound values.now) (rows_of world)) rows.items) }
 {
     let rows = find_rows_by(conn, by, values)?;
     Ok(rows)
@@ -55,7 +54,7 @@ pub fn query_count<S: Alter>(
     values: &[ValueRef<'_>],
 ) -> Result<usize, OpenFault>
     requires { FitsColumns (table_counted by) (columns_counted by) (bound values.now) }
-    ensures { AnswersQuery S.Store conn.old conn.new result (λ world count. count ≡ length (rows_counted by (bound values.now) (row_lists (rows_of world)))) }
+    ensures { AnswersQuery S.Store conn.old conn.new result (λ world count. count ≡ length (rows_counted by (bound values.now) (rows_of world))) }
 {
     let rows = find_count(conn, by, values)?;
     number_in_rows(rows.as_slice())
@@ -80,7 +79,7 @@ pub fn query_all_rows<S: Alter>(
     table: TableName,
 ) -> Result<Vec<Row>, OpenFault>
     ensures { TellsAll S.Store conn.old conn.new result
-        (λ world rows. IsPermutation (all_rows_of table (row_lists (rows_of world))) rows.items)
+        (λ world rows. IsPermutation (all_rows_of table (rows_of world)) rows.items)
         (λ lists rows. IsPermutation (all_rows_of table lists) rows.items) }
 {
     let rows = find_all_rows(conn, table)?;

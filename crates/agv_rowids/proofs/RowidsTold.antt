@@ -10,12 +10,11 @@ use Rattle.sqlite.specs.Effect.{Database}
 use Rattle.sqlite.specs.Held.{Held, state}
 use Rattle.sqlite.specs.State.{HasCleanDisk, IsUnchanged, IsRolledBack, Survives}
 use Rattle.sqlite.proofs.StateLemmas.{survives_then}
-use Rattle.agv_world.specs.Rows.{rows_of}
 use Rattle.agv_schema.specs.DeskRows.{AreKeyed, HaveRows, StandApart, Placing, table_names, width_of}
 use Rattle.agv_schema.specs.Errors.{IsOfStore, is_of_store}
 use Rattle.agv_schema.specs.Connections.{HasStorageCause}
 use Rattle.agv_row_reading.specs.OpenFault.{open_fault_of}
-use Rattle.agv_rows.specs.RowLists.{row_lists}
+use Rattle.agv_rows.specs.Rows.{rows_of}
 use Rattle.agv_rowids.specs.Rowids.{AreTablesKeyed, ShowRowids, TellsKeyed, TellsKeyedAlone}
 use Rattle.agv_row_reading.specs.WorldAnswers.{AnswersQuery}
 use Rattle.agv_row_reading.specs.declared.open_fault.OpenFault.{OpenFault}
@@ -153,7 +152,7 @@ tables_keyed tree trees (name ∷ names) (rows ∷ lists) h = (h.0.0, tables_key
 
 pub tells_keyed : {S : Type 0} (g : Ghosts S) (old new : Held S) (r : Result Bool OpenFault) → TellsKeyed g old new table_names r → AnswersQuery g old new r (λ world keyed. IsTrue keyed)
 tells_keyed g old new (Ok b) keyed = record {
-  told = λ clean desk world has. (keyed.told clean desk has.stands has.rows.schema_is).1 (tables_keyed desk.tree (state g old).now.trees table_names (row_lists (rows_of world)) has.rows.rows);
+  told = λ clean desk world has. (keyed.told clean desk has.stands has.rows.schema_is).1 (tables_keyed desk.tree (state g old).now.trees table_names (rows_of world) has.rows.rows);
   kept = keyed.kept;
   answering = λ clean. let same = keyed.kept clean in (same.0.was_open, same.0.is_open);
   damaged = λ _. tt;

@@ -11,7 +11,7 @@ use Rattle.sqlite_trees.proofs.ListLemmas.{all_of, filter-map, filter_same, all_
 use Rattle.sqlite_value.specs.Order.{Row}
 use Rattle.agv_schema.specs.DeskRows.{on_table, place_of, table_at, with_row, with_rows}
 use Rattle.sqlite.proofs.Callers.{one_permutation}
-use Rattle.agv_rows.specs.RowLists.{ShowEntries, rows_in}
+use Rattle.agv_rows.specs.Rows.{ShowEntries, rows_in}
 use Rattle.agv_schema.specs.declared.table_name.TableName.{TableName}
 use Rattle.agv_schema.proofs.MapEntries.{at_key, entries-remove, entries-insert-permuted, entries-at_key}
 

@@ -19,7 +19,7 @@ use Rattle.agv_order.specs.declared.trip.Trip.{Trip}
 use Rattle.agv_track.specs.Footprints.{along, footprint_of, from_node, once, rest_things, things_by}
 use Rattle.agv_world.specs.ConsistentTrips.{HasConsistentTrips}
 use Rattle.agv_world.specs.Lawful.{IsLawful}
-use Rattle.agv_world.specs.Rows.{hold_rows, rows_of, standing_of}
+use Rattle.agv_world.specs.Maps.{hold_rows, maps_of, standing_of}
 use Rattle.agv_world.specs.Worlds.{Vehicle, World}
 use Rattle.agv_schema.specs.SchemaNumbers.{desk_seats}
 use Rattle.agv_rows.specs.TypedRows.{IsThing}
@@ -84,7 +84,7 @@ module _ (world : World) (lawful : IsLawful desk_seats world) (good : HasConsist
       ] refl found
 
   -- what is held has a name that is one
-  pub held_value : (thing : Thing) (key : VehicleKey) → finite.get (rows_of world).holds thing ≡ Some key → IsThing thing
+  pub held_value : (thing : Thing) (key : VehicleKey) → finite.get (maps_of world).holds thing ≡ Some key → IsThing thing
   held_value thing key is =
       let from = spread_from key_cmp-total thing_cmp thing_cmp-total hold_rows world.vehicles thing key is in
       named_found thing from.0 key (footprint_of (standing_of from.1)) (named_footprint from.0 from.1 from.2) from.3

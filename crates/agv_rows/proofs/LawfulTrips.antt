@@ -24,7 +24,7 @@ use Rattle.agv_world.specs.ConsistentTrips.{HasConsistentTrips}
 use Rattle.agv_world.specs.KeyOrders.{leg_cmp-IsAntisymmetric, leg_cmp-total}
 use Rattle.agv_world.specs.Keys.{leg_cmp}
 use Rattle.agv_world.specs.Lawful.{IsLawful}
-use Rattle.agv_world.specs.Rows.{leg_row, leg_rows, legs_of_trip, rows_of, rows_of_trip, trip_row, trip_rows}
+use Rattle.agv_world.specs.Maps.{leg_row, leg_rows, legs_of_trip, maps_of, rows_of_trip, trip_row, trip_rows}
 use Rattle.agv_world.specs.Told.{names_vehicle}
 use Rattle.agv_world.specs.Worlds.{Vehicle, World}
 use Rattle.agv_world.specs.declared.key.LegKey.{LegKey}
@@ -63,7 +63,7 @@ own_of world order row key vehicle (Some trip) is at found =
     let one = of_one order trip.order (trip_row key trip) row found in
     record { key = key; vehicle = vehicle; trip = trip; there = at; has = is; order_is = one.0; row_is = one.1 }
 
-pub trip_own : (world : World) (order : List ℕ) (row : TripRow) → finite.get (rows_of world).trips order ≡ Some row → IsOwn world order row
+pub trip_own : (world : World) (order : List ℕ) (row : TripRow) → finite.get (maps_of world).trips order ≡ Some row → IsOwn world order row
 trip_own world order row at =
     let from = spread_from key_cmp-total name_cmp nat_list_cmp_total trip_rows world.vehicles order row at in
     own_of world order row from.0 from.1 from.1.trip refl from.2 from.3
@@ -76,7 +76,7 @@ vehicle_is key entry is =
     λ i. record { manufacturer = manufacturer i; serial = serial i }
 
 -- rows that name one vehicle are of one order
-pub one_order : (world : World) (key : VehicleKey) (a b : List ℕ × TripRow) → finite.get (rows_of world).trips a.0 ≡ Some a.1 → finite.get (rows_of world).trips b.0 ≡ Some b.1
+pub one_order : (world : World) (key : VehicleKey) (a b : List ℕ × TripRow) → finite.get (maps_of world).trips a.0 ≡ Some a.1 → finite.get (maps_of world).trips b.0 ≡ Some b.1
     → names_vehicle key a ≡ true → names_vehicle key b ≡ true → a.0 ≡ b.0
 one_order world key a b at bt one two =
     let first = trip_own world a.0 a.1 at in
@@ -94,10 +94,10 @@ journey_from (Some trip) journey is = (trip, refl, same_Some (journey_of trip) j
 
 -- journeys that name one vehicle are of one order
 pub one_journey : JourneysStand → (world : World) (key : VehicleKey) (a b : List ℕ × JourneyRow)
-    → finite.get (journeys_of (rows_of world).trips) a.0 ≡ Some a.1 → finite.get (journeys_of (rows_of world).trips) b.0 ≡ Some b.1
+    → finite.get (journeys_of (maps_of world).trips) a.0 ≡ Some a.1 → finite.get (journeys_of (maps_of world).trips) b.0 ≡ Some b.1
     → is_driven_by key a ≡ true → is_driven_by key b ≡ true → a.0 ≡ b.0
 one_journey stand world key a b at bt one two =
-    let trips = (rows_of world).trips in
+    let trips = (maps_of world).trips in
     let first = journey_from (finite.get trips a.0) a.1 (sym (stand trips a.0) ∙ at) in
     let second = journey_from (finite.get trips b.0) b.1 (sym (stand trips b.0) ∙ bt) in
     one_order world key (a.0, first.0) (b.0, second.0) first.1 second.1
@@ -162,7 +162,7 @@ leg_of world good key vehicle (Some trip) is at q id found =
 
 module _ (world : World) (lawful : IsLawful desk_seats world) (good : HasConsistentTrips world) where
   -- the layout has the edge of each row, and the values of the row are in their ranges
-  pub leg_value : (q : LegKey) (id : List ℕ) → finite.get (rows_of world).legs q ≡ Some id → IsLegKey q × IsName id × (ends : EdgeEnds) × (finite.get world.layout.edges id ≡ Some ends)
+  pub leg_value : (q : LegKey) (id : List ℕ) → finite.get (maps_of world).legs q ≡ Some id → IsLegKey q × IsName id × (ends : EdgeEnds) × (finite.get world.layout.edges id ≡ Some ends)
   leg_value q id at =
       let from = spread_from key_cmp-total leg_cmp leg_cmp-total leg_rows world.vehicles q id at in
       let leg = leg_of world good from.0 from.1 from.1.trip refl from.2 q id from.3 in

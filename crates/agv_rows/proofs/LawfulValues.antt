@@ -21,7 +21,7 @@ use Rattle.agv_world.specs.KeyOrders.{use_cmp-total}
 use Rattle.agv_world.specs.Keys.{use_cmp}
 use Rattle.agv_world.specs.Lawful.{HasRestAndCounters, IsKey, IsLawful, IsPlaceIn, IsRestAt}
 use Rattle.agv_world.specs.Questions.{is_used, row_of}
-use Rattle.agv_world.specs.Rows.{hold_rows, rows_of, standing_of, used_names, vehicle_rows}
+use Rattle.agv_world.specs.Maps.{hold_rows, maps_of, standing_of, used_names, vehicle_rows}
 use Rattle.agv_header.specs.Spread.{spread}
 use Rattle.agv_world.specs.Worlds.{Vehicle, World}
 use Rattle.agv_world.specs.declared.key.UseKey.{UseKey}
@@ -80,7 +80,7 @@ among_used world used.Reference name =
     ∙ sym (set.contains-items world.references name)
 
 -- the table has a name just where it was used
-pub used_is : (world : World) (kind : UseKind) (name : List ℕ) → set.contains (rows_of world).used (record { kind = kind; name = name }) ≡ is_used world kind name
+pub used_is : (world : World) (kind : UseKind) (name : List ℕ) → set.contains (maps_of world).used (record { kind = kind; name = name }) ≡ is_used world kind name
 used_is world kind name = set.contains-from_list use_cmp-total (used_names world) (record { kind = kind; name = name }) ∙ among_used world kind name
 
 -- ---- the rows of vehicles
@@ -93,7 +93,7 @@ own_found q (e ∷ es) =
       | false ↦ own_found q es
     ]
 
-pub row_at : (world : World) (key : VehicleKey) → finite.get (rows_of world).vehicles key ≡ row_of world key
+pub row_at : (world : World) (key : VehicleKey) → finite.get (maps_of world).vehicles key ≡ row_of world key
 unfolding spread
 row_at world key =
     finite.get-from_entries key_cmp-total (flat_map (λ (e : VehicleKey × Vehicle). vehicle_rows e.0 e.1) (finite.entries world.vehicles)) key
@@ -199,7 +199,7 @@ module _ (world : World) (lawful : IsLawful desk_seats world) where
       let from = row_from (finite.get world.vehicles key) row is in
       (lawful.names.vehicles_named key from.0 from.1, subst IsVehicleRow from.2 (vehicle_of from.0.row (lawful.capacity.seated key from.0 from.1) (lawful.rests.vehicles key from.0 from.1)))
 
-  pub holder_value : (thing : Thing) (key : VehicleKey) → finite.get (rows_of world).holds thing ≡ Some key → IsKey key
+  pub holder_value : (thing : Thing) (key : VehicleKey) → finite.get (maps_of world).holds thing ≡ Some key → IsKey key
   holder_value thing key is =
       let from = spread_from key_cmp-total thing_cmp thing_cmp-total hold_rows world.vehicles thing key is in
       subst IsKey (holder_found thing from.0 key (footprint_of (standing_of from.1)) from.3) (lawful.names.vehicles_named from.0 from.1 from.2)

@@ -13,14 +13,14 @@ use Rattle.agv_header.specs.Name.{name_cmp}
 use Rattle.agv_trip_rows.specs.TripRows.{act_rows, acts_of, all_act_rows, is_journey_of, is_of, journey_of, journey_rows, journeys_of}
 use Rattle.agv_world.specs.Changes.{change, changed}
 use Rattle.agv_world.specs.KeyOrders.{leg_cmp-total, leg_cmp-IsAntisymmetric, use_cmp-total, use_cmp-IsAntisymmetric}
-use Rattle.agv_world.specs.Rows.{Rows}
+use Rattle.agv_world.specs.Maps.{Maps}
 use Rattle.agv_world.specs.declared.change.Change.{Change}
 use Rattle.agv_world.specs.declared.change.Change.TheVariants as row
 use Rattle.agv_world.specs.declared.row.TripRow.{TripRow}
 use Rattle.agv_rows.specs.Columns.{node_columns, edge_columns, station_columns, vehicle_columns, vehicle_capacity_columns, journey_columns, act_columns, leg_columns, load_columns, job_columns, hold_columns, used_columns}
 use Rattle.agv_schema.specs.DeskRows.{on_table, table_at, place_of, has_columns, has_key, with_put, with_rows, without_key, without_rows}
 use Rattle.agv_rows.specs.RowKeys.{name_key, vehicle_key, leg_key, hold_key}
-use Rattle.agv_rows.specs.RowLists.{AreAlike, TellRows, row_lists, marked, rows_for, rows_in, rows_of_acts, listed, listed_all}
+use Rattle.agv_rows.specs.Rows.{AreAlike, TellRows, listed, listed_all, marked, row_lists, rows_for, rows_in, rows_of_acts}
 use Rattle.agv_schema.specs.RowTexts.{columns_deleted}
 use Rattle.agv_schema.specs.declared.table_name.TableName.{TableName}
 use Rattle.agv_schema.specs.declared.table_name.TableName.TheVariants as the
@@ -102,44 +102,44 @@ member-written total apart columns has tested s rows k h =
 
 -- ---- each change
 
-pub follows : FollowTrips → (lists : List (List Row)) (rows : Rows) (one : Change) → TellRows lists rows → TellRows (listed one lists) (change rows one)
+pub follows : FollowTrips → (lists : List (List Row)) (maps : Maps) (one : Change) → TellRows lists maps → TellRows (listed one lists) (change maps one)
 unfolding row_lists
-follows laws lists rows (row.Node id) h = put-alike the.Node (name_key id) (node_columns id) _ lists (row_lists rows) h
-    (member-written nat_list_cmp_total names_apart node_columns (λ k. has_key the.Node (name_key k)) node_tested rows.nodes (table_at 1 lists) id)
-follows laws lists rows (row.Edge id ends) h = put-alike the.Edge (name_key id) (edge_columns id ends) _ lists (row_lists rows) h
-    (row-written nat_list_cmp_total names_apart edge_columns (λ k. has_key the.Edge (name_key k)) edge_tested rows.edges (table_at 2 lists) id ends)
-follows laws lists rows (row.Station id site) h = put-alike the.Station (name_key id) (station_columns id site) _ lists (row_lists rows) h
-    (row-written nat_list_cmp_total names_apart station_columns (λ k. has_key the.Station (name_key k)) station_tested rows.stations (table_at 3 lists) id site)
-follows laws lists rows (row.Vehicle key vehicle) h = put-alike the.Capacity (vehicle_key key) (vehicle_capacity_columns key vehicle) _ _ _
-    (put-alike the.Vehicle (vehicle_key key) (vehicle_columns key vehicle) _ lists (row_lists rows) h
-    (row-written key_cmp-total key_cmp-IsAntisymmetric vehicle_columns (λ k. has_key the.Vehicle (vehicle_key k)) vehicle_tested rows.vehicles (table_at 4 lists) key vehicle))
-    (row-written key_cmp-total key_cmp-IsAntisymmetric vehicle_capacity_columns (λ k. has_key the.Capacity (vehicle_key k)) capacity_tested rows.vehicles _ key vehicle)
-follows laws lists rows (row.Trip order None) h = on_table-alike 13 _ _ _ _
-    (removed-alike the.Journey (name_key order) _ lists (row_lists rows) h (journeys-removed laws rows.trips (table_at 12 lists) order))
-    (acts-removed laws rows.trips _ order)
-follows laws lists rows (row.Trip order (Some trip)) h = renewed-alike the.Act (columns_deleted the.Act) (name_key order) (rows_of_acts (act_rows order trip)) _ _ _
-    (put-alike the.Journey (name_key order) (journey_columns order (journey_of trip)) _ lists (row_lists rows) h (journeys-written laws rows.trips (table_at 12 lists) order trip))
-    (acts-written laws rows.trips _ order trip)
-follows laws lists rows (row.Leg key None) h = removed-alike the.Leg (leg_key key) _ lists (row_lists rows) h
-    (row-removed leg_cmp-total leg_cmp-IsAntisymmetric leg_columns (λ k. has_key the.Leg (leg_key k)) leg_tested rows.legs (table_at 6 lists) key)
-follows laws lists rows (row.Leg key (Some edge)) h = put-alike the.Leg (leg_key key) (leg_columns key edge) _ lists (row_lists rows) h
-    (row-written leg_cmp-total leg_cmp-IsAntisymmetric leg_columns (λ k. has_key the.Leg (leg_key k)) leg_tested rows.legs (table_at 6 lists) key edge)
-follows laws lists rows (row.Load id place) h = put-alike the.Load (name_key id) (load_columns id place) _ lists (row_lists rows) h
-    (row-written nat_list_cmp_total names_apart load_columns (λ k. has_key the.Load (name_key k)) load_tested rows.loads (table_at 7 lists) id place)
-follows laws lists rows (row.Job id job) h = put-alike the.Job (name_key id) (job_columns id job) _ lists (row_lists rows) h
-    (row-written nat_list_cmp_total names_apart job_columns (λ k. has_key the.Job (name_key k)) job_tested rows.jobs (table_at 8 lists) id job)
-follows laws lists rows (row.Hold thing None) h = removed-alike the.Hold (hold_key thing) _ lists (row_lists rows) h
-    (row-removed thing_cmp-total thing_cmp-IsAntisymmetric hold_columns (λ k. has_key the.Hold (hold_key k)) hold_tested rows.holds (table_at 9 lists) thing)
-follows laws lists rows (row.Hold thing (Some key)) h = put-alike the.Hold (hold_key thing) (hold_columns thing key) _ lists (row_lists rows) h
-    (row-written thing_cmp-total thing_cmp-IsAntisymmetric hold_columns (λ k. has_key the.Hold (hold_key k)) hold_tested rows.holds (table_at 9 lists) thing key)
-follows laws lists rows (row.Used key) h = put-alike the.Used (used_columns key) (used_columns key) _ lists (row_lists rows) h
-    (member-written use_cmp-total use_cmp-IsAntisymmetric used_columns (λ k. has_key the.Used (used_columns k)) used_tested rows.used (table_at 10 lists) key)
+follows laws lists maps (row.Node id) h = put-alike the.Node (name_key id) (node_columns id) _ lists (row_lists maps) h
+    (member-written nat_list_cmp_total names_apart node_columns (λ k. has_key the.Node (name_key k)) node_tested maps.nodes (table_at 1 lists) id)
+follows laws lists maps (row.Edge id ends) h = put-alike the.Edge (name_key id) (edge_columns id ends) _ lists (row_lists maps) h
+    (row-written nat_list_cmp_total names_apart edge_columns (λ k. has_key the.Edge (name_key k)) edge_tested maps.edges (table_at 2 lists) id ends)
+follows laws lists maps (row.Station id site) h = put-alike the.Station (name_key id) (station_columns id site) _ lists (row_lists maps) h
+    (row-written nat_list_cmp_total names_apart station_columns (λ k. has_key the.Station (name_key k)) station_tested maps.stations (table_at 3 lists) id site)
+follows laws lists maps (row.Vehicle key vehicle) h = put-alike the.Capacity (vehicle_key key) (vehicle_capacity_columns key vehicle) _ _ _
+    (put-alike the.Vehicle (vehicle_key key) (vehicle_columns key vehicle) _ lists (row_lists maps) h
+    (row-written key_cmp-total key_cmp-IsAntisymmetric vehicle_columns (λ k. has_key the.Vehicle (vehicle_key k)) vehicle_tested maps.vehicles (table_at 4 lists) key vehicle))
+    (row-written key_cmp-total key_cmp-IsAntisymmetric vehicle_capacity_columns (λ k. has_key the.Capacity (vehicle_key k)) capacity_tested maps.vehicles _ key vehicle)
+follows laws lists maps (row.Trip order None) h = on_table-alike 13 _ _ _ _
+    (removed-alike the.Journey (name_key order) _ lists (row_lists maps) h (journeys-removed laws maps.trips (table_at 12 lists) order))
+    (acts-removed laws maps.trips _ order)
+follows laws lists maps (row.Trip order (Some trip)) h = renewed-alike the.Act (columns_deleted the.Act) (name_key order) (rows_of_acts (act_rows order trip)) _ _ _
+    (put-alike the.Journey (name_key order) (journey_columns order (journey_of trip)) _ lists (row_lists maps) h (journeys-written laws maps.trips (table_at 12 lists) order trip))
+    (acts-written laws maps.trips _ order trip)
+follows laws lists maps (row.Leg key None) h = removed-alike the.Leg (leg_key key) _ lists (row_lists maps) h
+    (row-removed leg_cmp-total leg_cmp-IsAntisymmetric leg_columns (λ k. has_key the.Leg (leg_key k)) leg_tested maps.legs (table_at 6 lists) key)
+follows laws lists maps (row.Leg key (Some edge)) h = put-alike the.Leg (leg_key key) (leg_columns key edge) _ lists (row_lists maps) h
+    (row-written leg_cmp-total leg_cmp-IsAntisymmetric leg_columns (λ k. has_key the.Leg (leg_key k)) leg_tested maps.legs (table_at 6 lists) key edge)
+follows laws lists maps (row.Load id place) h = put-alike the.Load (name_key id) (load_columns id place) _ lists (row_lists maps) h
+    (row-written nat_list_cmp_total names_apart load_columns (λ k. has_key the.Load (name_key k)) load_tested maps.loads (table_at 7 lists) id place)
+follows laws lists maps (row.Job id job) h = put-alike the.Job (name_key id) (job_columns id job) _ lists (row_lists maps) h
+    (row-written nat_list_cmp_total names_apart job_columns (λ k. has_key the.Job (name_key k)) job_tested maps.jobs (table_at 8 lists) id job)
+follows laws lists maps (row.Hold thing None) h = removed-alike the.Hold (hold_key thing) _ lists (row_lists maps) h
+    (row-removed thing_cmp-total thing_cmp-IsAntisymmetric hold_columns (λ k. has_key the.Hold (hold_key k)) hold_tested maps.holds (table_at 9 lists) thing)
+follows laws lists maps (row.Hold thing (Some key)) h = put-alike the.Hold (hold_key thing) (hold_columns thing key) _ lists (row_lists maps) h
+    (row-written thing_cmp-total thing_cmp-IsAntisymmetric hold_columns (λ k. has_key the.Hold (hold_key k)) hold_tested maps.holds (table_at 9 lists) thing key)
+follows laws lists maps (row.Used key) h = put-alike the.Used (used_columns key) (used_columns key) _ lists (row_lists maps) h
+    (member-written use_cmp-total use_cmp-IsAntisymmetric used_columns (λ k. has_key the.Used (used_columns k)) used_tested maps.used (table_at 10 lists) key)
 
 -- all changes, one after the other
-pub follows_all : FollowTrips → (changes : List Change) (lists : List (List Row)) (rows : Rows) → TellRows lists rows → TellRows (listed_all changes lists) (changed changes rows)
+pub follows_all : FollowTrips → (changes : List Change) (lists : List (List Row)) (maps : Maps) → TellRows lists maps → TellRows (listed_all changes lists) (changed changes maps)
 unfolding listed_all changed
-follows_all laws [] lists rows h = h
-follows_all laws (one ∷ changes) lists rows h = follows_all laws changes (listed one lists) (change rows one) (follows laws lists rows one h)
+follows_all laws [] lists maps h = h
+follows_all laws (one ∷ changes) lists maps h = follows_all laws changes (listed one lists) (change maps one) (follows laws lists maps one h)
 
 -- ---- changes in turn
 

@@ -9,10 +9,10 @@ use Rattle.sqlite_schema.specs.declared.schema.Schema.{Schema}
 use Rattle.sqlite_schema.specs.declared.schema.Table.{Table}
 use Rattle.sqlite.specs.Effect.{Database}
 use Rattle.agv_world.specs.Changes.{changed}
-use Rattle.agv_world.specs.Rows.{Rows}
+use Rattle.agv_world.specs.Maps.{Maps}
 use Rattle.agv_world.specs.declared.change.Change.{Change}
 use Rattle.agv_schema.specs.DeskRows.{Placing, Holds, HaveRows, IsDesk, table_for, table_in, table_names, width_of}
-use Rattle.agv_rows.specs.RowLists.{ActsAreOfJobs, AreAlike, TellRows, listed_all, row_lists}
+use Rattle.agv_rows.specs.Rows.{ActsAreOfJobs, AreAlike, TellRows, listed_all, row_lists}
 use Rattle.agv_schema.specs.declared.table_name.TableName.{TableName}
 
 -- ---- lists
@@ -76,18 +76,18 @@ one_lists desk other db lists others is too h g =
 
 -- lists that tell the rows of a world tell, after changes of the lists, the rows after those changes
 abbrev pub FollowAll : Type 0
-FollowAll = (changes : List Change) (lists : List (List Row)) (rows : Rows) → TellRows lists rows → TellRows (listed_all changes lists) (changed changes rows)
+FollowAll = (changes : List Change) (lists : List (List Row)) (maps : Maps) → TellRows lists maps → TellRows (listed_all changes lists) (changed changes maps)
 
-pub held_changed : FollowAll → (desk : Placing) (old new : Database) (changes : List Change) (rows : Rows)
+pub held_changed : FollowAll → (desk : Placing) (old new : Database) (changes : List Change) (maps : Maps)
     → ((lists : List (List Row)) → Holds desk old lists → Holds desk new (listed_all changes lists))
-    → Holds desk old (row_lists rows) → Holds desk new (row_lists (changed changes rows))
-held_changed follow desk old new changes rows made h =
-    held_alike desk new (listed_all changes (row_lists rows)) (row_lists (changed changes rows)) (follow changes (row_lists rows) rows (alike_itself (row_lists rows))) (made (row_lists rows) h)
+    → Holds desk old (row_lists maps) → Holds desk new (row_lists (changed changes maps))
+held_changed follow desk old new changes maps made h =
+    held_alike desk new (listed_all changes (row_lists maps)) (row_lists (changed changes maps)) (follow changes (row_lists maps) maps (alike_itself (row_lists maps))) (made (row_lists maps) h)
 
 -- lists tell the rows of one world
 abbrev pub TellOneWorld : Type 0
-TellOneWorld = (lists : List (List Row)) (rows others : Rows) → ActsAreOfJobs rows → ActsAreOfJobs others → TellRows lists rows → TellRows lists others → rows ≡ others
+TellOneWorld = (lists : List (List Row)) (maps others : Maps) → ActsAreOfJobs maps → ActsAreOfJobs others → TellRows lists maps → TellRows lists others → maps ≡ others
 
-pub one_rows_held : TellOneWorld → (desk other : Placing) (db : Database) (a b : Rows) → IsDesk desk → IsDesk other → ActsAreOfJobs a → ActsAreOfJobs b → Holds desk db (row_lists a) → Holds other db (row_lists b) → a ≡ b
+pub one_rows_held : TellOneWorld → (desk other : Placing) (db : Database) (a b : Maps) → IsDesk desk → IsDesk other → ActsAreOfJobs a → ActsAreOfJobs b → Holds desk db (row_lists a) → Holds other db (row_lists b) → a ≡ b
 one_rows_held tell desk other db a b is too known other_known h g =
     tell (row_lists a) a b known other_known (alike_itself (row_lists a)) (one_lists desk other db (row_lists a) (row_lists b) is too h g)

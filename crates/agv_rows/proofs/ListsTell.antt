@@ -16,13 +16,13 @@ use Rattle.agv_trip_rows.specs.ActKeys.{act_cmp-total, act_cmp-IsAntisymmetric}
 use Rattle.agv_trip_rows.specs.TripRows.{acts_of, journeys_of}
 use Rattle.agv_trip_rows.specs.TripsTold.{IsOfJob}
 use Rattle.agv_world.specs.KeyOrders.{leg_cmp-total, leg_cmp-IsAntisymmetric, use_cmp-total, use_cmp-IsAntisymmetric}
-use Rattle.agv_world.specs.Rows.{Rows}
+use Rattle.agv_world.specs.Maps.{Maps}
 use Rattle.agv_world.specs.declared.row.JobRow.{JobRow}
 use Rattle.agv_rows.specs.ValueEncodings.{number_cell}
 use Rattle.agv_rows.specs.Columns.{meta_columns, node_columns, edge_columns, station_columns, vehicle_columns, vehicle_capacity_columns, journey_columns, act_columns, leg_columns, load_columns, job_columns, hold_columns, used_columns}
 use Rattle.agv_schema.specs.DeskRows.{table_at, has_key}
 use Rattle.agv_rows.specs.RowKeys.{name_key, vehicle_key, act_row_key, leg_key, hold_key}
-use Rattle.agv_rows.specs.RowLists.{ActsAreOfJobs, AreAlike, TellRows, row_lists, marked, rows_for, rows_in}
+use Rattle.agv_rows.specs.Rows.{ActsAreOfJobs, AreAlike, TellRows, marked, row_lists, rows_for, rows_in}
 use Rattle.agv_schema.specs.declared.table_name.TableName.TheVariants as the
 use Rattle.agv_rows.proofs.ColumnsTell.{meta_tells, edge_tells, station_tells, capacity_tells, vehicle_tells, journey_tells, act_tells, leg_tells, load_tells, job_tells, hold_tells}
 use Rattle.agv_rows.proofs.KeyedRows.{one_row, one_table, row-found, rows_at, same_row}
@@ -55,7 +55,7 @@ same_columns total apart columns has tested m n rows h g k x y at there =
 -- ---- trips
 
 -- journeys, acts and jobs of two worlds are the same: so are the trips
-same_trips : TellOneTable → (a b : Rows) → ActsAreOfJobs a → ActsAreOfJobs b → journeys_of a.trips ≡ journeys_of b.trips → acts_of a.trips ≡ acts_of b.trips → a.jobs ≡ b.jobs → a.trips ≡ b.trips
+same_trips : TellOneTable → (a b : Maps) → ActsAreOfJobs a → ActsAreOfJobs b → journeys_of a.trips ≡ journeys_of b.trips → acts_of a.trips ≡ acts_of b.trips → a.jobs ≡ b.jobs → a.trips ≡ b.trips
 same_trips one a b known other_known journeys acts jobs =
     one (journeys_of a.trips) (acts_of a.trips) a.jobs a.trips b.trips
     (record { has_journeys = refl; has_acts = refl; of_jobs = known })
@@ -67,7 +67,7 @@ same_trips one a b known other_known journeys acts jobs =
 
 -- ---- all tables
 
-pub one_rows : TellOneTable → (lists : List (List Row)) (a b : Rows) → ActsAreOfJobs a → ActsAreOfJobs b → TellRows lists a → TellRows lists b → a ≡ b
+pub one_rows : TellOneTable → (lists : List (List Row)) (a b : Maps) → ActsAreOfJobs a → ActsAreOfJobs b → TellRows lists a → TellRows lists b → a ≡ b
 unfolding row_lists
 one_rows one lists a b known other_known h g =
     let meta = one_table nat_cmp_total nat_cmp-IsAntisymmetric meta_columns (λ k. has_key the.Meta (number_cell k ∷ [])) meta_tested a.meta b.meta (table_at 0 lists)

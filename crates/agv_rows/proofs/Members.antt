@@ -5,7 +5,7 @@ use Rattle.std.specs.FinMap as finite
 use Rattle.std.specs.FinSet as set
 use Rattle.std.specs.List.{list_any}
 use Rattle.std.specs.Ordering.{eq_by_cmp}
-use Rattle.agv_rows.specs.RowLists.{marked}
+use Rattle.agv_rows.specs.Rows.{marked}
 
 abbrev pub mark : Bool → Option (Unit {0})
 mark b = cond b (Some tt) None

@@ -7,7 +7,7 @@ use Rattle.agv_header.specs.declared.key.VehicleKey.{VehicleKey}
 use Rattle.agv_order.specs.declared.trip.Trip.{Trip}
 use Rattle.agv_world.specs.ConsistentTrips.{HasTrip, HasConsistentTrips}
 use Rattle.agv_world.specs.Questions.{trip_of}
-use Rattle.agv_world.specs.Rows.{rows_of, rows_of_trip, trip_row}
+use Rattle.agv_world.specs.Maps.{maps_of, rows_of_trip, trip_row}
 use Rattle.agv_world.specs.Told.{edges_of}
 use Rattle.agv_world.specs.Worlds.{Vehicle, World}
 use Rattle.agv_world.specs.declared.row.TripRow.{TripRow}
@@ -22,16 +22,16 @@ open_there : (o : Option Vehicle) (trip : Trip) → option_and_then (λ (vehicle
 open_there None trip is = absurd (cc is)
 open_there (Some vehicle) trip is = (vehicle, refl, is)
 
-module _ (world : World) (good : HasConsistentTrips world) (ways : (key : VehicleKey) (trip : Trip) → trip_of world key ≡ Some trip → trip.edges ≡ edges_of (tables_of (rows_of world)) trip.order) where
-  rows_there : (key : VehicleKey) (trip : Trip) → trip_of world key ≡ Some trip → (trip.vehicle ≡ key) × HasTripRows (rows_of world) trip
+module _ (world : World) (good : HasConsistentTrips world) (ways : (key : VehicleKey) (trip : Trip) → trip_of world key ≡ Some trip → trip.edges ≡ edges_of (tables_of (maps_of world)) trip.order) where
+  rows_there : (key : VehicleKey) (trip : Trip) → trip_of world key ≡ Some trip → (trip.vehicle ≡ key) × HasTripRows (maps_of world) trip
   rows_there key trip is =
       let has : HasTrip world key trip = open_there (finite.get world.vehicles key) trip is in
       let own : trip.vehicle ≡ key = good.own key trip has in
-      let at : finite.get (rows_of world).trips trip.order ≡ Some (trip_row key trip) =
+      let at : finite.get (maps_of world).trips trip.order ≡ Some (trip_row key trip) =
       (trips_of world good).into key has.0 trip.order (trip_row key trip) has.1 (ap (λ o. finite.find name_cmp trip.order (rows_of_trip key o)) has.2 ∙ own_key names_total trip.order (trip_row key trip)) in
-      (own, (subst (λ k. finite.get (rows_of world).trips trip.order ≡ Some (trip_row k trip)) (sym own) at, ways key trip is))
+      (own, (subst (λ k. finite.get (maps_of world).trips trip.order ≡ Some (trip_row k trip)) (sym own) at, ways key trip is))
 
-  trip_there : (key : VehicleKey) (trip : Trip) → (trip.vehicle ≡ key) × HasTripRows (rows_of world) trip → trip_of world key ≡ Some trip
+  trip_there : (key : VehicleKey) (trip : Trip) → (trip.vehicle ≡ key) × HasTripRows (maps_of world) trip → trip_of world key ≡ Some trip
   trip_there key trip are =
       let one = trip_own world trip.order (trip_row trip.vehicle trip) are.1.0 in
       let row_is : trip_row one.key one.trip ≡ trip_row trip.vehicle trip = one.row_is in
@@ -39,7 +39,7 @@ module _ (world : World) (good : HasConsistentTrips world) (ways : (key : Vehicl
       let is : trip_of world one.key ≡ Some one.trip = ap (option_and_then (λ (vehicle : Vehicle). vehicle.trip)) one.there ∙ one.has in
       let own : one.trip.vehicle ≡ trip.vehicle = good.own one.key one.trip (one.vehicle, one.there, one.has) ∙ its_key in
       let order : one.trip.order ≡ trip.order = sym one.order_is in
-      let edges : one.trip.edges ≡ trip.edges = ways one.key one.trip is ∙ ap (edges_of (tables_of (rows_of world))) order ∙ sym are.1.1 in
+      let edges : one.trip.edges ≡ trip.edges = ways one.key one.trip is ∙ ap (edges_of (tables_of (maps_of world))) order ∙ sym are.1.1 in
       let same : one.trip ≡ trip = λ i. record {
         order = order i;
         vehicle = own i;
@@ -54,5 +54,5 @@ module _ (world : World) (good : HasConsistentTrips world) (ways : (key : Vehicl
       } in
       ap (trip_of world) (sym are.0 ∙ sym its_key) ∙ is ∙ ap Some same
 
-  pub has_its_rows : (key : VehicleKey) (trip : Trip) → (trip_of world key ≡ Some trip) ↔ ((trip.vehicle ≡ key) × HasTripRows (rows_of world) trip)
+  pub has_its_rows : (key : VehicleKey) (trip : Trip) → (trip_of world key ≡ Some trip) ↔ ((trip.vehicle ≡ key) × HasTripRows (maps_of world) trip)
   has_its_rows key trip = (rows_there key trip, trip_there key trip)

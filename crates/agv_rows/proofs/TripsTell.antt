@@ -20,14 +20,14 @@ use Rattle.agv_trip_rows.specs.declared.journey_row.JourneyRow.{JourneyRow}
 use Rattle.agv_world.specs.ConsistentTrips.{HasConsistentTrips}
 use Rattle.agv_world.specs.Kept.{Keeps}
 use Rattle.agv_world.specs.Questions.{trip_of}
-use Rattle.agv_world.specs.Rows.{rows_of}
+use Rattle.agv_world.specs.Maps.{maps_of}
 use Rattle.agv_world.specs.Told.{edges_of, names_vehicle, open_trip, trip_in, vehicle_in, vehicles_in, vehicles_of, world_of}
 use Rattle.agv_world.specs.Worlds.{Vehicle, World}
 use Rattle.agv_world.specs.declared.row.JobRow.{JobRow}
 use Rattle.agv_world.specs.declared.row.TripRow.{TripRow}
 use Rattle.agv_world.specs.declared.row.VehicleRow.{VehicleRow}
 use Rattle.agv_world.specs.declared.world.World.{World as Tables}
-use Rattle.agv_rows.specs.RowLists.{ActsAreOfJobs}
+use Rattle.agv_rows.specs.Rows.{ActsAreOfJobs}
 use Rattle.agv_rows.specs.DecodedTrips.{is_driven_by, journey_for, tables_of, told_by_journey, trip_with, trips_with}
 use Rattle.agv_schema.proofs.FewEntries.{found_entry}
 use Rattle.agv_rows.proofs.KeyTests.{names_apart}
@@ -62,7 +62,7 @@ TablesTell = (tables : Tables) (world : World) → Keeps tables world → HasCon
 
 -- the row of the trip of a vehicle: the first that names it
 abbrev trip_row_for : World → VehicleKey → Option (List ℕ × TripRow)
-trip_row_for world key = find (names_vehicle key) (finite.entries (rows_of world).trips)
+trip_row_for world key = find (names_vehicle key) (finite.entries (maps_of world).trips)
 
 -- a trip with its order, as its journey
 abbrev journey_at : List ℕ × TripRow → List ℕ × JourneyRow
@@ -85,12 +85,12 @@ listed_again : (trips : finite.FinMap name_cmp TripRow) → finite.from_entries 
 listed_again trips =
     finite.same_map nat_list_cmp_total names_apart _ _ (λ q. finite.get-from_entries nat_list_cmp_total (finite.entries trips) q ∙ sym (finite.get-entries trips q))
 
-module _ (journeys : JourneysListed) (acts : ActsListed) (found : ActsFound) (told : ActsTold) (world : World) (of_jobs : ActsAreOfJobs (rows_of world)) where
+module _ (journeys : JourneysListed) (acts : ActsListed) (found : ActsFound) (told : ActsTold) (world : World) (of_jobs : ActsAreOfJobs (maps_of world)) where
   abbrev trips : finite.FinMap name_cmp TripRow
-  trips = (rows_of world).trips
+  trips = (maps_of world).trips
 
   abbrev jobs : finite.FinMap name_cmp JobRow
-  jobs = (rows_of world).jobs
+  jobs = (maps_of world).jobs
 
   -- the acts of an order are those of its trip
   own_acts : (order : List ℕ) → filter (is_of order) (finite.entries (acts_of trips)) ≡ rows_if (act_rows order) (finite.get trips order)
@@ -119,12 +119,12 @@ module _ (journeys : JourneysListed) (acts : ActsListed) (found : ActsFound) (to
       ∙ listed_again trips
 
   -- the journey of a vehicle is that of the first row that names it
-  journey_is : (key : VehicleKey) → journey_for (rows_of world) key ≡ option_map journey_at (trip_row_for world key)
+  journey_is : (key : VehicleKey) → journey_for (maps_of world) key ≡ option_map journey_at (trip_row_for world key)
   journey_is key = ap (find (is_driven_by key)) (journeys trips) ∙ driven key (finite.entries trips)
 
   module _ (tell : TablesTell) (good : HasConsistentTrips world) where
     abbrev tables : Tables
-    tables = tables_of (rows_of world)
+    tables = tables_of (maps_of world)
 
     again : world_of tables ≡ world
     again = tell tables world (record { nodes = refl; edges = refl; stations = refl; vehicles = refl; trips = refl; legs = refl; loads = refl; jobs = refl; used = refl }) good
@@ -143,11 +143,11 @@ module _ (journeys : JourneysListed) (acts : ActsListed) (found : ActsFound) (to
     entry_of : (key : VehicleKey) (e : List ℕ × TripRow) → trip_row_for world key ≡ Some e → (finite.get trips e.0 ≡ Some e.1) × (names_vehicle key e ≡ true)
     entry_of key e is = found_entry nat_list_cmp_total trips (names_vehicle key) e is
 
-    entry_told : (key : VehicleKey) (e : List ℕ × TripRow) → trip_row_for world key ≡ Some e → told_by_journey (rows_of world) (journey_at e) ≡ Some (trip_in tables e)
+    entry_told : (key : VehicleKey) (e : List ℕ × TripRow) → trip_row_for world key ≡ Some e → told_by_journey (maps_of world) (journey_at e) ≡ Some (trip_in tables e)
     entry_told key e is = ap (option_map (trip_in tables)) (with_acts e.0 e.1 (entry_of key e is).0)
 
     by_row : (key : VehicleKey) (o : Option (List ℕ × TripRow)) → trip_row_for world key ≡ o → (v : Option Vehicle) → finite.get world.vehicles key ≡ v
-        → option_and_then (λ (vehicle : Vehicle). vehicle.trip) v ≡ option_and_then (told_by_journey (rows_of world)) (option_map journey_at o)
+        → option_and_then (λ (vehicle : Vehicle). vehicle.trip) v ≡ option_and_then (told_by_journey (maps_of world)) (option_map journey_at o)
     by_row key None is None at = refl
     by_row key None is (Some vehicle) at = sym (opened key vehicle at) ∙ opens key ∙ ap (option_map (trip_in tables)) is
     by_row key (Some e) is None at =
@@ -159,14 +159,14 @@ module _ (journeys : JourneysListed) (acts : ActsListed) (found : ActsFound) (to
     by_row key (Some e) is (Some vehicle) at = sym (opened key vehicle at) ∙ opens key ∙ ap (option_map (trip_in tables)) is ∙ sym (entry_told key e is)
 
     -- the trip of a vehicle is told by its journey
-    pub trip_again : (key : VehicleKey) → trip_of world key ≡ option_and_then (told_by_journey (rows_of world)) (journey_for (rows_of world) key)
-    trip_again key = by_row key (trip_row_for world key) refl (finite.get world.vehicles key) refl ∙ ap (option_and_then (told_by_journey (rows_of world))) (sym (journey_is key))
+    pub trip_again : (key : VehicleKey) → trip_of world key ≡ option_and_then (told_by_journey (maps_of world)) (journey_for (maps_of world) key)
+    trip_again key = by_row key (trip_row_for world key) refl (finite.get world.vehicles key) refl ∙ ap (option_and_then (told_by_journey (maps_of world))) (sym (journey_is key))
 
 -- the edges of a trip that is told are those that the rows of its order tell
-pub told_way : (world : World) (o : Option (List ℕ × JourneyRow)) (trip : Trip) → option_and_then (told_by_journey (rows_of world)) o ≡ Some trip → trip.edges ≡ edges_of (tables_of (rows_of world)) trip.order
+pub told_way : (world : World) (o : Option (List ℕ × JourneyRow)) (trip : Trip) → option_and_then (told_by_journey (maps_of world)) o ≡ Some trip → trip.edges ≡ edges_of (tables_of (maps_of world)) trip.order
 told_way world None trip is = absurd (cc is)
-told_way world (Some journey) trip is = at (trip_with (acts_of (rows_of world).trips) (rows_of world).jobs journey) is
+told_way world (Some journey) trip is = at (trip_with (acts_of (maps_of world).trips) (maps_of world).jobs journey) is
   where
-    at : (told : Option (List ℕ × TripRow)) → option_map (λ (row : List ℕ × TripRow). trip_in (tables_of (rows_of world)) row) told ≡ Some trip → trip.edges ≡ edges_of (tables_of (rows_of world)) trip.order
+    at : (told : Option (List ℕ × TripRow)) → option_map (λ (row : List ℕ × TripRow). trip_in (tables_of (maps_of world)) row) told ≡ Some trip → trip.edges ≡ edges_of (tables_of (maps_of world)) trip.order
     at None is = absurd (cc is)
-    at (Some row) is = subst (λ (t : Trip). t.edges ≡ edges_of (tables_of (rows_of world)) t.order) (same_Some _ _ is) refl
+    at (Some row) is = subst (λ (t : Trip). t.edges ≡ edges_of (tables_of (maps_of world)) t.order) (same_Some _ _ is) refl

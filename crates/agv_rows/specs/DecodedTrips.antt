@@ -16,7 +16,7 @@ use Rattle.agv_trip_rows.specs.TripRows.{acts_of, is_of, journeys_of}
 use Rattle.agv_trip_rows.specs.TripsTold.{acts_told, trip_told}
 use Rattle.agv_trip_rows.specs.declared.act_row.ActRow.{ActRow}
 use Rattle.agv_trip_rows.specs.declared.journey_row.JourneyRow.{JourneyRow}
-use Rattle.agv_world.specs.Rows.{Rows, trip_row}
+use Rattle.agv_world.specs.Maps.{Maps, trip_row}
 use Rattle.agv_world.specs.Told.{edges_of, trip_in}
 use Rattle.agv_world.specs.declared.row.JobRow.{JobRow}
 use Rattle.agv_world.specs.declared.row.TripRow.{TripRow}
@@ -50,18 +50,18 @@ trips_with journeys acts jobs = finite.from_entries (filter_map (trip_with acts 
 
 -- ---- the trip of a vehicle
 
--- the tables in memory that are those of the rows
-abbrev pub tables_of : Rows → Tables
-tables_of rows = record {
-  nodes = rows.nodes;
-  edges = rows.edges;
-  stations = rows.stations;
-  vehicles = rows.vehicles;
-  trips = rows.trips;
-  legs = rows.legs;
-  loads = rows.loads;
-  jobs = rows.jobs;
-  used = rows.used;
+-- the tables in memory of these maps
+abbrev pub tables_of : Maps → Tables
+tables_of maps = record {
+  nodes = maps.nodes;
+  edges = maps.edges;
+  stations = maps.stations;
+  vehicles = maps.vehicles;
+  trips = maps.trips;
+  legs = maps.legs;
+  loads = maps.loads;
+  jobs = maps.jobs;
+  used = maps.used;
 }
 
 -- the row names the vehicle
@@ -69,12 +69,12 @@ abbrev pub is_driven_by : VehicleKey → List ℕ × JourneyRow → Bool
 is_driven_by key journey = key_eq journey.1.vehicle key
 
 -- the journey of a vehicle: the first, in the order of orders, that names it
-abbrev pub journey_for : Rows → VehicleKey → Option (List ℕ × JourneyRow)
-journey_for rows key = find (is_driven_by key) (finite.entries (journeys_of rows.trips))
+abbrev pub journey_for : Maps → VehicleKey → Option (List ℕ × JourneyRow)
+journey_for maps key = find (is_driven_by key) (finite.entries (journeys_of maps.trips))
 
 -- the trip of a journey with the acts of its order, where their jobs are known, and the edges of the order
-abbrev pub told_by_journey : Rows → List ℕ × JourneyRow → Option Trip
-told_by_journey rows journey = option_map (λ trip. trip_in (tables_of rows) trip) (trip_with (acts_of rows.trips) rows.jobs journey)
+abbrev pub told_by_journey : Maps → List ℕ × JourneyRow → Option Trip
+told_by_journey maps journey = option_map (λ trip. trip_in (tables_of maps) trip) (trip_with (acts_of maps.trips) maps.jobs journey)
 
 -- the trip of a journey that has these edges and these acts
 abbrev pub trip_told_by : List ℕ × JourneyRow → List Edge → List Act → Trip
@@ -92,6 +92,6 @@ trip_told_by journey edges acts = record {
 }
 
 -- the row of the order of this trip, and the rows of its edges, are those of the trip
-abbrev pub HasTripRows : Rows → Trip → Type 0
-HasTripRows rows trip =
-    (finite.get rows.trips trip.order ≡ Some (trip_row trip.vehicle trip)) × (trip.edges ≡ edges_of (tables_of rows) trip.order)
+abbrev pub HasTripRows : Maps → Trip → Type 0
+HasTripRows maps trip =
+    (finite.get maps.trips trip.order ≡ Some (trip_row trip.vehicle trip)) × (trip.edges ≡ edges_of (tables_of maps) trip.order)

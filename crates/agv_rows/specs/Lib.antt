@@ -1,6 +1,6 @@
 pub mod Columns
 pub mod DecodedTrips
 pub mod RowKeys
-pub mod RowLists
+pub mod Rows
 pub mod TypedRows
 pub mod ValueEncodings

@@ -5,24 +5,24 @@ ghost use Rattle.sqlite_value.specs.Order.{Row};
 ghost use Rattle.sqlite.specs.Effect.{Database};
 ghost use Rattle.agv_world.specs.Changes.{change, changed};
 ghost use Rattle.agv_world.specs.Lawful.{IsLawful};
-ghost use Rattle.agv_world.specs.Rows.{Rows, rows_of};
+ghost use Rattle.agv_world.specs.Maps.{Maps, maps_of};
 ghost use Rattle.agv_world.specs.Worlds.{World};
 ghost use Rattle.agv_world.specs.declared.change.Change.{Change};
 ghost use Rattle.agv_schema.specs.SchemaNumbers.{desk_seats};
 ghost use Rattle.agv_schema.specs.DeskRows.{Placing, Holds, IsDesk};
-ghost use Rattle.agv_rows.specs.RowLists.{ActsAreOfJobs, AreAlike, HoldsWorld, TellRows, listed, listed_all, row_lists};
+ghost use Rattle.agv_rows.specs.Rows.{ActsAreOfJobs, AreAlike, HoldsWorld, TellRows, listed, listed_all, row_lists};
 ghost use Rattle.agv_schema.specs.declared.table_name.TableName.TheVariants as the;
 
 use agv_trip_rows::row_laws::{rows_follow_changes, rows_have_keys};
 use agv_trip_rows::trip_laws::{lawful_rows_tell_trips, rows_tell_one_table};
 use agv_world::lawful_laws::has_consistent_trips;
-use agv_world::laws::rows_tell_the_world;
+use agv_world::laws::maps_tell_the_world;
 
 /// Lists that tell the rows of a world tell, after a change of the lists, the rows after that change; and so they
 /// do after many, which are made in turn.
 pub fn lists_follow_changes()
-    ensures one { (one : Change) (lists : List (List Row)) (rows : Rows) → TellRows lists rows → TellRows (listed one lists) (change rows one) }
-    ensures all { (changes : List Change) (lists : List (List Row)) (rows : Rows) → TellRows lists rows → TellRows (listed_all changes lists) (changed changes rows) }
+    ensures one { (one : Change) (lists : List (List Row)) (maps : Maps) → TellRows lists maps → TellRows (listed one lists) (change maps one) }
+    ensures all { (changes : List Change) (lists : List (List Row)) (maps : Maps) → TellRows lists maps → TellRows (listed_all changes lists) (changed changes maps) }
     ensures in_turn { (first later : List Change) (lists : List (List Row)) → listed_all (first ++ later) lists ≡ listed_all later (listed_all first lists) }
 {
     rows_have_keys();
@@ -31,15 +31,15 @@ pub fn lists_follow_changes()
 
 /// Lists encode the rows of only one world, where each act has the load and the station of its job.
 pub fn lists_tell_one_world()
-    ensures { (lists : List (List Row)) (rows others : Rows) → ActsAreOfJobs rows → ActsAreOfJobs others
-        → TellRows lists rows → TellRows lists others → rows ≡ others }
+    ensures { (lists : List (List Row)) (maps others : Maps) → ActsAreOfJobs maps → ActsAreOfJobs others
+        → TellRows lists maps → TellRows lists others → maps ≡ others }
 {
     rows_tell_one_table();
 }
 
 /// In a lawful world each act of an open trip has the load and the station of its job, which is known.
 pub fn lawful_acts_are_of_jobs()
-    ensures { (world : World) → IsLawful desk_seats world → ActsAreOfJobs (rows_of world) }
+    ensures { (world : World) → IsLawful desk_seats world → ActsAreOfJobs (maps_of world) }
 {
     lawful_rows_tell_trips();
 }
@@ -57,7 +57,7 @@ pub fn a_database_has_one_list_for_each_table()
 pub fn a_database_follows_changes()
     ensures { (desk : Placing) (old new : Database) (changes : List Change)
         → ((lists : List (List Row)) → Holds desk old lists → Holds desk new (listed_all changes lists))
-        → (rows : Rows) → Holds desk old (row_lists rows) → Holds desk new (row_lists (changed changes rows)) }
+        → (maps : Maps) → Holds desk old (row_lists maps) → Holds desk new (row_lists (changed changes maps)) }
 {
     lists_follow_changes();
 }
@@ -70,5 +70,5 @@ pub fn a_database_tells_one_world()
     lists_tell_one_world();
     lawful_acts_are_of_jobs();
     has_consistent_trips();
-    rows_tell_the_world();
+    maps_tell_the_world();
 }

@@ -14,7 +14,7 @@ ghost use Rattle.agv_trip_rows.specs.declared.act_row.ActRow.{ActRow};
 ghost use Rattle.agv_trip_rows.specs.declared.journey_row.JourneyRow.{JourneyRow};
 ghost use Rattle.agv_world.specs.Lawful.{IsLawful};
 ghost use Rattle.agv_world.specs.Questions.{row_of, trip_of};
-ghost use Rattle.agv_world.specs.Rows.{rows_of};
+ghost use Rattle.agv_world.specs.Maps.{maps_of};
 ghost use Rattle.agv_world.specs.Told.{edges_of};
 ghost use Rattle.agv_world.specs.Worlds.{World};
 ghost use Rattle.agv_schema.specs.SchemaNumbers.{desk_seats};
@@ -34,20 +34,20 @@ use agv_world::laws::tables_tell_the_world;
 /// ranges, and names are names.
 pub fn rows_tell_trips()
     ensures trip { (world : World) → IsLawful desk_seats world → (key : VehicleKey)
-        → trip_of world key ≡ option_and_then (told_by_journey (rows_of world)) (journey_for (rows_of world) key) }
+        → trip_of world key ≡ option_and_then (told_by_journey (maps_of world)) (journey_for (maps_of world) key) }
     ensures one { (world : World) → IsLawful desk_seats world → (key : VehicleKey) (a b : List ℕ × JourneyRow)
-        → finite.get (journeys_of (rows_of world).trips) a.0 ≡ Some a.1 → finite.get (journeys_of (rows_of world).trips) b.0 ≡ Some b.1
+        → finite.get (journeys_of (maps_of world).trips) a.0 ≡ Some a.1 → finite.get (journeys_of (maps_of world).trips) b.0 ≡ Some b.1
         → is_driven_by key a ≡ true → is_driven_by key b ≡ true → a.0 ≡ b.0 }
     ensures acts { (world : World) → IsLawful desk_seats world → (order : List ℕ)
-        → (acts : List Act) × (acts_told (rows_of world).jobs 0 (filter (is_of order) (finite.entries (acts_of (rows_of world).trips))) ≡ Some acts) }
+        → (acts : List Act) × (acts_told (maps_of world).jobs 0 (filter (is_of order) (finite.entries (acts_of (maps_of world).trips))) ≡ Some acts) }
     ensures all { (world : World) → IsLawful desk_seats world
-        → trips_with (journeys_of (rows_of world).trips) (acts_of (rows_of world).trips) (rows_of world).jobs ≡ (rows_of world).trips }
+        → trips_with (journeys_of (maps_of world).trips) (acts_of (maps_of world).trips) (maps_of world).jobs ≡ (maps_of world).trips }
     ensures journeys { (world : World) → IsLawful desk_seats world → (order : List ℕ) (journey : JourneyRow)
-        → finite.get (journeys_of (rows_of world).trips) order ≡ Some journey → IsName order × IsJourneyRow journey }
+        → finite.get (journeys_of (maps_of world).trips) order ≡ Some journey → IsName order × IsJourneyRow journey }
     ensures act_values { (world : World) → IsLawful desk_seats world → (key : ActKey) (act : ActRow)
-        → finite.get (acts_of (rows_of world).trips) key ≡ Some act → IsActRowKey key × IsActRow act }
+        → finite.get (acts_of (maps_of world).trips) key ≡ Some act → IsActRowKey key × IsActRow act }
     ensures ways { (world : World) → IsLawful desk_seats world → (key : VehicleKey) (trip : Trip)
-        → trip_of world key ≡ Some trip → trip.edges ≡ edges_of (tables_of (rows_of world)) trip.order }
+        → trip_of world key ≡ Some trip → trip.edges ≡ edges_of (tables_of (maps_of world)) trip.order }
 {
     rows_have_keys();
     tables_have_rows();
@@ -62,7 +62,7 @@ pub fn rows_tell_trips()
 /// In a lawful world the open trip of a vehicle is the one that names the vehicle, and whose rows the world has.
 pub fn rows_have_trips()
     ensures { (world : World) → IsLawful desk_seats world → (key : VehicleKey) (trip : Trip)
-        → (trip_of world key ≡ Some trip) ↔ ((trip.vehicle ≡ key) × HasTripRows (rows_of world) trip) }
+        → (trip_of world key ≡ Some trip) ↔ ((trip.vehicle ≡ key) × HasTripRows (maps_of world) trip) }
 {
     has_consistent_trips();
     rows_tell_trips();
@@ -70,5 +70,5 @@ pub fn rows_have_trips()
 
 /// The row of a vehicle is the row of its key.
 pub fn rows_have_vehicles()
-    ensures { (world : World) (key : VehicleKey) → finite.get (rows_of world).vehicles key ≡ row_of world key }
+    ensures { (world : World) (key : VehicleKey) → finite.get (maps_of world).vehicles key ≡ row_of world key }
 {}

@@ -13,7 +13,7 @@ use Rattle.agv_world.specs.Asks.{Answers, IsFaulted, Kept, failed_after}
 use Rattle.agv_world.specs.Changes.{changed}
 use Rattle.agv_world.specs.ConsistentTrips.{HasConsistentTrips}
 use Rattle.agv_world.specs.Lawful.{IsLawful}
-use Rattle.agv_world.specs.Rows.{rows_of}
+use Rattle.agv_world.specs.Maps.{maps_of}
 use Rattle.agv_world.specs.Worlds.{World}
 use Rattle.agv_world.specs.declared.change.Change.{Change}
 use Rattle.agv_world.specs.declared.fault.Fault.{Fault}
@@ -108,14 +108,14 @@ module _ {S : Type 0} (g : Ghosts S) where
       decides_mid clean = subst (λ world. Decides world at call decision) (sym (same_world clean (knows clean).is_open)) (decides_old clean)
 
       -- where no row changes
-      pub told : ((seats : ℕ) (world : World) → IsLawful seats world → HasConsistentTrips world) → ((world other : World) → HasConsistentTrips world → HasConsistentTrips other → rows_of world ≡ rows_of other → world ≡ other)
+      pub told : ((seats : ℕ) (world : World) → IsLawful seats world → HasConsistentTrips world) → ((world other : World) → HasConsistentTrips world → HasConsistentTrips other → maps_of world ≡ maps_of other → world ≡ other)
           → decision.changes ≡ [] → IsClean g mid → IsServedBy g old mid at call decision.answer
       unfolding changed
       told good one none clean =
           let still = (knows clean).is_open in
           let its = decides_old clean in
-          let rows : rows_of (world_at g old) ≡ rows_of (world_after (world_at g old) at call) = subst (λ (changes : List Change). changed changes (rows_of (world_at g old)) ≡ rows_of (world_after (world_at g old) at call)) none its.changes in
-          let same : world_at g old ≡ world_after (world_at g old) at call = one (world_at g old) _ (good desk_seats (world_at g old) (knows_before clean still).has.lawful) (good desk_seats _ its.lawful) rows in
+          let maps : maps_of (world_at g old) ≡ maps_of (world_after (world_at g old) at call) = subst (λ (changes : List Change). changed changes (maps_of (world_at g old)) ≡ maps_of (world_after (world_at g old) at call)) none its.changes in
+          let same : world_at g old ≡ world_after (world_at g old) at call = one (world_at g old) _ (good desk_seats (world_at g old) (knows_before clean still).has.lawful) (good desk_seats _ its.lawful) maps in
           record {
             answer_is = ap (λ (d : Decision). d.answer) its.decided_is ∙ answer_decided _;
             knows = subst (λ world. Knows g mid world) (same_world clean still ∙ same) (knows clean);

@@ -6,7 +6,7 @@ use Rattle.agv_world.specs.Asks.{Answers, IsFaulted, IsStill, Kept, failed_after
 use Rattle.agv_world.specs.Changes.{changed}
 use Rattle.agv_world.specs.Lawful.{IsLawful}
 use Rattle.agv_world.specs.LawfulParts.{HasLawfulVehicles}
-use Rattle.agv_world.specs.Rows.{rows_of}
+use Rattle.agv_world.specs.Maps.{maps_of}
 use Rattle.agv_world.specs.Worlds.{World}
 use Rattle.agv_world.specs.declared.fault.Fault.{Fault}
 use Rattle.agv_world.specs.declared.fault.Fault.TheVariants as machine
@@ -30,7 +30,7 @@ pub decides_in : ((seats : ℕ) (world : World) → HasLawfulVehicles seats worl
     → ((seats : ℕ) → IsSeats seats → (world : World) (at : ℕ) (call : Call) → IsLawful seats world → IsMoment at → IsWellTyped call → IsLawful seats (after world (step seats world at call)))
     → (at : ℕ) → IsMoment at → (call : Call) → IsWellTyped call → (world : World) (decision : Decision)
     → (IsWithinTripLimits world call → decision ≡ decided (outcome_in world at call))
-    → (IsInOrder world → changed decision.changes (rows_of world) ≡ rows_of (world_after world at call))
+    → (IsInOrder world → changed decision.changes (maps_of world) ≡ maps_of (world_after world at call))
     → IsLawful desk_seats world → Decides world at call decision
 decides_in order served keeps at moment call typed world decision decides changes lawful = record {
   decided_is = decides (served desk_seats world call (vehicles_of lawful));
@@ -62,7 +62,7 @@ module _ {S : Type 0} (g : Ghosts S) where
       → (at : ℕ) → IsMoment at → (call : Call) → IsWellTyped call → (decision : Decision) (a b c d : Keyed S) {P R : Type 0}
       → Answers (facts_of g) a b P
       → Answers (facts_of g) b c (IsWithinTripLimits (world_at g b.held) call → decision ≡ decided (outcome_in (world_at g b.held) at call))
-      → Answers (facts_of g) b c (IsInOrder (world_at g b.held) → changed decision.changes (rows_of (world_at g b.held)) ≡ rows_of (world_after (world_at g b.held) at call))
+      → Answers (facts_of g) b c (IsInOrder (world_at g b.held) → changed decision.changes (maps_of (world_at g b.held)) ≡ maps_of (world_after (world_at g b.held) at call))
       → Answers (facts_of g) c d R
       → Answers (facts_of g) a d (IsLawful desk_seats (world_at g a.held) → Decides (world_at g a.held) at call decision)
   unfolding IsStill

@@ -11,7 +11,7 @@ use Rattle.sqlite.specs.Held.{Held, state}
 use Rattle.agv_track.specs.Holds.{Holds as Holders}
 use Rattle.agv_world.specs.Kept.{Keeps}
 use Rattle.agv_world.specs.Lawful.{IsLawful}
-use Rattle.agv_world.specs.Rows.{rows_of}
+use Rattle.agv_world.specs.Maps.{maps_of}
 use Rattle.agv_world.specs.Worlds.{World}
 use Rattle.agv_world.specs.declared.world.World.{World as Tables}
 use Rattle.agv_row_reading.specs.WorldAnswers.{HasNoWorld, HasWorld, AnswersQuery}
@@ -19,7 +19,7 @@ use Rattle.agv_rowids.specs.Rowids.{AreTablesKeyed, TellsKeyed}
 use Rattle.agv_row_reading.specs.TablesRead.{HasCauseOverTables, HaveAll, TellsAll}
 use Rattle.agv_world_reading.specs.WorldIn.{world_in}
 use Rattle.agv_schema.specs.DeskRows.{AreKeyed, HaveRows, Holds, Placing, columns_in, table_names, width_of}
-use Rattle.agv_rows.specs.RowLists.{HoldsWorld}
+use Rattle.agv_rows.specs.Rows.{HoldsWorld}
 use Rattle.agv_schema.specs.SchemaNumbers.{desk_seats}
 use Rattle.agv_creation.specs.StandingTables.{TablesStand}
 use Rattle.agv_schema.specs.Connections.{HasStorageCause, IsClean, IsOpen}
@@ -39,7 +39,7 @@ use Rattle.agv_store.proofs.Asked.{asked_by, asked_then, clean_before, knows_sti
 abbrev pub TablesTellWorlds : Type 0
 TablesTellWorlds =
     (desk : Placing) (db : Database) (lists : List (List Row)) (tables : Tables) (holds : Holders) (world : World)
-    → Holds desk db lists → HaveAll lists tables holds → Keeps tables world → holds ≡ (rows_of world).holds → HoldsWorld desk db world
+    → Holds desk db lists → HaveAll lists tables holds → Keeps tables world → holds ≡ (maps_of world).holds → HoldsWorld desk db world
 
 abbrev pub TellsItsWorld : Type 0
 TellsItsWorld = (desk : Placing) (db : Database) (world : World) → HasWorld desk db world → world_in db ≡ world
@@ -62,7 +62,7 @@ keyed_holds at db same keyed = record { schema_is = same; rows = rows_by at db t
 
 -- these are the tables of a lawful world, and what is held is what its vehicles hold
 abbrev pub AreLawful : Tables → HeldThings → Type 0
-AreLawful tables holds = (world : World) × Keeps tables world × IsLawful desk_seats world × (holds.table ≡ (rows_of world).holds)
+AreLawful tables holds = (world : World) × Keeps tables world × IsLawful desk_seats world × (holds.table ≡ (maps_of world).holds)
 
 module _ {S : Type 0} (g : Ghosts S) where
   -- ---- a look that ends without a desk
@@ -112,7 +112,7 @@ module _ {S : Type 0} (g : Ghosts S) where
         (asked_then g old mid new asked_keys later)
 
     module _ (tables : Tables) (holds : HeldThings)
-        (read : TellsAll {A = Tables × HeldThings} g mid new (Ok (tables, holds)) (λ world read. Keeps read.0 world × (read.1.table ≡ (rows_of world).holds)) (λ lists read. HaveAll lists read.0 read.1.table)) where
+        (read : TellsAll {A = Tables × HeldThings} g mid new (Ok (tables, holds)) (λ world read. Keeps read.0 world × (read.1.table ≡ (maps_of world).holds)) (λ lists read. HaveAll lists read.0 read.1.table)) where
       later : IsAsked g mid new
       later = asked_by g {A = Tables × HeldThings} mid new (Ok (tables, holds)) _ read.tells
 
@@ -135,7 +135,7 @@ module _ {S : Type 0} (g : Ghosts S) where
 
       -- they are those of a lawful world
       module _ (tell_worlds : TablesTellWorlds) (tells_its_world : TellsItsWorld) (stand : TablesStand (state g old).now.schema)
-          (world : World) (keeps : Keeps tables world) (lawful : IsLawful desk_seats world) (held : holds.table ≡ (rows_of world).holds) where
+          (world : World) (keeps : Keeps tables world) (lawful : IsLawful desk_seats world) (held : holds.table ≡ (maps_of world).holds) where
         has_world : IsClean g new → HasWorld stand.0 (state g old).now world
         has_world clean =
             let at = stand.0 in

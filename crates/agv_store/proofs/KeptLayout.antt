@@ -7,7 +7,7 @@ use Rattle.agv_layout.specs.LayoutOf.{layout_of, rows_in}
 use Rattle.agv_layout.specs.declared.fault.LayoutFault.{LayoutFault}
 use Rattle.agv_world.specs.Changes.{change}
 use Rattle.agv_world.specs.Questions.{given, layout_set}
-use Rattle.agv_world.specs.Rows.{Rows, rows_of}
+use Rattle.agv_world.specs.Maps.{Maps, maps_of}
 use Rattle.agv_world.specs.Worlds.{World, empty_layout}
 use Rattle.agv_world.specs.declared.change.Change.{Change}
 use Rattle.agv_world.specs.declared.change.Change.TheVariants as row
@@ -28,11 +28,11 @@ if_some P (Some b) a is so = subst P (same_Some b a is) so
 
 -- ---- what it says
 
-pub agrees_with : (kept : Option Layout) (world : World) → IsLayoutOf kept (rows_of world) → AgreesWith kept world
+pub agrees_with : (kept : Option Layout) (world : World) → IsLayoutOf kept (maps_of world) → AgreesWith kept world
 agrees_with None world is = tt
 agrees_with (Some layout) world is = is
 
-pub agreed_layout : (kept : Option Layout) (world : World) (layout : Layout) → kept ≡ Some layout → IsLayoutOf kept (rows_of world) → layout ≡ world.layout
+pub agreed_layout : (kept : Option Layout) (world : World) (layout : Layout) → kept ≡ Some layout → IsLayoutOf kept (maps_of world) → layout ≡ world.layout
 agreed_layout None world layout is agrees = absurd (cc is)
 agreed_layout (Some own) world layout is agrees = sym (same_Some own layout is) ∙ agrees
 
@@ -52,25 +52,25 @@ unfolding layout_set
 set_is gives needs world (inl none) layout is = absurd (needs world.layout layout (ap (λ (l : Layout). l.nodes) none) (from_given (layout_of (rows_in world.layout)) layout is))
 set_is gives needs world (inr rules) layout is = same_Some layout world.layout (is ∙ ap given (gives world.layout rules))
 
-pub agrees_set : GivesItself → NeedsANode → (world : World) → (world.layout ≡ empty_layout) ⊎ KeepsRules world.layout → (layout : Option Layout) → layout ≡ layout_set world → IsLayoutOf layout (rows_of world)
+pub agrees_set : GivesItself → NeedsANode → (world : World) → (world.layout ≡ empty_layout) ⊎ KeepsRules world.layout → (layout : Option Layout) → layout ≡ layout_set world → IsLayoutOf layout (maps_of world)
 agrees_set gives needs world laid None is = tt
 agrees_set gives needs world laid (Some layout) is = set_is gives needs world laid layout is
 
 -- ---- rows that are written
 
 -- a row that is none of the layout leaves it
-pub layout_stays : (layout : Option Layout) (one : Change) → is_of_layout one ≡ false → (rows : Rows) → IsLayoutOf layout rows → IsLayoutOf layout (change rows one)
-layout_stays None one none rows is = tt
-layout_stays (Some layout) one none rows is = is ∙ sym (stays_by one rows none)
+pub layout_stays : (layout : Option Layout) (one : Change) → is_of_layout one ≡ false → (maps : Maps) → IsLayoutOf layout maps → IsLayoutOf layout (change maps one)
+layout_stays None one none maps is = tt
+layout_stays (Some layout) one none maps is = is ∙ sym (stays_by one maps none)
   where
-    stays_by : (one : Change) (rows : Rows) → is_of_layout one ≡ false → laid_in (change rows one) ≡ laid_in rows
-    stays_by (row.Node id) rows none = absurd (cc none)
-    stays_by (row.Edge id ends) rows none = absurd (cc none)
-    stays_by (row.Station id site) rows none = absurd (cc none)
-    stays_by (row.Vehicle key vehicle) rows none = refl
-    stays_by (row.Trip order trip) rows none = refl
-    stays_by (row.Leg key edge) rows none = refl
-    stays_by (row.Load id place) rows none = refl
-    stays_by (row.Job id job) rows none = refl
-    stays_by (row.Hold thing key) rows none = refl
-    stays_by (row.Used key) rows none = refl
+    stays_by : (one : Change) (maps : Maps) → is_of_layout one ≡ false → laid_in (change maps one) ≡ laid_in maps
+    stays_by (row.Node id) maps none = absurd (cc none)
+    stays_by (row.Edge id ends) maps none = absurd (cc none)
+    stays_by (row.Station id site) maps none = absurd (cc none)
+    stays_by (row.Vehicle key vehicle) maps none = refl
+    stays_by (row.Trip order trip) maps none = refl
+    stays_by (row.Leg key edge) maps none = refl
+    stays_by (row.Load id place) maps none = refl
+    stays_by (row.Job id job) maps none = refl
+    stays_by (row.Hold thing key) maps none = refl
+    stays_by (row.Used key) maps none = refl

@@ -17,7 +17,7 @@ use Rattle.agv_stock.specs.declared.place.Place.{Place}
 use Rattle.agv_stock.specs.declared.place.Place.TheVariants as place
 use Rattle.agv_world.specs.Changes.{change}
 use Rattle.agv_world.specs.Questions.{has_room_at, is_live_to, loads_at, reserved, room_at, reserved_by}
-use Rattle.agv_world.specs.Rows.{Rows, rows_of}
+use Rattle.agv_world.specs.Maps.{Maps, maps_of}
 use Rattle.agv_world.specs.StockInvariant.{stored}
 use Rattle.agv_world.specs.Worlds.{World}
 use Rattle.agv_world.specs.declared.change.Change.{Change}
@@ -60,14 +60,14 @@ module _ (world : World) (station : List ℕ) where
   room_is = refl
 
   -- one load fits where room is left
-  pub one_fits : IsRoomLeft (rows_of world) station 1 → has_room_at world station ≡ Some true
+  pub one_fits : IsRoomLeft (maps_of world) station 1 → has_room_at world station ≡ Some true
   one_fits (site, there, within) =
       let enough : length (loads_at world station) + reserved world station + 1 ≤ site.capacity =
       subst (λ jobs. length (loads_at world station) + jobs + 1 ≤ site.capacity) (sym reserved_is) (subst (λ loads. loads + reserved_by world.jobs station + 1 ≤ site.capacity) (sym stored_is) within) in
       ap (option_map (λ (room : ℕ). not (room == 0))) (room_is ∙ ap (option_map left_in) there) ∙ ap Some (some_left _ _ _ enough)
 
   -- what was counted is left
-  pub counted_left : (room : ℕ) → 1 ≤ room → Some room ≡ room_at world station → IsRoomLeft (rows_of world) station room
+  pub counted_left : (room : ℕ) → 1 ≤ room → Some room ≡ room_at world station → IsRoomLeft (maps_of world) station room
   counted_left room some is =
       let (site, there) = mapped left_in (finite.get world.layout.stations station) room (sym (is ∙ room_is)) in
       let told : left_in site ≡ room = same_Some _ _ (sym (ap (option_map left_in) there) ∙ sym (is ∙ room_is)) in
@@ -128,43 +128,43 @@ not_live true target is = absurd (cc is)
 not_live false target is = refl
 
 -- where one load less is known to fit at the station that a row takes a place at, what is known is left with the row
-pub lowered_left : (old new : RoomsLeft) (one : Change) (station : List ℕ) → takes_room_at one ≡ Some station → IsLowered old new station → (rows : Rows) → AreLeft old rows → AreLeft new (change rows one)
-lowered_left old new (row.Node id) station is lowered rows left other room there = absurd (cc is)
-lowered_left old new (row.Edge id ends) station is lowered rows left other room there = absurd (cc is)
-lowered_left old new (row.Station id site) station is lowered rows left other room there = absurd (cc is)
-lowered_left old new (row.Vehicle key vehicle) station is lowered rows left other room there = absurd (cc is)
-lowered_left old new (row.Trip order trip) station is lowered rows left other room there = absurd (cc is)
-lowered_left old new (row.Leg key edge) station is lowered rows left other room there = absurd (cc is)
-lowered_left old new (row.Load id (place.Station at)) station is lowered rows left other room there =
+pub lowered_left : (old new : RoomsLeft) (one : Change) (station : List ℕ) → takes_room_at one ≡ Some station → IsLowered old new station → (maps : Maps) → AreLeft old maps → AreLeft new (change maps one)
+lowered_left old new (row.Node id) station is lowered maps left other room there = absurd (cc is)
+lowered_left old new (row.Edge id ends) station is lowered maps left other room there = absurd (cc is)
+lowered_left old new (row.Station id site) station is lowered maps left other room there = absurd (cc is)
+lowered_left old new (row.Vehicle key vehicle) station is lowered maps left other room there = absurd (cc is)
+lowered_left old new (row.Trip order trip) station is lowered maps left other room there = absurd (cc is)
+lowered_left old new (row.Leg key edge) station is lowered maps left other room there = absurd (cc is)
+lowered_left old new (row.Load id (place.Station at)) station is lowered maps left other room there =
     let (before, was, lower) = lowered other room there in
     let (site, known, within) = left other before was in
-    let more : stored (finite.insert rows.loads id (place.Station at)) other ≤ stored rows.loads other + one_if (pointwise nat_eq at other) = one_more (is_at other) rows.loads id (place.Station at) in
+    let more : stored (finite.insert maps.loads id (place.Station at)) other ≤ stored maps.loads other + one_if (pointwise nat_eq at other) = one_more (is_at other) maps.loads id (place.Station at) in
     let same : one_if (pointwise nat_eq at other) ≡ one_if (pointwise nat_eq station other) = ap (λ name. one_if (pointwise nat_eq name other)) (same_Some at station is) in
     (site, known, omega (arith, more, same, lower, within))
-lowered_left old new (row.Load id (place.Vehicle key)) station is lowered rows left other room there = absurd (cc is)
-lowered_left old new (row.Load id place.Checking) station is lowered rows left other room there = absurd (cc is)
-lowered_left old new (row.Load id place.Left) station is lowered rows left other room there = absurd (cc is)
-lowered_left old new (row.Job id job) station is lowered rows left other room there =
+lowered_left old new (row.Load id (place.Vehicle key)) station is lowered maps left other room there = absurd (cc is)
+lowered_left old new (row.Load id place.Checking) station is lowered maps left other room there = absurd (cc is)
+lowered_left old new (row.Load id place.Left) station is lowered maps left other room there = absurd (cc is)
+lowered_left old new (row.Job id job) station is lowered maps left other room there =
     let (before, was, lower) = lowered other room there in
     let (site, known, within) = left other before was in
-    let more : reserved_by (finite.insert rows.jobs id job) other ≤ reserved_by rows.jobs other + one_if (is_live_to other job) = one_more (is_live_to other) rows.jobs id job in
+    let more : reserved_by (finite.insert maps.jobs id job) other ≤ reserved_by maps.jobs other + one_if (is_live_to other job) = one_more (is_live_to other) maps.jobs id job in
     let few : one_if (is_live_to other job) ≤ one_if (pointwise nat_eq job.target other) = both_pass (is_live job.phase) (pointwise nat_eq job.target other) in
     let same : one_if (pointwise nat_eq job.target other) ≡ one_if (pointwise nat_eq station other) = ap (λ name. one_if (pointwise nat_eq name other)) (live_target (is_live job.phase) job.target station is) in
     (site, known, omega (arith, more, few, same, lower, within))
-lowered_left old new (row.Hold thing key) station is lowered rows left other room there = absurd (cc is)
-lowered_left old new (row.Used key) station is lowered rows left other room there = absurd (cc is)
+lowered_left old new (row.Hold thing key) station is lowered maps left other room there = absurd (cc is)
+lowered_left old new (row.Used key) station is lowered maps left other room there = absurd (cc is)
 
 -- a row that takes no place, and isn't of the layout, leaves what is known
-pub still_left : (rooms : RoomsLeft) (one : Change) → is_of_layout one ≡ false → takes_room_at one ≡ None → (rows : Rows) → AreLeft rooms rows → AreLeft rooms (change rows one)
-still_left rooms (row.Node id) laid none rows left other room there = absurd (cc laid)
-still_left rooms (row.Edge id ends) laid none rows left other room there = absurd (cc laid)
-still_left rooms (row.Station id site) laid none rows left other room there = absurd (cc laid)
-still_left rooms (row.Vehicle key vehicle) laid none rows left other room there = left other room there
-still_left rooms (row.Trip order trip) laid none rows left other room there = left other room there
-still_left rooms (row.Leg key edge) laid none rows left other room there = left other room there
-still_left rooms (row.Load id to) laid none rows left other room there =
+pub still_left : (rooms : RoomsLeft) (one : Change) → is_of_layout one ≡ false → takes_room_at one ≡ None → (maps : Maps) → AreLeft rooms maps → AreLeft rooms (change maps one)
+still_left rooms (row.Node id) laid none maps left other room there = absurd (cc laid)
+still_left rooms (row.Edge id ends) laid none maps left other room there = absurd (cc laid)
+still_left rooms (row.Station id site) laid none maps left other room there = absurd (cc laid)
+still_left rooms (row.Vehicle key vehicle) laid none maps left other room there = left other room there
+still_left rooms (row.Trip order trip) laid none maps left other room there = left other room there
+still_left rooms (row.Leg key edge) laid none maps left other room there = left other room there
+still_left rooms (row.Load id to) laid none maps left other room there =
     let (site, known, within) = left other room there in
-    let more : stored (finite.insert rows.loads id to) other ≤ stored rows.loads other + one_if (is_at other to) = one_more (is_at other) rows.loads id to in
+    let more : stored (finite.insert maps.loads id to) other ≤ stored maps.loads other + one_if (is_at other to) = one_more (is_at other) maps.loads id to in
     let same : one_if (is_at other to) ≡ 0 = ap one_if (not_there to other none) in
     (site, known, omega (arith, more, same, within))
   where
@@ -173,10 +173,10 @@ still_left rooms (row.Load id to) laid none rows left other room there =
     not_there (place.Vehicle key) other is = refl
     not_there place.Checking other is = refl
     not_there place.Left other is = refl
-still_left rooms (row.Job id job) laid none rows left other room there =
+still_left rooms (row.Job id job) laid none maps left other room there =
     let (site, known, within) = left other room there in
-    let more : reserved_by (finite.insert rows.jobs id job) other ≤ reserved_by rows.jobs other + one_if (is_live_to other job) = one_more (is_live_to other) rows.jobs id job in
+    let more : reserved_by (finite.insert maps.jobs id job) other ≤ reserved_by maps.jobs other + one_if (is_live_to other job) = one_more (is_live_to other) maps.jobs id job in
     let same : one_if (is_live_to other job) ≡ 0 = ap (λ live. one_if (live && pointwise nat_eq job.target other)) (not_live (is_live job.phase) job.target none) in
     (site, known, omega (arith, more, same, within))
-still_left rooms (row.Hold thing key) laid none rows left other room there = left other room there
-still_left rooms (row.Used key) laid none rows left other room there = left other room there
+still_left rooms (row.Hold thing key) laid none maps left other room there = left other room there
+still_left rooms (row.Used key) laid none maps left other room there = left other room there

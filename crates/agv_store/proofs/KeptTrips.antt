@@ -16,7 +16,7 @@ use Rattle.agv_order.specs.declared.trip.Trip.{Trip}
 use Rattle.agv_world.specs.Changes.{change}
 use Rattle.agv_world.specs.KeyOrders.{leg_cmp-IsAntisymmetric, leg_cmp-total}
 use Rattle.agv_world.specs.Keys.{leg_cmp}
-use Rattle.agv_world.specs.Rows.{Rows, trip_row}
+use Rattle.agv_world.specs.Maps.{Maps, trip_row}
 use Rattle.agv_header.specs.Spread.{edit}
 use Rattle.agv_world.specs.Told.{edge_named, edges_of, is_of_order}
 use Rattle.agv_world.specs.declared.change.Change.{Change}
@@ -76,28 +76,28 @@ same_legs legs leg (Some edge) order other =
 
 -- what is kept but for one order is as it was, where the change leaves the rows of trips of other orders
 pub others_stay : (trips new : OpenTrips) (order : List ℕ) (one : Change)
-    → ((trip : Trip) (rows : Rows) → tree.is_at (name_cmp order) trip.order ≡ false → HasTripRows rows trip → HasTripRows (change rows one) trip)
+    → ((trip : Trip) (maps : Maps) → tree.is_at (name_cmp order) trip.order ≡ false → HasTripRows maps trip → HasTripRows (change maps one) trip)
     → ((other : List ℕ) → tree.get name_cmp new other ≡ cond (tree.is_at (name_cmp order) other) None (tree.get name_cmp trips other))
-    → (rows : Rows) → AreOpen trips rows → AreOpen new (change rows one)
-others_stay trips new order one stay takes rows are other trip there =
-    elim (tree.is_at (name_cmp order) other) as (λ b. tree.is_at (name_cmp order) other ≡ b → cond b None (tree.get name_cmp trips other) ≡ Some trip → IsTripOf (change rows one) other trip) [
+    → (maps : Maps) → AreOpen trips maps → AreOpen new (change maps one)
+others_stay trips new order one stay takes maps are other trip there =
+    elim (tree.is_at (name_cmp order) other) as (λ b. tree.is_at (name_cmp order) other ≡ b → cond b None (tree.get name_cmp trips other) ≡ Some trip → IsTripOf (change maps one) other trip) [
       | true ↦ λ tied is. absurd (cc is)
       | false ↦ λ untied is.
           let its = are other trip is in
-          (its.0, stay trip rows (ap (tree.is_at (name_cmp order)) its.0 ∙ untied) its.1)
+          (its.0, stay trip maps (ap (tree.is_at (name_cmp order)) its.0 ∙ untied) its.1)
     ] refl (sym (takes other) ∙ there)
 
 -- a row of an edge of another order
-leg_of_another : (leg : LegKey) (edge : Option (List ℕ)) (trip : Trip) (rows : Rows) → tree.is_at (name_cmp leg.order) trip.order ≡ false → HasTripRows rows trip → HasTripRows (change rows (row.Leg leg edge)) trip
+leg_of_another : (leg : LegKey) (edge : Option (List ℕ)) (trip : Trip) (maps : Maps) → tree.is_at (name_cmp leg.order) trip.order ≡ false → HasTripRows maps trip → HasTripRows (change maps (row.Leg leg edge)) trip
 unfolding edges_of
-leg_of_another leg edge trip rows untied has = (
+leg_of_another leg edge trip maps untied has = (
   has.0,
-  has.1 ∙ ap (λ legs. filter_map (λ (leg : LegKey × List ℕ). edge_named rows.edges leg.1) legs) (sym (same_legs rows.legs leg edge trip.order (texts_ties leg.order trip.order ∙ untied))),
+  has.1 ∙ ap (λ legs. filter_map (λ (leg : LegKey × List ℕ). edge_named maps.edges leg.1) legs) (sym (same_legs maps.legs leg edge trip.order (texts_ties leg.order trip.order ∙ untied))),
 )
 
 -- where the trip of its order is forgotten, the rows have those that are kept
 pub leg_forgotten : (trips new : OpenTrips) (leg : LegKey) (edge : Option (List ℕ)) → ((other : List ℕ) → tree.get name_cmp new other ≡ cond (tree.is_at (name_cmp leg.order) other) None (tree.get name_cmp trips other))
-    → (rows : Rows) → AreOpen trips rows → AreOpen new (change rows (row.Leg leg edge))
+    → (maps : Maps) → AreOpen trips maps → AreOpen new (change maps (row.Leg leg edge))
 leg_forgotten trips new leg edge = others_stay trips new leg.order (row.Leg leg edge) (leg_of_another leg edge)
 
 another : (order other : List ℕ) → tree.is_at (name_cmp order) other ≡ false → eq_by_cmp name_cmp other order ≡ false
@@ -112,23 +112,23 @@ edit_elsewhere table order None other untied = finite.get-remove names_total tab
 edit_elsewhere table order (Some its) other untied = finite.get-insert names_total table order its other ∙ ap (λ b. cond b (Some its) (finite.get table other)) untied
 
 -- a row of the trip of another order
-trip_of_another : (order : List ℕ) (its : Option TripRow) (trip : Trip) (rows : Rows) → tree.is_at (name_cmp order) trip.order ≡ false → HasTripRows rows trip → HasTripRows (change rows (row.Trip order its)) trip
+trip_of_another : (order : List ℕ) (its : Option TripRow) (trip : Trip) (maps : Maps) → tree.is_at (name_cmp order) trip.order ≡ false → HasTripRows maps trip → HasTripRows (change maps (row.Trip order its)) trip
 unfolding edges_of
-trip_of_another order its trip rows untied has = (edit_elsewhere rows.trips order its trip.order (another order trip.order untied) ∙ has.0, has.1)
+trip_of_another order its trip maps untied has = (edit_elsewhere maps.trips order its trip.order (another order trip.order untied) ∙ has.0, has.1)
 
 pub trip_forgotten : (trips new : OpenTrips) (order : List ℕ) (its : Option TripRow) → ((other : List ℕ) → tree.get name_cmp new other ≡ cond (tree.is_at (name_cmp order) other) None (tree.get name_cmp trips other))
-    → (rows : Rows) → AreOpen trips rows → AreOpen new (change rows (row.Trip order its))
+    → (maps : Maps) → AreOpen trips maps → AreOpen new (change maps (row.Trip order its))
 trip_forgotten trips new order its = others_stay trips new order (row.Trip order its) (trip_of_another order its)
 
 -- the trip is as the row says that is written
-row_put : (order : List ℕ) (trip : Trip) (its : TripRow) (rows : Rows) → IsTripOf rows order trip → IsTripOf (change rows (row.Trip order (Some its))) order (with_row trip its)
+row_put : (order : List ℕ) (trip : Trip) (its : TripRow) (maps : Maps) → IsTripOf maps order trip → IsTripOf (change maps (row.Trip order (Some its))) order (with_row trip its)
 unfolding edges_of
-row_put order trip its rows is = (
+row_put order trip its maps is = (
   is.0,
   (
-    ap (finite.get (finite.insert rows.trips order its)) is.0
-        ∙ finite.get-insert names_total rows.trips order its order
-        ∙ ap (λ o. cond (is_eq o) (Some its) (finite.get rows.trips order)) (tied_itself names_total order),
+    ap (finite.get (finite.insert maps.trips order its)) is.0
+        ∙ finite.get-insert names_total maps.trips order its order
+        ∙ ap (λ o. cond (is_eq o) (Some its) (finite.get maps.trips order)) (tied_itself names_total order),
     is.1.1,
   ),
 )
@@ -137,89 +137,89 @@ row_put order trip its rows is = (
 pub trip_put : {E : Type 0} (trips mid new : OpenTrips) (order : List ℕ) (trip written : Trip) (its : TripRow) → tree.get name_cmp trips order ≡ Some trip → written ≡ with_row trip its
     → ((other : List ℕ) → tree.get name_cmp mid other ≡ cond (tree.is_at (name_cmp order) other) None (tree.get name_cmp trips other))
     → (r : Result (Option Trip) E) → OnOk r (tree.Updates name_cmp mid new order (Some written)) → OnErr r (tree.IsUnchanged mid new)
-    → (rows : Rows) → AreOpen trips rows → AreOpen new (change rows (row.Trip order (Some its)))
-trip_put trips mid new order trip written its was is takes (Ok before) puts same rows are =
-    one_more_entry name_cmp names_apart (IsTripOf (change rows (row.Trip order (Some its)))) mid new order written puts.0
-    (subst (IsTripOf (change rows (row.Trip order (Some its))) order) (sym is) (row_put order trip its rows (are order trip was)))
-    (trip_forgotten trips mid order (Some its) takes rows are)
-trip_put trips mid new order trip written its was is takes (Err back) puts same rows are =
-    same_entries name_cmp names_apart (IsTripOf (change rows (row.Trip order (Some its)))) mid new same (trip_forgotten trips mid order (Some its) takes rows are)
+    → (maps : Maps) → AreOpen trips maps → AreOpen new (change maps (row.Trip order (Some its)))
+trip_put trips mid new order trip written its was is takes (Ok before) puts same maps are =
+    one_more_entry name_cmp names_apart (IsTripOf (change maps (row.Trip order (Some its)))) mid new order written puts.0
+    (subst (IsTripOf (change maps (row.Trip order (Some its))) order) (sym is) (row_put order trip its maps (are order trip was)))
+    (trip_forgotten trips mid order (Some its) takes maps are)
+trip_put trips mid new order trip written its was is takes (Err back) puts same maps are =
+    same_entries name_cmp names_apart (IsTripOf (change maps (row.Trip order (Some its)))) mid new same (trip_forgotten trips mid order (Some its) takes maps are)
 
 -- a row that is none of an edge, of a trip or of the layout leaves each
 pub trips_stay : (trips : OpenTrips) (one : Change) → is_of_layout one ≡ false → ((leg : LegKey) (edge : Option (List ℕ)) → one ≡ row.Leg leg edge → ⊥) → ((order : List ℕ) (its : Option TripRow) → one ≡ row.Trip order its → ⊥)
-    → (rows : Rows) → AreOpen trips rows → AreOpen trips (change rows one)
+    → (maps : Maps) → AreOpen trips maps → AreOpen trips (change maps one)
 unfolding edges_of
-trips_stay trips (row.Node id) laid leg trip rows are = absurd (cc laid)
-trips_stay trips (row.Edge id ends) laid leg trip rows are = absurd (cc laid)
-trips_stay trips (row.Station id site) laid leg trip rows are = absurd (cc laid)
-trips_stay trips (row.Vehicle key vehicle) laid leg trip rows are = are
-trips_stay trips (row.Trip order its) laid leg trip rows are = absurd (trip order its refl)
-trips_stay trips (row.Leg key edge) laid leg trip rows are = absurd (leg key edge refl)
-trips_stay trips (row.Load id to) laid leg trip rows are = are
-trips_stay trips (row.Job id job) laid leg trip rows are = are
-trips_stay trips (row.Hold thing key) laid leg trip rows are = are
-trips_stay trips (row.Used key) laid leg trip rows are = are
+trips_stay trips (row.Node id) laid leg trip maps are = absurd (cc laid)
+trips_stay trips (row.Edge id ends) laid leg trip maps are = absurd (cc laid)
+trips_stay trips (row.Station id site) laid leg trip maps are = absurd (cc laid)
+trips_stay trips (row.Vehicle key vehicle) laid leg trip maps are = are
+trips_stay trips (row.Trip order its) laid leg trip maps are = absurd (trip order its refl)
+trips_stay trips (row.Leg key edge) laid leg trip maps are = absurd (leg key edge refl)
+trips_stay trips (row.Load id to) laid leg trip maps are = are
+trips_stay trips (row.Job id job) laid leg trip maps are = are
+trips_stay trips (row.Hold thing key) laid leg trip maps are = are
+trips_stay trips (row.Used key) laid leg trip maps are = are
 
 -- ---- vehicles that are known to have no trip
 
 -- a row that is none of a trip leaves each
-pub without_stay : (without : Without) (one : Change) → ((order : List ℕ) (its : Option TripRow) → one ≡ row.Trip order its → ⊥) → (rows : Rows) → HaveNoTrip without rows → HaveNoTrip without (change rows one)
-without_stay without (row.Node id) trip rows are = are
-without_stay without (row.Edge id ends) trip rows are = are
-without_stay without (row.Station id site) trip rows are = are
-without_stay without (row.Vehicle key vehicle) trip rows are = are
-without_stay without (row.Trip order its) trip rows are = absurd (trip order its refl)
-without_stay without (row.Leg key edge) trip rows are = are
-without_stay without (row.Load id to) trip rows are = are
-without_stay without (row.Job id job) trip rows are = are
-without_stay without (row.Hold thing key) trip rows are = are
-without_stay without (row.Used key) trip rows are = are
+pub without_stay : (without : Without) (one : Change) → ((order : List ℕ) (its : Option TripRow) → one ≡ row.Trip order its → ⊥) → (maps : Maps) → HaveNoTrip without maps → HaveNoTrip without (change maps one)
+without_stay without (row.Node id) trip maps are = are
+without_stay without (row.Edge id ends) trip maps are = are
+without_stay without (row.Station id site) trip maps are = are
+without_stay without (row.Vehicle key vehicle) trip maps are = are
+without_stay without (row.Trip order its) trip maps are = absurd (trip order its refl)
+without_stay without (row.Leg key edge) trip maps are = are
+without_stay without (row.Load id to) trip maps are = are
+without_stay without (row.Job id job) trip maps are = are
+without_stay without (row.Hold thing key) trip maps are = are
+without_stay without (row.Used key) trip maps are = are
 
 -- nor does the row of a trip that is taken away
-pub trip_taken : (without : Without) (order : List ℕ) (its : Option TripRow) → its ≡ None → (rows : Rows) → HaveNoTrip without rows → HaveNoTrip without (record rows { trips = edit rows.trips order its })
-trip_taken without order None none rows are key has other other_row there =
-    elim (eq_by_cmp name_cmp other order) as (λ b. cond b None (finite.get rows.trips other) ≡ Some other_row → other_row.vehicle ≡ key → ⊥) [ true ↦ λ is _. absurd (cc is) | false ↦ λ is same. are key has other other_row is same ]
-    (sym (finite.get-remove names_total rows.trips order other) ∙ there)
-trip_taken without order (Some its) none rows are key has other other_row there = absurd (cc none)
+pub trip_taken : (without : Without) (order : List ℕ) (its : Option TripRow) → its ≡ None → (maps : Maps) → HaveNoTrip without maps → HaveNoTrip without (record maps { trips = edit maps.trips order its })
+trip_taken without order None none maps are key has other other_row there =
+    elim (eq_by_cmp name_cmp other order) as (λ b. cond b None (finite.get maps.trips other) ≡ Some other_row → other_row.vehicle ≡ key → ⊥) [ true ↦ λ is _. absurd (cc is) | false ↦ λ is same. are key has other other_row is same ]
+    (sym (finite.get-remove names_total maps.trips order other) ∙ there)
+trip_taken without order (Some its) none maps are key has other other_row there = absurd (cc none)
 
 -- without the vehicle whose trip is written they are right
 pub trip_written : (without new : Without) (order : List ℕ) (its : Option TripRow) (written : TripRow) → its ≡ Some written
     → ((q : VehicleKey) → trees.contains key_cmp new q ≡ cond (tree.is_at (key_cmp written.vehicle) q) false (trees.contains key_cmp without q))
-    → (rows : Rows) → HaveNoTrip without rows → HaveNoTrip new (record rows { trips = edit rows.trips order its })
-trip_written without new order None written is takes rows are key has other other_row there same = absurd (cc is)
-trip_written without new order (Some its) written is takes rows are key has other other_row there same =
+    → (maps : Maps) → HaveNoTrip without maps → HaveNoTrip new (record maps { trips = edit maps.trips order its })
+trip_written without new order None written is takes maps are key has other other_row there same = absurd (cc is)
+trip_written without new order (Some its) written is takes maps are key has other other_row there same =
     elim (tree.is_at (key_cmp written.vehicle) key) as (λ b. tree.is_at (key_cmp written.vehicle) key ≡ b → cond b false (trees.contains key_cmp without key) ≡ true → ⊥) [
       | true ↦ λ _ has_none. absurd (cc has_none)
       | false ↦ λ untied has_none.
-          elim (eq_by_cmp name_cmp other order) as (λ b. cond b (Some its) (finite.get rows.trips other) ≡ Some other_row → ⊥) [
+          elim (eq_by_cmp name_cmp other order) as (λ b. cond b (Some its) (finite.get maps.trips other) ≡ Some other_row → ⊥) [
             | true ↦ λ this.
                 let that : written ≡ other_row = cc (is, this) in
                 absurd (cc (sym untied ∙ ap (λ (k : VehicleKey). tree.is_at (key_cmp k) key) (ap (λ (row : TripRow). row.vehicle) that ∙ same) ∙ ap is_eq (tied_itself key_cmp-total key)))
             | false ↦ λ that. are key has_none other other_row that same
-          ] (sym (finite.get-insert names_total rows.trips order its other) ∙ there)
+          ] (sym (finite.get-insert names_total maps.trips order its other) ∙ there)
     ] refl (sym (takes key) ∙ has)
 
 -- one vehicle more that has none
-pub one_more_without : (without new : Without) (key : VehicleKey) (rows : Rows) → ((q : VehicleKey) → trees.contains key_cmp new q ≡ cond (tree.is_at (key_cmp key) q) true (trees.contains key_cmp without q)) → HasNoTrip rows key → HaveNoTrip without rows → HaveNoTrip new rows
-one_more_without without new key rows puts none are other has =
-    elim (tree.is_at (key_cmp key) other) as (λ b. tree.is_at (key_cmp key) other ≡ b → cond b true (trees.contains key_cmp without other) ≡ true → HasNoTrip rows other) [
-      | true ↦ λ tied _. subst (HasNoTrip rows) (key_cmp-IsAntisymmetric key other ((Equal-is (key_cmp key other)).0 tied)) none
+pub one_more_without : (without new : Without) (key : VehicleKey) (maps : Maps) → ((q : VehicleKey) → trees.contains key_cmp new q ≡ cond (tree.is_at (key_cmp key) q) true (trees.contains key_cmp without q)) → HasNoTrip maps key → HaveNoTrip without maps → HaveNoTrip new maps
+one_more_without without new key maps puts none are other has =
+    elim (tree.is_at (key_cmp key) other) as (λ b. tree.is_at (key_cmp key) other ≡ b → cond b true (trees.contains key_cmp without other) ≡ true → HasNoTrip maps other) [
+      | true ↦ λ tied _. subst (HasNoTrip maps) (key_cmp-IsAntisymmetric key other ((Equal-is (key_cmp key other)).0 tied)) none
       | false ↦ λ untied has_none. are other has_none
     ] refl (sym (puts other) ∙ has)
 
 -- a vehicle has no open trip where no row of one is its
-pub no_trip : (rows : Rows) (key : VehicleKey) (o : Option Trip) → ((trip : Trip) → o ≡ Some trip → (trip.vehicle ≡ key) × HasTripRows rows trip) → HasNoTrip rows key → o ≡ None
-no_trip rows key None has none = refl
-no_trip rows key (Some trip) has none = let its = has trip refl in absurd (none trip.order (trip_row trip.vehicle trip) its.1.0 its.0)
+pub no_trip : (maps : Maps) (key : VehicleKey) (o : Option Trip) → ((trip : Trip) → o ≡ Some trip → (trip.vehicle ≡ key) × HasTripRows maps trip) → HasNoTrip maps key → o ≡ None
+no_trip maps key None has none = refl
+no_trip maps key (Some trip) has none = let its = has trip refl in absurd (none trip.order (trip_row trip.vehicle trip) its.1.0 its.0)
 
 -- and so it is the other way round
-pub no_row : (rows : Rows) (key : VehicleKey) (o : Option Trip) → ((trip : Trip) → (trip.vehicle ≡ key) × HasTripRows rows trip → o ≡ Some trip) → o ≡ None → HasNoTrip rows key
-no_row rows key o opens none order its there same =
+pub no_row : (maps : Maps) (key : VehicleKey) (o : Option Trip) → ((trip : Trip) → (trip.vehicle ≡ key) × HasTripRows maps trip → o ≡ Some trip) → o ≡ None → HasNoTrip maps key
+no_row maps key o opens none order its there same =
     let trip : Trip = record {
       order = order;
       vehicle = its.vehicle;
       start = its.start;
-      edges = edges_of (tables_of rows) order;
+      edges = edges_of (tables_of maps) order;
       first = its.first;
       base = its.base;
       sent = its.sent;

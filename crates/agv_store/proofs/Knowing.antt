@@ -3,7 +3,7 @@ use Rattle.std.proofs.Common.{◌≡◌, ◌+◌, ◌<◌, ◌≤◌, ◌++◌, 
 use Rattle.std.proofs.lemmas.List.{take_more}
 use Rattle.agv_layout.specs.Layout.{Layout}
 use Rattle.agv_world.specs.Changes.{change, changed}
-use Rattle.agv_world.specs.Rows.{Rows}
+use Rattle.agv_world.specs.Maps.{Maps}
 use Rattle.agv_world.specs.declared.change.Change.{Change}
 use Rattle.agv_world.specs.declared.floor.Counted.{Counted}
 use Rattle.agv_store.specs.KeptLayouts.{IsLayoutOf}
@@ -15,42 +15,42 @@ use Rattle.agv_store.specs.declared.known.Known.{Known}
 
 -- ---- one part more or less
 
-module _ {known : Known} {count : Counted → ℕ} {rows : Rows} where
-  pub with_layout : {layout : Option Layout} → IsLayoutOf layout rows → IsKnown known count rows → IsKnown (record known { layout = layout }) count rows
+module _ {known : Known} {count : Counted → ℕ} {maps : Maps} where
+  pub with_layout : {layout : Option Layout} → IsLayoutOf layout maps → IsKnown known count maps → IsKnown (record known { layout = layout }) count maps
   with_layout so is = record { counted = is.counted; agrees = so; fits = is.fits; trips_are = is.trips_are; vehicles_are = is.vehicles_are }
 
-  pub with_rooms : {rooms : RoomsLeft} → AreLeft rooms rows → IsKnown known count rows → IsKnown (record known { rooms = rooms }) count rows
+  pub with_rooms : {rooms : RoomsLeft} → AreLeft rooms maps → IsKnown known count maps → IsKnown (record known { rooms = rooms }) count maps
   with_rooms so is = record { counted = is.counted; agrees = is.agrees; fits = so; trips_are = is.trips_are; vehicles_are = is.vehicles_are }
 
-  pub with_trips : {trips : TripsOf} → AreTrips trips rows → IsKnown known count rows → IsKnown (record known { trips = trips }) count rows
+  pub with_trips : {trips : TripsOf} → AreTrips trips maps → IsKnown known count maps → IsKnown (record known { trips = trips }) count maps
   with_trips so is = record { counted = is.counted; agrees = is.agrees; fits = is.fits; trips_are = so; vehicles_are = is.vehicles_are }
 
-  pub with_vehicles : {vehicles : VehiclesOf} → AreVehicles vehicles rows → IsKnown known count rows → IsKnown (record known { vehicles = vehicles }) count rows
+  pub with_vehicles : {vehicles : VehiclesOf} → AreVehicles vehicles maps → IsKnown known count maps → IsKnown (record known { vehicles = vehicles }) count maps
   with_vehicles so is = record { counted = is.counted; agrees = is.agrees; fits = is.fits; trips_are = is.trips_are; vehicles_are = so }
 
 -- ---- changes
 
 -- the law that is cited
 abbrev pub ChangesInTurn : Type 0
-ChangesInTurn = (first later : List Change) (rows : Rows) → changed (first ++ later) rows ≡ changed later (changed first rows)
+ChangesInTurn = (first later : List Change) (maps : Maps) → changed (first ++ later) maps ≡ changed later (changed first maps)
 
 module _ (all : List Change) (first : Known) where
   -- so it is known of the rows that the changes lead to
   abbrev pub LeadsTo : List Change → Known → Type 0
-  LeadsTo changes now = (count : Counted → ℕ) (rows : Rows) → IsKnown first count rows → IsKnown now count (changed changes rows)
+  LeadsTo changes now = (count : Counted → ℕ) (maps : Maps) → IsKnown first count maps → IsKnown now count (changed changes maps)
 
   -- through no change
   pub none_changed : LeadsTo (take 0 all) first
   unfolding changed
-  none_changed count rows is = is
+  none_changed count maps is = is
 
   -- through the changes so far, and through one more
   pub one_changed_more : ChangesInTurn → (i : ℕ) (one : Change) (mid now : Known) → i < length all → one ≡ get_or all i one
-      → LeadsTo (take i all) mid → ((count : Counted → ℕ) (rows : Rows) → IsKnown mid count rows → IsKnown now count (change rows one)) → LeadsTo (take (i + 1) all) now
+      → LeadsTo (take i all) mid → ((count : Counted → ℕ) (maps : Maps) → IsKnown mid count maps → IsKnown now count (change maps one)) → LeadsTo (take (i + 1) all) now
   unfolding changed
-  one_changed_more in_turn i one mid now low is so_far more count rows known =
-      subst (λ changes. IsKnown now count (changed changes rows)) (ap (λ x. take i all ++ x ∷ []) is ∙ sym (take_more all i one low))
-      (subst (IsKnown now count) (sym (in_turn (take i all) (one ∷ []) rows)) (more count (changed (take i all) rows) (so_far count rows known)))
+  one_changed_more in_turn i one mid now low is so_far more count maps known =
+      subst (λ changes. IsKnown now count (changed changes maps)) (ap (λ x. take i all ++ x ∷ []) is ∙ sym (take_more all i one low))
+      (subst (IsKnown now count) (sym (in_turn (take i all) (one ∷ []) maps)) (more count (changed (take i all) maps) (so_far count maps known)))
 
   -- through all of them
   pub all_changed : (i : ℕ) (now : Known) → length all ≤ i → LeadsTo (take i all) now → LeadsTo all now

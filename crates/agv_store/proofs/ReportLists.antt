@@ -27,7 +27,7 @@ use Rattle.agv_layout.specs.declared.station.Station.{Station}
 use Rattle.agv_track.specs.Holds.{Holds, is_own}
 use Rattle.agv_world.specs.Lawful.{IsLawful}
 use Rattle.agv_world.specs.Questions.{is_live_to, reserved}
-use Rattle.agv_world.specs.Rows.{rows_of}
+use Rattle.agv_world.specs.Maps.{maps_of}
 use Rattle.agv_header.specs.Spread.{spread}
 use Rattle.agv_world.specs.Worlds.{Vehicle, World, empty_layout}
 use Rattle.agv_world.specs.declared.row.JobRow.{JobRow}
@@ -156,7 +156,7 @@ sorted_same [] = refl
 sorted_same (e ∷ es) = λ i. below_same e.0 es i && sorted_same es i
 
 -- the table of vehicles has a row for each vehicle
-pub vehicles_same : (world : World) → keys_of (finite.entries (rows_of world).vehicles) ≡ keys_of (finite.entries world.vehicles)
+pub vehicles_same : (world : World) → keys_of (finite.entries (maps_of world).vehicles) ≡ keys_of (finite.entries world.vehicles)
 unfolding spread
 vehicles_same world =
     let es = finite.entries world.vehicles in

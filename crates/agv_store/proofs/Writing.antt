@@ -8,7 +8,7 @@ use Rattle.sqlite.specs.State.{Survives}
 use Rattle.agv_world.specs.Changes.{changed}
 use Rattle.agv_world.specs.LawfulParts.{HasLawfulLoads}
 use Rattle.agv_world.specs.Questions.{count_of}
-use Rattle.agv_world.specs.Rows.{Rows, rows_of}
+use Rattle.agv_world.specs.Maps.{Maps, maps_of}
 use Rattle.agv_world.specs.Worlds.{World}
 use Rattle.agv_world.specs.declared.change.Change.{Change}
 use Rattle.agv_world.specs.declared.fault.Fault.{Fault}
@@ -24,7 +24,7 @@ use Rattle.agv_changes.specs.ChangesMade.{ChangesWorlds, LeavesChanges, MakesCha
 use Rattle.agv_row_reading.specs.WorldAnswers.{HasWorld}
 use Rattle.agv_world_reading.specs.WorldIn.{world_in}
 use Rattle.agv_schema.specs.DeskRows.{Holds, KeepsOthers, Placing}
-use Rattle.agv_rows.specs.RowLists.{row_lists}
+use Rattle.agv_rows.specs.Rows.{row_lists, rows_of}
 use Rattle.agv_schema.specs.SchemaNumbers.{desk_seats}
 use Rattle.agv_schema.specs.Connections.{IsClean, IsOpen}
 use Rattle.agv_schema.proofs.Later.{later_by}
@@ -84,8 +84,8 @@ module _ {S : Type 0} (g : Ghosts S) (law : DatabaseTells) where
 
     -- ---- after an answer
 
-    rows_next : IsClean g new → changed changes (rows_of (world_at g old)) ≡ rows_of next
-    rows_next clean = subst (λ cs. changed cs (rows_of (world_at g old)) ≡ rows_of next) (sym changes_are) (decides (clean_old clean)).changes
+    rows_next : IsClean g new → changed changes (maps_of (world_at g old)) ≡ maps_of next
+    rows_next clean = subst (λ cs. changed cs (maps_of (world_at g old)) ≡ maps_of next) (sym changes_are) (decides (clean_old clean)).changes
 
     pub knows_next : r ≡ Ok tt → IsClean g new → Knows g new next
     knows_next ok clean =
@@ -101,9 +101,9 @@ module _ {S : Type 0} (g : Ghosts S) (law : DatabaseTells) where
           has = record {
             stands = was.has.stands;
             lawful = (decides (clean_old clean)).lawful;
-            rows = subst (λ (db : Database). Holds was.at db (row_lists (rows_of next))) (sym same)
-                (subst (λ (rows : Rows). Holds was.at (state g new).committed (row_lists rows)) (rows_next clean)
-                (writes.worlds changes (state g old).now (state g new).committed made was.at was.has.stands (rows_of (world_at g old)) was.has.rows));
+            rows = subst (λ (db : Database). Holds was.at db (rows_of next)) (sym same)
+                (subst (λ (maps : Maps). Holds was.at (state g new).committed (row_lists maps)) (rows_next clean)
+                (writes.worlds changes (state g old).now (state g new).committed made was.at was.has.stands (maps_of (world_at g old)) was.has.rows));
           };
         }
 
@@ -193,8 +193,8 @@ module _ {S : Type 0} (g : Ghosts S) (law : DatabaseTells) where
             record {
               stands = was.has.stands;
               lawful = (decides (clean_old clean)).lawful;
-              rows = subst (λ (rows : Rows). Holds was.at db (row_lists rows)) (rows_next clean)
-                  (writes.worlds changes (state g old).now db made was.at was.has.stands (rows_of (world_at g old)) was.has.rows);
+              rows = subst (λ (maps : Maps). Holds was.at db (row_lists maps)) (rows_next clean)
+                  (writes.worlds changes (state g old).now db made was.at was.has.stands (maps_of (world_at g old)) was.has.rows);
             },
           );
           others = made.others;

@@ -1,7 +1,7 @@
 -- The layout that is kept beside a connection, and which rows are of a layout. No public clause cites this.
 use Rattle.std.specs.Prelude.{◌≡◌, Bool, true, false, Option, None, Some}
 use Rattle.agv_layout.specs.Layout.{Layout}
-use Rattle.agv_world.specs.Rows.{Rows}
+use Rattle.agv_world.specs.Maps.{Maps}
 use Rattle.agv_world.specs.declared.change.Change.{Change}
 use Rattle.agv_world.specs.declared.change.Change.TheVariants as row
 
@@ -18,11 +18,11 @@ is_of_layout (row.Job id job) = false
 is_of_layout (row.Hold thing key) = false
 is_of_layout (row.Used key) = false
 
--- the layout of these rows
-abbrev pub laid_in : Rows → Layout
-laid_in rows = record { nodes = rows.nodes; edges = rows.edges; stations = rows.stations }
+-- the layout of these maps
+abbrev pub laid_in : Maps → Layout
+laid_in maps = record { nodes = maps.nodes; edges = maps.edges; stations = maps.stations }
 
--- a layout that is kept is the one of these rows
-abbrev pub IsLayoutOf : Option Layout → Rows → Type 0
-IsLayoutOf None rows = Unit {0}
-IsLayoutOf (Some layout) rows = layout ≡ laid_in rows
+-- a layout that is kept is the one of these maps
+abbrev pub IsLayoutOf : Option Layout → Maps → Type 0
+IsLayoutOf None maps = Unit {0}
+IsLayoutOf (Some layout) maps = layout ≡ laid_in maps

@@ -6,7 +6,7 @@ use Rattle.std.specs.FinMap as finite
 use Rattle.agv_header.specs.Name.{name_cmp}
 use Rattle.agv_layout.specs.declared.station.StationSite.{StationSite}
 use Rattle.agv_stock.specs.Phase.{is_live}
-use Rattle.agv_world.specs.Rows.{Rows}
+use Rattle.agv_world.specs.Maps.{Maps}
 use Rattle.agv_world.specs.Questions.{reserved_by}
 use Rattle.agv_world.specs.StockInvariant.{stored}
 use Rattle.agv_world.specs.declared.change.Change.{Change}
@@ -17,13 +17,13 @@ abbrev pub RoomsLeft : Type 0
 RoomsLeft = tree.BTreeMap (List ℕ) ℕ
 
 -- beside the loads at the station and the live jobs to it, so many loads more are within its capacity
-abbrev pub IsRoomLeft : Rows → List ℕ → ℕ → Type 0
-IsRoomLeft rows station room =
-    (site : StationSite) × (finite.get rows.stations station ≡ Some site) × (stored rows.loads station + reserved_by rows.jobs station + room ≤ site.capacity)
+abbrev pub IsRoomLeft : Maps → List ℕ → ℕ → Type 0
+IsRoomLeft maps station room =
+    (site : StationSite) × (finite.get maps.stations station ≡ Some site) × (stored maps.loads station + reserved_by maps.jobs station + room ≤ site.capacity)
 
 -- so it is at each station of which a room is kept
-abbrev pub AreLeft : RoomsLeft → Rows → Type 0
-AreLeft rooms rows = (station : List ℕ) (room : ℕ) → tree.get name_cmp rooms station ≡ Some room → IsRoomLeft rows station room
+abbrev pub AreLeft : RoomsLeft → Maps → Type 0
+AreLeft rooms maps = (station : List ℕ) (room : ℕ) → tree.get name_cmp rooms station ≡ Some room → IsRoomLeft maps station room
 
 -- what is still kept is less by one at least at the station, and not more at the others
 abbrev pub IsLowered : RoomsLeft → RoomsLeft → List ℕ → Type 0

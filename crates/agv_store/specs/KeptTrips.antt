@@ -7,7 +7,7 @@ use Rattle.agv_header.specs.Key.{key_cmp}
 use Rattle.agv_header.specs.Name.{name_cmp}
 use Rattle.agv_header.specs.declared.key.VehicleKey.{VehicleKey}
 use Rattle.agv_order.specs.declared.trip.Trip.{Trip}
-use Rattle.agv_world.specs.Rows.{Rows}
+use Rattle.agv_world.specs.Maps.{Maps}
 use Rattle.agv_world.specs.declared.row.TripRow.{TripRow}
 use Rattle.agv_rows.specs.DecodedTrips.{HasTripRows}
 use Rattle.agv_store.specs.declared.kept_trips.KeptTrips.{KeptTrips}
@@ -20,29 +20,29 @@ OpenTrips = tree.BTreeMap (List ℕ) Trip
 abbrev pub Without : Type 0
 Without = trees.BTreeSet VehicleKey
 
--- it is a trip of the order, and the rows have it
-abbrev pub IsTripOf : Rows → List ℕ → Trip → Type 0
-IsTripOf rows order trip = (trip.order ≡ order) × HasTripRows rows trip
+-- it is a trip of the order, and the maps have it
+abbrev pub IsTripOf : Maps → List ℕ → Trip → Type 0
+IsTripOf maps order trip = (trip.order ≡ order) × HasTripRows maps trip
 
 -- so it is with each that is kept
-abbrev pub AreOpen : OpenTrips → Rows → Type 0
-AreOpen trips rows = (order : List ℕ) (trip : Trip) → tree.get name_cmp trips order ≡ Some trip → IsTripOf rows order trip
+abbrev pub AreOpen : OpenTrips → Maps → Type 0
+AreOpen trips maps = (order : List ℕ) (trip : Trip) → tree.get name_cmp trips order ≡ Some trip → IsTripOf maps order trip
 
 -- no row of a trip is one of the vehicle's
-abbrev pub HasNoTrip : Rows → VehicleKey → Type 0
-HasNoTrip rows key = (order : List ℕ) (row : TripRow) → finite.get rows.trips order ≡ Some row → row.vehicle ≡ key → ⊥
+abbrev pub HasNoTrip : Maps → VehicleKey → Type 0
+HasNoTrip maps key = (order : List ℕ) (row : TripRow) → finite.get maps.trips order ≡ Some row → row.vehicle ≡ key → ⊥
 
 -- so it is with each of these vehicles
-abbrev pub HaveNoTrip : Without → Rows → Type 0
-HaveNoTrip vehicles rows = (key : VehicleKey) → trees.contains key_cmp vehicles key ≡ true → HasNoTrip rows key
+abbrev pub HaveNoTrip : Without → Maps → Type 0
+HaveNoTrip vehicles maps = (key : VehicleKey) → trees.contains key_cmp vehicles key ≡ true → HasNoTrip maps key
 
 -- trips of orders, and vehicles that have none
 abbrev pub TripsOf : Type 0
 TripsOf = KeptTrips
 
--- the rows have these trips, and none of these vehicles
-abbrev pub AreTrips : TripsOf → Rows → Type 0
-AreTrips trips rows = AreOpen trips.by_order rows × HaveNoTrip trips.without rows
+-- the maps have these trips, and none of these vehicles
+abbrev pub AreTrips : TripsOf → Maps → Type 0
+AreTrips trips maps = AreOpen trips.by_order maps × HaveNoTrip trips.without maps
 
 -- the trip with what this row says
 abbrev pub with_row : Trip → TripRow → Trip

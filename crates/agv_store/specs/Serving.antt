@@ -6,7 +6,7 @@ use Rattle.sqlite.specs.Effect.{Database, IsDatabase}
 use Rattle.sqlite.specs.Held.{Held, state}
 use Rattle.agv_world.specs.Changes.{changed}
 use Rattle.agv_world.specs.Lawful.{IsLawful}
-use Rattle.agv_world.specs.Rows.{rows_of}
+use Rattle.agv_world.specs.Maps.{maps_of}
 use Rattle.agv_world.specs.Worlds.{World}
 use Rattle.agv_desk.specs.Outcomes.{Outcome, after, answer_of, decided}
 use Rattle.agv_desk.specs.Step.{step}
@@ -29,7 +29,7 @@ world_after world at call = after world (outcome_in world at call)
 -- the decision is that of the call in this world, and its changes lead to the world after it, which is lawful
 pub record Decides (world : World) (at : ℕ) (call : Call) (decision : Decision) : Type 0 where
   pub decided_is : decision ≡ decided (outcome_in world at call)
-  pub changes : changed decision.changes (rows_of world) ≡ rows_of (world_after world at call)
+  pub changes : changed decision.changes (maps_of world) ≡ maps_of (world_after world at call)
   pub lawful : IsLawful desk_seats (world_after world at call)
 
 -- an opening finds the rows of this world

@@ -6,7 +6,7 @@ ghost use Rattle.std.specs.FinSet as set;
 ghost use Rattle.agv_world.specs.Asks.{Asks};
 ghost use Rattle.agv_world.specs.Changes.{change};
 ghost use Rattle.agv_world.specs.Questions.{layout_set};
-ghost use Rattle.agv_world.specs.Rows.{Rows};
+ghost use Rattle.agv_world.specs.Maps.{Maps};
 ghost use Rattle.agv_world.specs.Told.{world_of};
 ghost use Rattle.agv_schema.specs.Connections.{IsClean, IsOpen};
 ghost use Rattle.agv_store.specs.Floors.{facts_of, world_at};
@@ -102,7 +102,7 @@ pub(crate) fn layout_told(alloc: Global, tables: &World) -> Result<Option<Layout
 
 // The layout that is kept once the change was made: none where it writes a row of the layout.
 pub(crate) fn follow(layout: &mut Option<Layout>, one: &Change)
-    ensures { (rows : Rows) → IsLayoutOf layout.old rows → IsLayoutOf layout.new (change rows one.now) }
+    ensures { (maps : Maps) → IsLayoutOf layout.old maps → IsLayoutOf layout.new (change maps one.now) }
 {
     if is_of_layout(one) {
         *layout = None;

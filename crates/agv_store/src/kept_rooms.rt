@@ -4,7 +4,7 @@
 ghost use Rattle.std.specs.Prelude.{◌≡◌, ◌≤◌, true, Some};
 ghost use Rattle.agv_world.specs.Changes.{change};
 ghost use Rattle.agv_world.specs.Questions.{has_room_at, room_at};
-ghost use Rattle.agv_world.specs.Rows.{Rows};
+ghost use Rattle.agv_world.specs.Maps.{Maps};
 ghost use Rattle.agv_schema.specs.Connections.{IsClean, IsOpen};
 ghost use Rattle.agv_store.specs.Floors.{world_at};
 ghost use Rattle.agv_store.specs.KeptRooms.{AreLeft, IsLowered, IsRoomLeft, takes_room_at};
@@ -42,14 +42,14 @@ impl<S: Alter + Drop> KeyedFloor<S> {
 
 // No station.
 pub(crate) fn none(alloc: Global) -> RoomsLeft
-    ensures { (rows : Rows) → AreLeft result rows }
+    ensures { (maps : Maps) → AreLeft result maps }
 {
     BTreeMap::new(alloc)
 }
 
 // Whether so much as one load is known to fit.
 fn is_some_left(rooms: &RoomsLeft, station: Name) -> bool
-    ensures { result ≡ true → (rows : Rows) → AreLeft rooms.now rows → IsRoomLeft rows station 1 }
+    ensures { result ≡ true → (maps : Maps) → AreLeft rooms.now maps → IsRoomLeft maps station 1 }
 {
     match rooms.get(&station) {
         None => false,
@@ -59,7 +59,7 @@ fn is_some_left(rooms: &RoomsLeft, station: Name) -> bool
 
 // What is left of the rooms once the change was made; none is kept where it is one of the layout.
 pub(crate) fn follow(rooms: &mut RoomsLeft, one: &Change)
-    ensures { (rows : Rows) → AreLeft rooms.old rows → AreLeft rooms.new (change rows one.now) }
+    ensures { (maps : Maps) → AreLeft rooms.old maps → AreLeft rooms.new (change maps one.now) }
 {
     if is_of_layout(one) {
         rooms.clear();

@@ -6,7 +6,7 @@ ghost use Rattle.std.specs.Prelude.{◌≡◌, IfOk, IfSome, IsTrue, None, Some,
 ghost use Rattle.agv_world.specs.Asks.{Asks};
 ghost use Rattle.agv_world.specs.Changes.{change};
 ghost use Rattle.agv_world.specs.Questions.{trip_of};
-ghost use Rattle.agv_world.specs.Rows.{Rows};
+ghost use Rattle.agv_world.specs.Maps.{Maps};
 ghost use Rattle.agv_header.specs.Spread.{edit};
 ghost use Rattle.agv_rows.specs.DecodedTrips.{HasTripRows};
 ghost use Rattle.agv_schema.specs.Connections.{IsClean, IsOpen};
@@ -103,7 +103,7 @@ impl<S: Alter + Drop> KeyedFloor<S> {
 
 // The trip is kept of its order.
 fn put_trip(trips: &mut KeptTrips, key: VehicleKey, trip: Trip) -> Result<(), Memory>
-    ensures { (rows : Rows) → HasTripRows rows trip → AreTrips trips.old rows → AreTrips trips.new rows }
+    ensures { (maps : Maps) → HasTripRows maps trip → AreTrips trips.old maps → AreTrips trips.new maps }
 {
     let order = trip.order;
     trips.by_order.insert(order, trip)?;
@@ -112,7 +112,7 @@ fn put_trip(trips: &mut KeptTrips, key: VehicleKey, trip: Trip) -> Result<(), Me
 
 // The vehicle is one of those without an open trip.
 fn put_no_trip(trips: &mut KeptTrips, key: VehicleKey) -> Result<(), Memory>
-    ensures { (rows : Rows) → HasNoTrip rows key → AreTrips trips.old rows → AreTrips trips.new rows }
+    ensures { (maps : Maps) → HasNoTrip maps key → AreTrips trips.old maps → AreTrips trips.new maps }
 {
     trips.without.insert(key)?;
     Ok(())
@@ -120,7 +120,7 @@ fn put_no_trip(trips: &mut KeptTrips, key: VehicleKey) -> Result<(), Memory>
 
 // None is kept.
 pub(crate) fn none(alloc: Global) -> KeptTrips
-    ensures { (rows : Rows) → AreTrips result rows }
+    ensures { (maps : Maps) → AreTrips result maps }
 {
     KeptTrips {
         by_order: BTreeMap::new(alloc),
@@ -131,7 +131,7 @@ pub(crate) fn none(alloc: Global) -> KeptTrips
 
 // A copy of the trip that is kept of an order, where it is one of the vehicle.
 fn trip_of_vehicle(trips: &OpenTrips, order: Name, key: &VehicleKey) -> Result<Option<Trip>, Memory>
-    ensures { IfOk result (λ kept. IfSome kept (λ trip. (trip.vehicle ≡ key.now) × ((rows : Rows) → AreOpen trips.now rows → IsTripOf rows order trip))) }
+    ensures { IfOk result (λ kept. IfSome kept (λ trip. (trip.vehicle ≡ key.now) × ((maps : Maps) → AreOpen trips.now maps → IsTripOf maps order trip))) }
 {
     match trips.get(&order) {
         None => Ok(None),
@@ -147,7 +147,7 @@ fn trip_of_vehicle(trips: &OpenTrips, order: Name, key: &VehicleKey) -> Result<O
 
 // What is known of open trips once the change was made.
 pub(crate) fn follow(trips: &mut KeptTrips, one: &Change)
-    ensures { (rows : Rows) → AreTrips trips.old rows → AreTrips trips.new (change rows one.now) }
+    ensures { (maps : Maps) → AreTrips trips.old maps → AreTrips trips.new (change maps one.now) }
 {
     follow_open(&mut trips.by_order, one);
     follow_without(&mut trips.without, one);
@@ -156,7 +156,7 @@ pub(crate) fn follow(trips: &mut KeptTrips, one: &Change)
 // The trips that are kept once the change was made: none where it is one of the layout, that of an order no more where it is
 // one of the order's edges, and as its row says where it is that.
 fn follow_open(trips: &mut OpenTrips, one: &Change)
-    ensures { (rows : Rows) → AreOpen trips.old rows → AreOpen trips.new (change rows one.now) }
+    ensures { (maps : Maps) → AreOpen trips.old maps → AreOpen trips.new (change maps one.now) }
 {
     if is_of_layout(one) {
         trips.clear();
@@ -172,7 +172,7 @@ fn follow_open(trips: &mut OpenTrips, one: &Change)
 // The trip that is kept of an order is as this row says; it is kept no more where the row is taken away, or there is no memory
 // for what the row says.
 fn put_row(trips: &mut OpenTrips, order: Name, row: &Option<TripRow>)
-    ensures { (rows : Rows) → AreOpen trips.old rows → AreOpen trips.new (record rows { trips = edit rows.trips order row.now }) }
+    ensures { (maps : Maps) → AreOpen trips.old maps → AreOpen trips.new (record maps { trips = edit maps.trips order row.now }) }
 {
     let Some(trip) = trips.remove(&order) else {
         return;
@@ -207,7 +207,7 @@ fn with_row(trip: Trip, row: &TripRow) -> Result<Trip, Memory>
 
 // The vehicles that are known to have no open trip once the change was made: but for the one whose trip is written.
 fn follow_without(without: &mut BTreeSet<VehicleKey>, one: &Change)
-    ensures { (rows : Rows) → HaveNoTrip without.old rows → HaveNoTrip without.new (change rows one.now) }
+    ensures { (maps : Maps) → HaveNoTrip without.old maps → HaveNoTrip without.new (change maps one.now) }
 {
     if let Change::Trip(order, row) = one {
         take_out(without, *order, row);
@@ -216,7 +216,7 @@ fn follow_without(without: &mut BTreeSet<VehicleKey>, one: &Change)
 
 // The vehicles that are known to have no open trip once the trip of this order is as this row says.
 fn take_out(without: &mut BTreeSet<VehicleKey>, _order: Name, row: &Option<TripRow>)
-    ensures { (rows : Rows) → HaveNoTrip without.old rows → HaveNoTrip without.new (record rows { trips = edit rows.trips _order row.now }) }
+    ensures { (maps : Maps) → HaveNoTrip without.old maps → HaveNoTrip without.new (record maps { trips = edit maps.trips _order row.now }) }
 {
     let Some(row) = row else {
         return;

@@ -5,7 +5,7 @@ ghost use Rattle.std.specs.FinMap as map;
 ghost use Rattle.agv_world.specs.Asks.{Asks};
 ghost use Rattle.agv_world.specs.Changes.{change};
 ghost use Rattle.agv_world.specs.Questions.{row_of};
-ghost use Rattle.agv_world.specs.Rows.{Rows};
+ghost use Rattle.agv_world.specs.Maps.{Maps};
 ghost use Rattle.agv_schema.specs.Connections.{IsClean, IsOpen};
 ghost use Rattle.agv_store.specs.Floors.{facts_of, world_at};
 ghost use Rattle.agv_store.specs.KeptVehicles.{AreVehicles};
@@ -55,7 +55,7 @@ impl<S: Alter + Drop> KeyedFloor<S> {
 
 // None is kept.
 pub(crate) fn none(alloc: Global) -> KeptVehicles
-    ensures { (rows : Rows) → AreVehicles result rows }
+    ensures { (maps : Maps) → AreVehicles result maps }
 {
     ByVehicle::new(alloc)
 }
@@ -72,7 +72,7 @@ fn kept_row(vehicles: &KeptVehicles, key: &VehicleKey) -> Option<VehicleRow>
 
 // The rows that are kept once the change was made.
 pub(crate) fn follow(vehicles: &mut KeptVehicles, one: &Change)
-    ensures { (rows : Rows) → AreVehicles vehicles.old rows → AreVehicles vehicles.new (change rows one.now) }
+    ensures { (maps : Maps) → AreVehicles vehicles.old maps → AreVehicles vehicles.new (change maps one.now) }
 {
     if let Change::Vehicle(key, vehicle) = one {
         put_row(vehicles, key, vehicle);
@@ -81,7 +81,7 @@ pub(crate) fn follow(vehicles: &mut KeptVehicles, one: &Change)
 
 // The row of a vehicle is kept in the place of the one before; none is kept where there is no memory for it.
 fn put_row(vehicles: &mut KeptVehicles, key: &VehicleKey, vehicle: &VehicleRow)
-    ensures { (rows : Rows) → AreVehicles vehicles.old rows → AreVehicles vehicles.new (record rows { vehicles = map.insert rows.vehicles key.now vehicle.now }) }
+    ensures { (maps : Maps) → AreVehicles vehicles.old maps → AreVehicles vehicles.new (record maps { vehicles = map.insert maps.vehicles key.now vehicle.now }) }
 {
     vehicles.remove(*key);
     // The prover asks for the types of a row's parts.

@@ -6,7 +6,7 @@ ghost use Rattle.agv_world.specs.Changes.{change, changed};
 ghost use Rattle.agv_world.specs.Kept.{Keeps};
 ghost use Rattle.agv_world.specs.Lawful.{IsLawful};
 ghost use Rattle.agv_world.specs.Questions.{count_of};
-ghost use Rattle.agv_world.specs.Rows.{Rows, rows_of};
+ghost use Rattle.agv_world.specs.Maps.{Maps, maps_of};
 ghost use Rattle.agv_world.specs.Worlds.{World as WorldOf};
 ghost use Rattle.agv_world.specs.declared.floor.Counted.{Counted};
 ghost use Rattle.agv_store.specs.Counts.{count_in};
@@ -45,7 +45,7 @@ pub(crate) struct Known {
 impl Known {
     // What is known of a world that has these counts, and this layout if there is one.
     pub(crate) fn new(alloc: Global, counts: Counts, layout: Option<Layout>) -> Known
-        ensures { (world : WorldOf) → ((what : Counted) → count_in counts what ≡ count_of world what) → IsLayoutOf layout (rows_of world) → IsKnownIn result world }
+        ensures { (world : WorldOf) → ((what : Counted) → count_in counts what ≡ count_of world what) → IsLayoutOf layout (maps_of world) → IsKnownIn result world }
     {
         Known {
             counts,
@@ -80,7 +80,7 @@ impl Known {
 
 // What is known once the changes were made, but for the counts.
 fn follow_each(known: &mut Known, changes: &[Change])
-    ensures { (count : Counted → ℕ) (rows : Rows) → IsKnown known.old count rows → IsKnown known.new count (changed changes.now rows) }
+    ensures { (count : Counted → ℕ) (maps : Maps) → IsKnown known.old count maps → IsKnown known.new count (changed changes.now maps) }
 {
     changes_in_turn();
     for change in changes {
@@ -90,7 +90,7 @@ fn follow_each(known: &mut Known, changes: &[Change])
 
 // What is known once the change was made, but for the counts.
 fn follow_one(known: &mut Known, one: &Change)
-    ensures { (count : Counted → ℕ) (rows : Rows) → IsKnown known.old count rows → IsKnown known.new count (change rows one.now) }
+    ensures { (count : Counted → ℕ) (maps : Maps) → IsKnown known.old count maps → IsKnown known.new count (change maps one.now) }
 {
     kept_layout::follow(&mut known.layout, one);
     kept_rooms::follow(&mut known.rooms, one);

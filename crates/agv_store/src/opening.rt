@@ -5,7 +5,7 @@ ghost use Rattle.sqlite.specs.Held.{state};
 ghost use Rattle.sqlite.specs.State.{Survives};
 ghost use Rattle.agv_world.specs.Kept.{Keeps};
 ghost use Rattle.agv_world.specs.Lawful.{IsLawful};
-ghost use Rattle.agv_world.specs.Rows.{rows_of};
+ghost use Rattle.agv_world.specs.Maps.{maps_of};
 ghost use Rattle.agv_world.specs.Worlds.{World as WorldOf};
 ghost use Rattle.agv_row_reading.specs.WorldAnswers.{HasNoWorld};
 ghost use Rattle.agv_creation.specs.DeskTables.{LeavesDesk};
@@ -174,7 +174,7 @@ fn find_desk<S: Alter>(alloc: Global, conn: &mut Connection<S>) -> Result<Known,
 
 // Whether these are the tables of a lawful world, and what is held is what its vehicles hold.
 fn are_of_a_lawful_world(alloc: Global, tables: &World, holds: &HeldThings) -> Result<bool, Memory>
-    ensures { IfOk result (λ are. IsTrue are ↔ ((world : WorldOf) × Keeps tables.now world × IsLawful desk_seats world × (holds.now.table ≡ (rows_of world).holds))) }
+    ensures { IfOk result (λ are. IsTrue are ↔ ((world : WorldOf) × Keeps tables.now world × IsLawful desk_seats world × (holds.now.table ≡ (maps_of world).holds))) }
 {
     Ok(tables.is_lawful(alloc, DESK_SEATS)? && holds.are_footprints(alloc, tables)?)
 }

@@ -8,7 +8,7 @@ ghost use Rattle.agv_layout.specs.declared.station.StationSite.{StationSite as S
 ghost use Rattle.agv_world.specs.Asks.{Asks};
 ghost use Rattle.agv_world.specs.Lawful.{IsLawful};
 ghost use Rattle.agv_world.specs.Questions.{reserved};
-ghost use Rattle.agv_world.specs.Rows.{rows_of};
+ghost use Rattle.agv_world.specs.Maps.{maps_of};
 ghost use Rattle.agv_reports.specs.Reports.{stations_told};
 ghost use Rattle.agv_schema.specs.SchemaNumbers.{desk_seats};
 ghost use Rattle.agv_schema.specs.Connections.{IsClean, IsOpen};
@@ -75,7 +75,7 @@ impl<S: Alter + Drop> KeyedFloor<S> {
 
     // What is held and by which vehicle: the nodes first, then the edges, each by name.
     pub(crate) fn holds_told(&mut self) -> Result<Vec<(Thing, VehicleKey)>, Fault>
-        ensures { Asks (facts_of S.Store) self.old self.new result (λ world holds. holds.items ≡ finite.entries (rows_of world).holds) }
+        ensures { Asks (facts_of S.Store) self.old self.new result (λ world holds. holds.items ≡ finite.entries (maps_of world).holds) }
     {
         let held = self.all_holds()?;
         let holds = holds_of(self.alloc, &held)?;

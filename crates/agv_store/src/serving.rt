@@ -22,7 +22,7 @@ use agv_desk::{Answer, Call, Decision, counted_by, decide};
 use agv_header::Moment;
 use agv_world::Fault;
 use agv_world::lawful_laws::has_consistent_trips;
-use agv_world::laws::rows_tell_the_world;
+use agv_world::laws::maps_tell_the_world;
 use agv_world_reading::world_laws::a_database_tells_its_world;
 use sqlite::Alter;
 
@@ -40,7 +40,7 @@ impl<S: Alter + Drop> KeyedFloor<S> {
     {
         self.knows();
         has_consistent_trips();
-        rows_tell_the_world();
+        maps_tell_the_world();
         let decision = self.decided(at, call)?;
         if decision.changes.is_empty() {
             return Ok(decision.answer);

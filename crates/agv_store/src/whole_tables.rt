@@ -1,7 +1,7 @@
 //! Whole tables, for a report.
 ghost use Rattle.std.specs.Prelude.{◌≡◌};
 ghost use Rattle.agv_world.specs.Asks.{Asks};
-ghost use Rattle.agv_world.specs.Rows.{rows_of};
+ghost use Rattle.agv_world.specs.Maps.{maps_of};
 ghost use Rattle.agv_store.specs.Floors.{facts_of};
 
 use crate::flags::note;
@@ -43,7 +43,7 @@ impl<S: Alter + Drop> KeyedFloor<S> {
 
     // The vehicles, but for their open trips.
     pub(crate) fn all_vehicles(&mut self) -> Result<ByVehicle<VehicleRow>, Fault>
-        ensures { Asks (facts_of S.Store) self.old self.new result (λ world table. table ≡ (rows_of world).vehicles) }
+        ensures { Asks (facts_of S.Store) self.old self.new result (λ world table. table ≡ (maps_of world).vehicles) }
     {
         let asked = query_vehicles(self.alloc, &mut self.conn);
         note(&mut self.failed, &mut self.in_doubt, asked)
@@ -59,7 +59,7 @@ impl<S: Alter + Drop> KeyedFloor<S> {
 
     // What is held, and by which vehicle.
     pub(crate) fn all_holds(&mut self) -> Result<HeldThings, Fault>
-        ensures { Asks (facts_of S.Store) self.old self.new result (λ world held. held.table ≡ (rows_of world).holds) }
+        ensures { Asks (facts_of S.Store) self.old self.new result (λ world held. held.table ≡ (maps_of world).holds) }
     {
         let asked = query_holds(self.alloc, &mut self.conn);
         note(&mut self.failed, &mut self.in_doubt, asked)

@@ -12,7 +12,7 @@ use Rattle.agv_header.specs.declared.key.VehicleKey.{VehicleKey}
 use Rattle.agv_order.specs.declared.act.Act.{Act}
 use Rattle.agv_order.specs.declared.trip.Trip.{Trip}
 use Rattle.agv_world.specs.Lawful.{IsLawful, NamesItsJob}
-use Rattle.agv_world.specs.Rows.{rows_of, rows_of_trip, trip_row, trip_rows}
+use Rattle.agv_world.specs.Maps.{maps_of, rows_of_trip, trip_row, trip_rows}
 use Rattle.agv_header.specs.Spread.{spread}
 use Rattle.agv_world.specs.Worlds.{Vehicle, World}
 use Rattle.agv_world.specs.declared.row.TripRow.{TripRow}
@@ -63,26 +63,26 @@ module _ (world : World) (order : List ℕ) (row : TripRow) where
             | false ↦ λ _ more. later more
           ] refl found
 
-  pub trip_of_row : finite.get (rows_of world).trips order ≡ Some row → IsOwn world order row
+  pub trip_of_row : finite.get (maps_of world).trips order ≡ Some row → IsOwn world order row
   unfolding spread
   trip_of_row at = trip_in (finite.entries world.vehicles) (entries_found key_cmp-total world.vehicles) (sym (finite.get-from_entries nat_list_cmp_total (rows_in (finite.entries world.vehicles)) order) ∙ at)
 
 -- ---- each act is of its job
 
 module _ (seats : ℕ) (world : World) (lawful : IsLawful seats world) where
-  act_of_job : (act : Act) → NamesItsJob world act → IsOfJob (rows_of world).jobs act
+  act_of_job : (act : Act) → NamesItsJob world act → IsOfJob (maps_of world).jobs act
   act_of_job act names = record { job = names.row; known = names.job; load = names.load; station = names.station }
 
-  pub lawful_acts : (order : List ℕ) (row : TripRow) → finite.get (rows_of world).trips order ≡ Some row → AllByRecursion (IsOfJob (rows_of world).jobs) row.acts
+  pub lawful_acts : (order : List ℕ) (row : TripRow) → finite.get (maps_of world).trips order ≡ Some row → AllByRecursion (IsOfJob (maps_of world).jobs) row.acts
   lawful_acts order row at =
       let has = trip_of_row world order row at in
-      subst (λ (r : TripRow). AllByRecursion (IsOfJob (rows_of world).jobs) r.acts) has.row_is
-      (each_of (IsOfJob (rows_of world).jobs) has.trip.acts (λ act among.
+      subst (λ (r : TripRow). AllByRecursion (IsOfJob (maps_of world).jobs) r.acts) has.row_is
+      (each_of (IsOfJob (maps_of world).jobs) has.trip.acts (λ act among.
       act_of_job act (lawful.jobs.acts has.key has.trip act (record { open_trip = (has.vehicle, has.there, has.open_trip); among = among }))))
 
-  pub lawful_trips : AreTripsOf (journeys_of (rows_of world).trips) (acts_of (rows_of world).trips) (rows_of world).jobs (rows_of world).trips
+  pub lawful_trips : AreTripsOf (journeys_of (maps_of world).trips) (acts_of (maps_of world).trips) (maps_of world).jobs (maps_of world).trips
   lawful_trips = record { has_journeys = refl; has_acts = refl; of_jobs = lawful_acts }
 
-  pub lawful_trip : (order : List ℕ) (trip : TripRow) → finite.get (rows_of world).trips order ≡ Some trip
-      → option_map (trip_told (journey_of trip)) (acts_told (rows_of world).jobs 0 (act_rows order trip)) ≡ Some trip
-  lawful_trip order trip at = ap (option_map (trip_told (journey_of trip))) (rows_tell_acts (rows_of world).jobs order 0 trip.acts (lawful_acts order trip at))
+  pub lawful_trip : (order : List ℕ) (trip : TripRow) → finite.get (maps_of world).trips order ≡ Some trip
+      → option_map (trip_told (journey_of trip)) (acts_told (maps_of world).jobs 0 (act_rows order trip)) ≡ Some trip
+  lawful_trip order trip at = ap (option_map (trip_told (journey_of trip))) (rows_tell_acts (maps_of world).jobs order 0 trip.acts (lawful_acts order trip at))

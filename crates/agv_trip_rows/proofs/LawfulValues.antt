@@ -14,7 +14,7 @@ use Rattle.agv_order.specs.WellFormed.{IsConfirmed, IsRising}
 use Rattle.agv_order.specs.declared.act.Act.{Act}
 use Rattle.agv_order.specs.declared.trip.Trip.{Trip}
 use Rattle.agv_world.specs.Lawful.{IsLawful}
-use Rattle.agv_world.specs.Rows.{rows_of, trip_row}
+use Rattle.agv_world.specs.Maps.{maps_of, trip_row}
 use Rattle.agv_world.specs.Worlds.{World}
 use Rattle.agv_world.specs.declared.row.TripRow.{TripRow}
 use Rattle.agv_world.proofs.lists.Entries.{same_Some}
@@ -102,9 +102,9 @@ module _ (joins : JoinsNodes) (seats : ℕ) (world : World) (lawful : IsLawful s
       } in
       subst (λ (r : TripRow). IsJourneyValue (journey_of r)) own.row_is value
 
-  pub journey_values : (order : List ℕ) (row : JourneyRow) → finite.get (journeys_of (rows_of world).trips) order ≡ Some row → IsName order × IsJourneyValue row
+  pub journey_values : (order : List ℕ) (row : JourneyRow) → finite.get (journeys_of (maps_of world).trips) order ≡ Some row → IsName order × IsJourneyValue row
   journey_values order row at =
-      let from = mapped journey_of (finite.get (rows_of world).trips order) row (sym (get-journeys (rows_of world).trips order) ∙ at) in
+      let from = mapped journey_of (finite.get (maps_of world).trips order) row (sym (get-journeys (maps_of world).trips order) ∙ at) in
       let own = trip_of_row world order from.0 from.1 in
       (own_order order from.0 own, subst IsJourneyValue from.2 (journey_value order from.0 own))
 
@@ -120,13 +120,13 @@ module _ (joins : JoinsNodes) (seats : ℕ) (world : World) (lawful : IsLawful s
       let low = (places_low 0 (length own.trip.edges) own.trip.acts planned.rising).1 in
       on_way act.place_at (length own.trip.edges) (at_place (λ (a : Act). a.place_at ≤ length own.trip.edges) own.trip.acts k act (subst (λ (r : TripRow). slice_get r.acts k ≡ Some act) (sym own.row_is) at) low) planned.short
 
-  pub act_values : (key : ActKey) (row : ActRow) → finite.get (acts_of (rows_of world).trips) key ≡ Some row → IsActKey key × IsActValue row
+  pub act_values : (key : ActKey) (row : ActRow) → finite.get (acts_of (maps_of world).trips) key ≡ Some row → IsActKey key × IsActValue row
   act_values key row at =
-      let from = chained (λ (trip : TripRow). option_map act_row (slice_get trip.acts key.n)) (finite.get (rows_of world).trips key.order) row (sym (get-acts (rows_of world).trips key) ∙ at) in
+      let from = chained (λ (trip : TripRow). option_map act_row (slice_get trip.acts key.n)) (finite.get (maps_of world).trips key.order) row (sym (get-acts (maps_of world).trips key) ∙ at) in
       let trip = from.0 in
       let found = mapped act_row (slice_get trip.acts key.n) row from.2 in
       let act = found.0 in
       let own = trip_of_row world key.order trip from.1 in
-      let of_job = at_place (IsOfJob (rows_of world).jobs) trip.acts key.n act found.1 (lawful_acts seats world lawful key.order trip from.1) in
+      let of_job = at_place (IsOfJob (maps_of world).jobs) trip.acts key.n act found.1 (lawful_acts seats world lawful key.order trip from.1) in
       let value : IsActValue (act_row act) = record { job = lawful.names.jobs_named act.job of_job.job of_job.known; place_at = places key.order trip own key.n act found.1 } in
       (record { order = own_order key.order trip own; number = few key.order trip own key.n (slice_get_within trip.acts key.n act found.1) }, subst IsActValue found.2 value)

@@ -5,7 +5,7 @@ ghost use Rattle.std.specs.List.{AllByRecursion};
 ghost use Rattle.std.specs.Option.{option_map};
 ghost use Rattle.agv_header.specs.Name.{IsName, name_cmp};
 ghost use Rattle.agv_world.specs.Lawful.{IsLawful};
-ghost use Rattle.agv_world.specs.Rows.{rows_of};
+ghost use Rattle.agv_world.specs.Maps.{maps_of};
 ghost use Rattle.agv_world.specs.Worlds.{World};
 ghost use Rattle.agv_world.specs.declared.row.JobRow.{JobRow as RowOfJob};
 ghost use Rattle.agv_world.specs.declared.row.TripRow.{TripRow};
@@ -23,9 +23,9 @@ use agv_layout::laws::joins_nodes;
 /// by its journey, its acts and the jobs.
 pub fn lawful_rows_tell_trips()
     ensures all { (seats : ℕ) (world : World) → IsLawful seats world
-        → AreTripsOf (journeys_of (rows_of world).trips) (acts_of (rows_of world).trips) (rows_of world).jobs (rows_of world).trips }
-    ensures each { (seats : ℕ) (world : World) → IsLawful seats world → (order : List ℕ) (trip : TripRow) → finite.get (rows_of world).trips order ≡ Some trip
-        → option_map (trip_told (journey_of trip)) (acts_told (rows_of world).jobs 0 (act_rows order trip)) ≡ Some trip }
+        → AreTripsOf (journeys_of (maps_of world).trips) (acts_of (maps_of world).trips) (maps_of world).jobs (maps_of world).trips }
+    ensures each { (seats : ℕ) (world : World) → IsLawful seats world → (order : List ℕ) (trip : TripRow) → finite.get (maps_of world).trips order ≡ Some trip
+        → option_map (trip_told (journey_of trip)) (acts_told (maps_of world).jobs 0 (act_rows order trip)) ≡ Some trip }
 {}
 
 /// The rows of acts tell these acts, where each is of a known job. Journeys, acts and jobs tell the trips of no more than one
@@ -41,9 +41,9 @@ pub fn rows_tell_one_table()
 /// update has a number above 200.
 pub fn lawful_rows_have_values()
     ensures journeys { (seats : ℕ) (world : World) → IsLawful seats world → (order : List ℕ) (row : RowOfJourney)
-        → finite.get (journeys_of (rows_of world).trips) order ≡ Some row → IsName order × IsJourneyValue row }
+        → finite.get (journeys_of (maps_of world).trips) order ≡ Some row → IsName order × IsJourneyValue row }
     ensures acts { (seats : ℕ) (world : World) → IsLawful seats world → (key : ActKey) (row : RowOfAct)
-        → finite.get (acts_of (rows_of world).trips) key ≡ Some row → IsActKey key × IsActValue row }
+        → finite.get (acts_of (maps_of world).trips) key ≡ Some row → IsActKey key × IsActValue row }
 {
     joins_nodes();
 }

@@ -9,7 +9,7 @@ use Rattle.agv_track.proofs.HeldLists.{footprint-held}
 use Rattle.agv_world.specs.ConsistentTrips.{IsHolder, IsVehicle}
 use Rattle.agv_world.specs.Lawful.{IsLawful, IsOccupant}
 use Rattle.agv_world.specs.LawfulParts.{HasLawfulLoads, HasLawfulVehicles}
-use Rattle.agv_world.specs.Rows.{standing_of}
+use Rattle.agv_world.specs.Maps.{standing_of}
 use Rattle.agv_world.specs.Worlds.{Vehicle, World}
 
 -- ---- a footprint lists what its vehicle occupies

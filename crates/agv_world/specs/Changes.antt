@@ -1,26 +1,26 @@
--- Changes of rows, one after the other.
+-- Changes of the maps of a world, one after the other.
 use Rattle.std.specs.Prelude.{List, [], ◌∷◌}
 use Rattle.std.specs.FinMap as finite
 use Rattle.std.specs.FinSet as set
-use Rattle.agv_world.specs.Rows.{Rows}
+use Rattle.agv_world.specs.Maps.{Maps}
 use Rattle.agv_header.specs.Spread.{edit}
 use Rattle.agv_world.specs.declared.change.Change.{Change}
 use Rattle.agv_world.specs.declared.change.Change.TheVariants as row
 
--- the tables with one row written or removed
-abbrev pub change : Rows → Change → Rows
-change rows (row.Node id) = record rows { nodes = set.insert rows.nodes id }
-change rows (row.Edge id ends) = record rows { edges = finite.insert rows.edges id ends }
-change rows (row.Station id site) = record rows { stations = finite.insert rows.stations id site }
-change rows (row.Vehicle key vehicle) = record rows { vehicles = finite.insert rows.vehicles key vehicle }
-change rows (row.Trip order trip) = record rows { trips = edit rows.trips order trip }
-change rows (row.Leg key edge) = record rows { legs = edit rows.legs key edge }
-change rows (row.Load id place) = record rows { loads = finite.insert rows.loads id place }
-change rows (row.Job id job) = record rows { jobs = finite.insert rows.jobs id job }
-change rows (row.Hold thing key) = record rows { holds = edit rows.holds thing key }
-change rows (row.Used key) = record rows { used = set.insert rows.used key }
+-- the maps with one entry written or removed
+abbrev pub change : Maps → Change → Maps
+change maps (row.Node id) = record maps { nodes = set.insert maps.nodes id }
+change maps (row.Edge id ends) = record maps { edges = finite.insert maps.edges id ends }
+change maps (row.Station id site) = record maps { stations = finite.insert maps.stations id site }
+change maps (row.Vehicle key vehicle) = record maps { vehicles = finite.insert maps.vehicles key vehicle }
+change maps (row.Trip order trip) = record maps { trips = edit maps.trips order trip }
+change maps (row.Leg key edge) = record maps { legs = edit maps.legs key edge }
+change maps (row.Load id place) = record maps { loads = finite.insert maps.loads id place }
+change maps (row.Job id job) = record maps { jobs = finite.insert maps.jobs id job }
+change maps (row.Hold thing key) = record maps { holds = edit maps.holds thing key }
+change maps (row.Used key) = record maps { used = set.insert maps.used key }
 
--- the tables after all changes
-unfoldable pub changed : List Change → Rows → Rows
-changed [] rows = rows
-changed (one ∷ changes) rows = changed changes (change rows one)
+-- the maps after all changes
+unfoldable pub changed : List Change → Maps → Maps
+changed [] maps = maps
+changed (one ∷ changes) maps = changed changes (change maps one)

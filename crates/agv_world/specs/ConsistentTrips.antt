@@ -1,4 +1,4 @@
--- Worlds whose trips are consistent with each other: their rows tell which world it is.
+-- Worlds whose trips are consistent with each other: their maps tell which world it is.
 use Rattle.std.specs.Prelude.{◌≡◌, Some}
 use Rattle.std.specs.FinMap as map
 use Rattle.std.specs.List.{AllByRecursion, Contains}
@@ -7,7 +7,7 @@ use Rattle.agv_header.specs.declared.key.VehicleKey.{VehicleKey}
 use Rattle.agv_order.specs.WellFormed.{IsEdgeOf}
 use Rattle.agv_order.specs.declared.trip.Trip.{Trip}
 use Rattle.agv_track.specs.Footprints.{footprint_of}
-use Rattle.agv_world.specs.Rows.{standing_of}
+use Rattle.agv_world.specs.Maps.{standing_of}
 use Rattle.agv_world.specs.Worlds.{Vehicle, World}
 
 -- the world has the vehicle
@@ -38,7 +38,7 @@ DrivesOnLayout world = (key : VehicleKey) (trip : Trip) → HasTrip world key tr
 abbrev pub SharesNothing : World → Type 0
 SharesNothing world = (one other : VehicleKey) (thing : Thing) → IsHolder world one thing → IsHolder world other thing → one ≡ other
 
--- what the rows need to tell the world
+-- what the maps need to tell the world
 pub record HasConsistentTrips (world : World) : Type 0 where
   pub one_trip : HasOneTripAnOrder world
   pub own : NamesItsVehicle world

@@ -28,7 +28,7 @@ use Rattle.agv_stock.specs.declared.place.Place.TheVariants as place
 use Rattle.agv_track.specs.Footprints.{Occupies}
 use Rattle.agv_world.specs.ConsistentTrips.{IsVehicle, HasTrip, HasOneTripAnOrder}
 use Rattle.agv_world.specs.Questions.{loads_at, loads_on, reserved}
-use Rattle.agv_world.specs.Rows.{standing_of}
+use Rattle.agv_world.specs.Maps.{standing_of}
 use Rattle.agv_world.specs.Worlds.{Vehicle, World, empty_layout}
 use Rattle.agv_world.specs.declared.row.JobRow.{JobRow}
 use Rattle.agv_world.specs.declared.row.Sent.{Sent}

@@ -18,7 +18,7 @@ use Rattle.agv_track.specs.Footprints.{footprint_of}
 use Rattle.agv_track.specs.Holds.{Holds, claimed, first_held}
 use Rattle.agv_world.specs.Lawful.{picks}
 use Rattle.agv_world.specs.Questions.{layout_set}
-use Rattle.agv_world.specs.Rows.{standing_of}
+use Rattle.agv_world.specs.Maps.{standing_of}
 use Rattle.agv_world.specs.Told.{is_of_order, names_of, names_vehicle, trip_in, vehicle_in, world_of}
 use Rattle.agv_world.specs.declared.key.LegKey.{LegKey}
 use Rattle.agv_world.specs.declared.key.UseKind.TheVariants as used

@@ -2,7 +2,7 @@ pub mod Keys
 pub mod KeyOrders
 pub mod Codes
 pub mod Worlds
-pub mod Rows
+pub mod Maps
 pub mod Changes
 pub mod Kept
 pub mod ConsistentTrips

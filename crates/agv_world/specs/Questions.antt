@@ -16,7 +16,7 @@ use Rattle.agv_order.specs.declared.trip.Trip.{Trip}
 use Rattle.agv_stock.specs.Phase.{is_live}
 use Rattle.agv_stock.specs.Rooms.{is_at, is_on, room_left}
 use Rattle.agv_stock.specs.declared.place.Place.{Place}
-use Rattle.agv_world.specs.Rows.{rows_of}
+use Rattle.agv_world.specs.Maps.{maps_of}
 use Rattle.agv_world.specs.Worlds.{Vehicle, World}
 use Rattle.agv_world.specs.declared.floor.Counted.{Counted}
 use Rattle.agv_world.specs.declared.floor.Counted.TheVariants as counted
@@ -46,7 +46,7 @@ trip_of world key = option_and_then (λ (vehicle : Vehicle). vehicle.trip) (fini
 
 -- the vehicle in whose footprint a node or edge is
 unfoldable pub holder_of : World → Thing → Option VehicleKey
-holder_of world thing = finite.get (rows_of world).holds thing
+holder_of world thing = finite.get (maps_of world).holds thing
 
 -- ---- the loads and the jobs
 

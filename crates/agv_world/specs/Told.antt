@@ -1,4 +1,4 @@
--- Which world the tables in memory tell, whatever rows they have (this project's profile).
+-- Which world the tables in memory tell, whatever they have (this project's profile).
 use Rattle.std.specs.Prelude.{ℕ, nat_eq, Bool, List, map, filter, filter_map, find, Option, option_map}
 use Rattle.std.specs.Cmp.Lexicographic.{pointwise}
 use Rattle.std.specs.FinMap as finite
@@ -15,7 +15,7 @@ use Rattle.agv_order.specs.declared.trip.Trip.{Trip}
 use Rattle.agv_track.specs.Footprints.{footprint_of}
 use Rattle.agv_track.specs.Holds.{is_in}
 use Rattle.agv_world.specs.Keys.{use_rank}
-use Rattle.agv_world.specs.Rows.{standing_of}
+use Rattle.agv_world.specs.Maps.{standing_of}
 use Rattle.agv_world.specs.Worlds.{Vehicle, World}
 use Rattle.agv_world.specs.declared.key.LegKey.{LegKey}
 use Rattle.agv_world.specs.declared.key.UseKey.{UseKey}
@@ -103,7 +103,7 @@ names_of tables kind = set.from_list (names_in kind (set.items tables.used))
 
 -- ---- all of it
 
--- the world that the tables tell; with consistent trips it is the world whose rows they are
+-- the world that the tables tell; with consistent trips it is the world whose maps they are
 abbrev pub world_of : Tables → World
 world_of tables = record {
   layout = layout_of_tables tables;

@@ -1,4 +1,4 @@
-//! What becomes of a world and its rows when one thing is written, for every world. Each function does
+//! What becomes of a world and its maps when one thing is written, for every world. Each function does
 //! nothing: its clause is the law.
 ghost use Rattle.std.specs.Prelude.{◌≡◌, ◌≢◌, ℕ, List, [], ◌∷◌, ◌++◌, None, Some};
 ghost use Rattle.std.specs.FinMap as finite;
@@ -12,7 +12,7 @@ ghost use Rattle.agv_track.specs.Footprints.{footprint_of};
 ghost use Rattle.agv_track.specs.Holds.{first_held};
 ghost use Rattle.agv_world.specs.Changes.{changed};
 ghost use Rattle.agv_world.specs.ConsistentTrips.{HasOneTripAnOrder, HasTrip, SharesNothing};
-ghost use Rattle.agv_world.specs.Rows.{Rows, rows_of, standing_of};
+ghost use Rattle.agv_world.specs.Maps.{Maps, maps_of, standing_of};
 ghost use Rattle.agv_world.specs.TableChanges.{job_changes, layout_changes, load_changes, written, with_use};
 ghost use Rattle.agv_world.specs.VehicleChanges.{KeepsOrderAndEdges, StandsAsBefore, own_changes, trip_before, vehicle_changes, with_vehicle};
 ghost use Rattle.agv_world.specs.Worlds.{Vehicle, World, empty_layout};
@@ -25,13 +25,13 @@ use agv_layout::laws::lists_its_nodes;
 
 /// Changes are carried out one after the other.
 pub fn changes_in_turn()
-    ensures { (first later : List Change) (rows : Rows) → changed (first ++ later) rows ≡ changed later (changed first rows) }
+    ensures { (first later : List Change) (maps : Maps) → changed (first ++ later) maps ≡ changed later (changed first maps) }
 {}
 
 /// Footprints stay apart where a vehicle is written whose claim of its footprint is not refused.
 pub fn keeps_apart_by_claim()
     ensures { (world : World) (key : VehicleKey) (vehicle : Vehicle) → SharesNothing world
-        → first_held (rows_of world).holds key (footprint_of (standing_of vehicle)) ≡ None
+        → first_held (maps_of world).holds key (footprint_of (standing_of vehicle)) ≡ None
         → SharesNothing (with_vehicle world key vehicle) }
 {}
 
@@ -75,44 +75,44 @@ pub fn keeps_one_trip_new()
         → HasOneTripAnOrder (with_vehicle world key vehicle) }
 {}
 
-/// A vehicle is written in place of the one that was there, if any: the rows that change lead from the rows
+/// A vehicle is written in place of the one that was there, if any: the rows that change lead from the maps
 /// of the world to those of the world with that vehicle.
 pub fn follows_a_vehicle()
     ensures { (world : World) (key : VehicleKey) (vehicle : Vehicle)
         → HasOneTripAnOrder world → SharesNothing world
         → HasOneTripAnOrder (with_vehicle world key vehicle) → SharesNothing (with_vehicle world key vehicle)
         → KeepsOrderAndEdges (trip_before (finite.get world.vehicles key)) vehicle.trip
-        → changed (vehicle_changes key (finite.get world.vehicles key) vehicle) (rows_of world) ≡ rows_of (with_vehicle world key vehicle) }
+        → changed (vehicle_changes key (finite.get world.vehicles key) vehicle) (maps_of world) ≡ maps_of (with_vehicle world key vehicle) }
 {}
 
 /// A vehicle is written that stands where it stood, with the trip that it had: its own row alone changes, if it does.
 pub fn notes_a_vehicle()
     ensures { (world : World) (key : VehicleKey) (old new : Vehicle) → finite.get world.vehicles key ≡ Some old → StandsAsBefore old new
         → HasOneTripAnOrder world → SharesNothing world
-        → changed (own_changes key (Some old.row) new.row) (rows_of world) ≡ rows_of (with_vehicle world key new) }
+        → changed (own_changes key (Some old.row) new.row) (maps_of world) ≡ maps_of (with_vehicle world key new) }
 {}
 
 /// Loads move, one after the other: a row of each changes.
 pub fn moves_loads()
     ensures { (world : World) (moves : List (List ℕ × Place))
-        → changed (load_changes moves) (rows_of world) ≡ rows_of (record world { places = written world.places moves }) }
+        → changed (load_changes moves) (maps_of world) ≡ maps_of (record world { places = written world.places moves }) }
 {}
 
 /// Jobs begin, go on or end, one after the other: a row of each changes.
 pub fn writes_jobs()
     ensures { (world : World) (jobs : List (List ℕ × JobRow))
-        → changed (job_changes jobs) (rows_of world) ≡ rows_of (record world { jobs = written world.jobs jobs }) }
+        → changed (job_changes jobs) (maps_of world) ≡ maps_of (record world { jobs = written world.jobs jobs }) }
 {}
 
 /// A name is used: it has a row then.
 pub fn uses_a_name()
-    ensures { (world : World) (key : UseKey) → changed (row.Used key ∷ []) (rows_of world) ≡ rows_of (with_use world key.kind key.name) }
+    ensures { (world : World) (key : UseKey) → changed (row.Used key ∷ []) (maps_of world) ≡ maps_of (with_use world key.kind key.name) }
 {}
 
 /// Where there is no layout yet, it is set: a row of each node, edge and station is written.
 pub fn sets_the_layout()
     ensures { (world : World) (layout : Layout) → world.layout ≡ empty_layout
-        → changed (layout_changes layout) (rows_of world) ≡ rows_of (record world { layout = layout }) }
+        → changed (layout_changes layout) (maps_of world) ≡ maps_of (record world { layout = layout }) }
 {
     lists_its_nodes();
 }

@@ -1,11 +1,11 @@
-//! What holds of rows, for every world. Each function does nothing: its clause is the law.
+//! What holds of the maps of a world, for every world. Each function does nothing: its clause is the law.
 ghost use Rattle.std.specs.Prelude.{◌≡◌, ◌↔◌, Some};
 ghost use Rattle.std.specs.FinMap as map;
 ghost use Rattle.agv_header.specs.declared.key.Thing.{Thing};
 ghost use Rattle.agv_header.specs.declared.key.VehicleKey.{VehicleKey};
 ghost use Rattle.agv_world.specs.ConsistentTrips.{HasConsistentTrips, IsHolder, SharesNothing};
 ghost use Rattle.agv_world.specs.Kept.{Keeps};
-ghost use Rattle.agv_world.specs.Rows.{rows_of};
+ghost use Rattle.agv_world.specs.Maps.{maps_of};
 ghost use Rattle.agv_world.specs.Told.{world_of};
 ghost use Rattle.agv_world.specs.Worlds.{World};
 ghost use Rattle.agv_world.specs.declared.world.World.{World as Tables};
@@ -14,13 +14,13 @@ ghost use Rattle.agv_world.specs.declared.world.World.{World as Tables};
 /// footprint, and nothing else.
 pub fn holds_are_footprints()
     ensures { (world : World) → SharesNothing world → (thing : Thing) (key : VehicleKey)
-        → (map.get (rows_of world).holds thing ≡ Some key) ↔ IsHolder world key thing }
+        → (map.get (maps_of world).holds thing ≡ Some key) ↔ IsHolder world key thing }
 {}
 
-/// Two worlds with consistent trips that have the same rows are one.
+/// Two worlds with consistent trips that have the same maps are one.
 #[tactic(auto, using(crate::proofs::world_rows::Unique::one_world))]
-pub fn rows_tell_the_world()
-    ensures { (world other : World) → HasConsistentTrips world → HasConsistentTrips other → rows_of world ≡ rows_of other → world ≡ other }
+pub fn maps_tell_the_world()
+    ensures { (world other : World) → HasConsistentTrips world → HasConsistentTrips other → maps_of world ≡ maps_of other → world ≡ other }
 {}
 
 /// The tables of a world with consistent trips tell that world.

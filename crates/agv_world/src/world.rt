@@ -2,7 +2,7 @@
 ghost use Rattle.std.specs.Prelude.{◌≡◌, [], IfOk, IsOk, OnOk, OnErr};
 ghost use Rattle.agv_world.specs.Changes.{change, changed};
 ghost use Rattle.agv_world.specs.Kept.{Agrees, Keeps};
-ghost use Rattle.agv_world.specs.Rows.{Rows, rows_of};
+ghost use Rattle.agv_world.specs.Maps.{Maps, maps_of};
 ghost use Rattle.agv_header.specs.Spread.{edit};
 ghost use Rattle.agv_world.specs.Worlds.{World as WorldOf, empty_world};
 
@@ -75,15 +75,15 @@ impl World {
         })
     }
 
-    /// Carries out the changes. Where they lead from the rows of this world to the rows of some world, it
+    /// Carries out the changes. Where they lead from the maps of this world to those of some world, it
     /// is that world then.
     ///
     /// `Memory` where an allocation was refused; then nothing has changed. It takes time and memory in
     /// proportion to the world, which it copies, and time for the changes, times the logarithm of the rows.
     /// Where there is no change it takes neither.
     pub fn apply(&mut self, changes: &[Change]) -> Result<(), Memory>
-        ensures applied { OnOk result ((world next : WorldOf) → Keeps self.old world → changed changes.now (rows_of world) ≡ rows_of next → Keeps self.new next) }
-        ensures agrees { OnOk result ((rows : Rows) → Agrees self.old rows → Agrees self.new (changed changes.now rows)) }
+        ensures applied { OnOk result ((world next : WorldOf) → Keeps self.old world → changed changes.now (maps_of world) ≡ maps_of next → Keeps self.new next) }
+        ensures agrees { OnOk result ((maps : Maps) → Agrees self.old maps → Agrees self.new (changed changes.now maps)) }
         ensures refused { OnErr result (self.new ≡ self.old) }
         ensures unchanged { changes.now ≡ [] → IsOk result × (self.new ≡ self.old) }
     {
@@ -98,7 +98,7 @@ impl World {
 
     // Carries out the changes one after the other; after an error it has carried out some of them.
     fn put_all(&mut self, changes: &[Change]) -> Result<(), Memory>
-        ensures { OnOk result ((rows : Rows) → Agrees self.old rows → Agrees self.new (changed changes.now rows)) }
+        ensures { OnOk result ((maps : Maps) → Agrees self.old maps → Agrees self.new (changed changes.now maps)) }
     {
         for written in changes {
             self.put(written)?;
@@ -108,7 +108,7 @@ impl World {
 
     // Carries out one change; holds have no table here.
     fn put(&mut self, written: &Change) -> Result<(), Memory>
-        ensures { OnOk result ((rows : Rows) → Agrees self.old rows → Agrees self.new (change rows written.now)) }
+        ensures { OnOk result ((maps : Maps) → Agrees self.old maps → Agrees self.new (change maps written.now)) }
     {
         match written {
             Change::Node(id) => self.nodes.insert(*id),

@@ -18,7 +18,7 @@ use Rattle.agv_world.proofs.lists.InOrder.{entries-shown}
 use Rattle.agv_world.proofs.lists.Puts.{put_cases}
 use Rattle.agv_rows.specs.Columns.{capacity_columns, vehicle_capacity_columns, vehicle_columns, vehicle_in}
 use Rattle.agv_rows.specs.DecodedTrips.{capacities_of, vehicle_with}
-use Rattle.agv_rows.specs.RowLists.{rows_in}
+use Rattle.agv_rows.specs.Rows.{rows_in}
 use Rattle.agv_rows.specs.ValueEncodings.{if_some}
 use Rattle.agv_row_reading.specs.ReadTables.{are_of_vehicles, if_free, read_rows}
 use Rattle.agv_rows.specs.declared.capacity_row.CapacityRow.{CapacityRow}

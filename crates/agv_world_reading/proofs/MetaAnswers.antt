@@ -7,11 +7,10 @@ use Rattle.std.specs.FinMap.{nat_cmp-IsAntisymmetric}
 use Rattle.std.specs.Ordering.{nat_cmp}
 use Rattle.sqlite.proofs.Callers.{one_permutation}
 use Rattle.sqlite_value.specs.Order.{Row}
-use Rattle.agv_world.specs.Rows.{rows_of}
 use Rattle.agv_world.specs.Worlds.{World}
 use Rattle.agv_rows.specs.Columns.{meta_columns, meta_in}
 use Rattle.agv_row_reading.specs.ReadTables.{is_desk_meta, meta_read}
-use Rattle.agv_rows.specs.RowLists.{row_lists, rows_in}
+use Rattle.agv_rows.specs.Rows.{row_lists, rows_in, rows_of}
 use Rattle.agv_schema.specs.SchemaNumbers.{schema_number}
 use Rattle.agv_statements.specs.RowQueries.{all_rows_of}
 use Rattle.agv_row_reading.specs.TablesRead.{desk_meta}
@@ -36,7 +35,7 @@ one_row = ap (map (λ (e : ℕ × ℕ). meta_columns e.0 e.1)) one_entry
 is_read : meta_read (meta_columns 1 schema_number ∷ []) ≡ Ok tt
 is_read = ap (λ (o : Option (ℕ × ℕ)). cond (is_desk_meta o) (Ok tt) (Err fault.Damaged)) (meta_kept 1 schema_number (omega arith) (omega arith))
 
-pub tells_meta : (world : World) (rows : List Row) → IsPermutation (all_rows_of the.Meta (row_lists (rows_of world))) rows → (r : Result (Unit {0}) OpenFault) → r ≡ meta_read rows → Follows r (λ nothing. Unit {0})
+pub tells_meta : (world : World) (rows : List Row) → IsPermutation (all_rows_of the.Meta (rows_of world)) rows → (r : Result (Unit {0}) OpenFault) → r ≡ meta_read rows → Follows r (λ nothing. Unit {0})
 unfolding row_lists
 tells_meta world rows shown r read =
     let alone = one_permutation (meta_columns 1 schema_number) rows (subst (λ l. IsPermutation l rows) one_row shown) in

@@ -20,7 +20,7 @@ use Rattle.agv_stock.specs.declared.place.Place.{Place}
 use Rattle.agv_world.specs.KeyOrders.{use_cmp-total}
 use Rattle.agv_world.specs.Keys.{leg_cmp, use_cmp}
 use Rattle.agv_trip_rows.specs.TripRows.{acts_of, journeys_of}
-use Rattle.agv_world.specs.Rows.{Rows, rows_of, vehicle_rows, trip_rows, leg_rows, hold_rows}
+use Rattle.agv_world.specs.Maps.{Maps, maps_of, vehicle_rows, trip_rows, leg_rows, hold_rows}
 use Rattle.agv_world.specs.Worlds.{empty_world}
 use Rattle.agv_world.specs.declared.key.LegKey.{LegKey}
 use Rattle.agv_world.specs.declared.key.UseKey.{UseKey}
@@ -28,7 +28,7 @@ use Rattle.agv_world.specs.declared.row.JobRow.{JobRow}
 use Rattle.agv_world.specs.declared.row.TripRow.{TripRow}
 use Rattle.agv_world.specs.declared.row.VehicleRow.{VehicleRow}
 use Rattle.agv_creation.specs.DeskTables.{first_rows}
-use Rattle.agv_rows.specs.RowLists.{row_lists}
+use Rattle.agv_rows.specs.Rows.{row_lists, rows_of}
 use Rattle.agv_rows.proofs.TripRowLaws.{ActsListed, JourneysListed}
 
 pub no_entries : {K X : Type 0} (R : K → K → Ordering) → finite.entries (finite.empty {K = K} {X = X} {R = R}) ≡ []
@@ -47,7 +47,7 @@ unfolding spread
 nothing_spread {K} {X} R S rows = rw (no_entries {K = K} {X = X} R)
 
 -- the row of the schema's number, and nothing else
-abbrev nothing : Rows
+abbrev nothing : Maps
 nothing = record {
   meta = finite.insert finite.empty 1 schema_number;
   nodes = set.empty;
@@ -62,7 +62,7 @@ nothing = record {
   used = set.empty;
 }
 
-rows_of_nothing : rows_of empty_world ≡ nothing
+rows_of_nothing : maps_of empty_world ≡ nothing
 rows_of_nothing = rw (
   nothing_spread key_cmp key_cmp vehicle_rows,
   nothing_spread key_cmp name_cmp trip_rows,
@@ -97,5 +97,5 @@ lists_of_nothing journeys acts = rw (
   no_entries {K = UseKey} {X = Unit {0}} use_cmp,
 )
 
-pub first_are_empty : JourneysListed → ActsListed → row_lists (rows_of empty_world) ≡ first_rows
+pub first_are_empty : JourneysListed → ActsListed → rows_of empty_world ≡ first_rows
 first_are_empty journeys acts = ap row_lists rows_of_nothing ∙ lists_of_nothing journeys acts

@@ -17,16 +17,15 @@ use Rattle.sqlite.specs.State.{CommitsShowing, FailsToQuery, HasCleanDisk, IsSta
 use Rattle.sqlite.proofs.Callers.{EndsIn, begins_shown, command_of, given_begin}
 use Rattle.sqlite.proofs.StateLemmas.{survives_then}
 use Rattle.agv_world.specs.Lawful.{IsLawful}
-use Rattle.agv_world.specs.Rows.{rows_of}
 use Rattle.agv_world.specs.Worlds.{World}
 use Rattle.agv_schema.specs.DeskRows.{Answers, IsDesk, Placing}
-use Rattle.agv_rows.specs.RowLists.{row_lists}
 use Rattle.agv_schema.specs.SchemaNumbers.{desk_seats}
 use Rattle.agv_statements.specs.RowQueries.{all_rows_of, all_rows_text}
 use Rattle.agv_row_reading.specs.OpenFault.{open_fault_of}
 use Rattle.agv_row_reading.specs.WorldAnswers.{HasNoWorld, AnswersQuery}
 use Rattle.agv_row_reading.specs.ReadTables.{Reads, if_free, read_rows}
 use Rattle.agv_rows.specs.ValueEncodings.{if_some}
+use Rattle.agv_rows.specs.Rows.{rows_of}
 use Rattle.agv_row_reading.specs.TablesRead.{TellsAll}
 use Rattle.agv_row_reading.specs.declared.open_fault.OpenFault.{OpenFault}
 use Rattle.agv_row_reading.specs.declared.open_fault.OpenFault.TheVariants as fault
@@ -59,7 +58,7 @@ ends name s desk is has c db params it =
 
 module _ (name : TableName) where
   abbrev says : World → List Row → Type 0
-  says world rows = IsPermutation (all_rows_of name (row_lists (rows_of world))) rows
+  says world rows = IsPermutation (all_rows_of name (rows_of world)) rows
 
   abbrev shown : List (List Row) → List Row → Type 0
   shown lists rows = IsPermutation (all_rows_of name lists) rows
@@ -161,7 +160,7 @@ module _ {S K X : Type 0} {R : K → K → Ordering} (g : Ghosts S) (name : Tabl
           (tables_then desk (state g old) (state g now) lists (so_far.same (early clean)) held) in
           record {
             tells = record {
-              told = λ clean desk world has. answers clean desk has.stands (row_lists (rows_of world)) has.rows;
+              told = λ clean desk world has. answers clean desk has.stands (rows_of world) has.rows;
               kept = same_all;
               answering = λ clean. ((same_all clean).0.was_open, (same_all clean).0.is_open);
               idle = λ was. idle (so_far.idle was);
@@ -196,10 +195,10 @@ module _ {S K X : Type 0} {R : K → K → Ordering} (g : Ghosts S) (name : Tabl
               let later = same_all clean in
               let given = so_far.given ++ row ∷ [] in
               let begins = given_begin g (all_rows_text name) [] new given (advances clean (all_rows_text name) [] so_far.given (so_far.gives (early clean))) in
-              let held = tables_then desk (state g old) (state g new) (row_lists (rows_of world)) later has.rows in
+              let held = tables_then desk (state g old) (state g new) (rows_of world) later has.rows in
               let whole = begins_shown (all_rows_text name) [] (state g new) (state g new) given begins (same_again (state g old) (state g new) later)
               (λ c db it source. ends name (state g new) desk has.stands held.schema_is c db _ it) in
-              never world has.lawful (given ++ whole.0) (all_given name [] (state g new) (state g new) (given ++ whole.0) whole.1 desk has.stands (row_lists (rows_of world)) held)
+              never world has.lawful (given ++ whole.0) (all_given name [] (state g new) (state g new) (given ++ whole.0) whole.1 desk has.stands (rows_of world) held)
               (ap (read_rows told empty) (append_assoc so_far.given (row ∷ []) whole.0) ∙ so_far.read (row ∷ whole.0) ∙ none whole.0)
 
         pub refused : {A : Type 0} (means : World → A → Type 0) (holds : List (List Row) → A → Type 0)

@@ -16,14 +16,14 @@ use Rattle.agv_world.specs.ConsistentTrips.{HasConsistentTrips}
 use Rattle.agv_world.specs.KeyOrders.{leg_cmp-IsAntisymmetric, leg_cmp-total, use_cmp-IsAntisymmetric, use_cmp-total}
 use Rattle.agv_world.specs.Keys.{leg_cmp, use_cmp}
 use Rattle.agv_world.specs.Lawful.{IsLawful}
-use Rattle.agv_world.specs.Rows.{rows_of}
+use Rattle.agv_world.specs.Maps.{maps_of}
 use Rattle.agv_world.specs.Worlds.{World}
 use Rattle.agv_world.specs.declared.row.JobRow.{JobRow}
 use Rattle.agv_rows.specs.Columns.{capacity_columns, capacity_in, edge_columns, edge_in, hold_columns, hold_in, job_columns, job_in, leg_columns, leg_in, load_columns, load_in, node_columns, node_in, station_columns, station_in, used_columns, used_in, vehicle_columns}
 use Rattle.agv_rows.specs.DecodedTrips.{capacities_of, vehicle_with}
 use Rattle.agv_rows.specs.TypedRows.{IsNumber}
 use Rattle.agv_row_reading.specs.ReadTables.{Reads, read_members, read_rows}
-use Rattle.agv_rows.specs.RowLists.{row_lists}
+use Rattle.agv_rows.specs.Rows.{row_lists, rows_of}
 use Rattle.agv_statements.specs.RowQueries.{all_rows_of}
 use Rattle.agv_schema.specs.SchemaNumbers.{desk_seats}
 use Rattle.agv_row_reading.specs.declared.open_fault.OpenFault.{OpenFault}
@@ -41,26 +41,26 @@ use Rattle.agv_row_reading.proofs.TableReading.{reads_all, reads_it}
 use Rattle.agv_row_reading.proofs.TablesBack.{reads_members}
 
 module _ (world : World) (lawful : IsLawful desk_seats world) (rows : List Row) where
-  pub tells_places : IsPermutation (all_rows_of the.Load (row_lists (rows_of world))) rows → (r : Result (finite.FinMap name_cmp Place) OpenFault) → Reads r (read_rows load_in finite.empty rows) → Follows r (λ table. table ≡ world.places)
+  pub tells_places : IsPermutation (all_rows_of the.Load (rows_of world)) rows → (r : Result (finite.FinMap name_cmp Place) OpenFault) → Reads r (read_rows load_in finite.empty rows) → Follows r (λ table. table ≡ world.places)
   unfolding row_lists
   tells_places shown r read = reads_it world.places r (read_rows load_in finite.empty rows) read (reads_all nat_list_cmp_total names_apart world.places load_columns load_in (λ id x at. load_kept id x (lawful.names.loads_named id x at) (place_value world lawful id x at)) rows shown)
 
-  pub tells_jobs : IsPermutation (all_rows_of the.Job (row_lists (rows_of world))) rows → (r : Result (finite.FinMap name_cmp JobRow) OpenFault) → Reads r (read_rows job_in finite.empty rows) → Follows r (λ table. table ≡ world.jobs)
+  pub tells_jobs : IsPermutation (all_rows_of the.Job (rows_of world)) rows → (r : Result (finite.FinMap name_cmp JobRow) OpenFault) → Reads r (read_rows job_in finite.empty rows) → Follows r (λ table. table ≡ world.jobs)
   unfolding row_lists
   tells_jobs shown r read = reads_it world.jobs r (read_rows job_in finite.empty rows) read (reads_all nat_list_cmp_total names_apart world.jobs job_columns job_in (λ id x at. job_kept id x (lawful.names.jobs_named id x at) (job_value world lawful id x at)) rows shown)
 
-  pub tells_stations : IsPermutation (all_rows_of the.Station (row_lists (rows_of world))) rows → (r : Result (finite.FinMap name_cmp StationSite) OpenFault) → Reads r (read_rows station_in finite.empty rows) → Follows r (λ table. table ≡ world.layout.stations)
+  pub tells_stations : IsPermutation (all_rows_of the.Station (rows_of world)) rows → (r : Result (finite.FinMap name_cmp StationSite) OpenFault) → Reads r (read_rows station_in finite.empty rows) → Follows r (λ table. table ≡ world.layout.stations)
   unfolding row_lists
   tells_stations shown r read = reads_it world.layout.stations r (read_rows station_in finite.empty rows) read (reads_all nat_list_cmp_total names_apart world.layout.stations station_columns station_in (λ id x at. station_kept id x (station_named world lawful id x at) (site_value world lawful id x at)) rows shown)
 
-  pub tells_edges : IsPermutation (all_rows_of the.Edge (row_lists (rows_of world))) rows → (r : Result (finite.FinMap name_cmp EdgeEnds) OpenFault) → Reads r (read_rows edge_in finite.empty rows) → Follows r (λ table. table ≡ world.layout.edges)
+  pub tells_edges : IsPermutation (all_rows_of the.Edge (rows_of world)) rows → (r : Result (finite.FinMap name_cmp EdgeEnds) OpenFault) → Reads r (read_rows edge_in finite.empty rows) → Follows r (λ table. table ≡ world.layout.edges)
   unfolding row_lists
   tells_edges shown r read = reads_it world.layout.edges r (read_rows edge_in finite.empty rows) read (reads_all nat_list_cmp_total names_apart world.layout.edges edge_columns edge_in (λ id x at. edge_kept id x (edge_named world lawful id x at) (ends_value world lawful id x at)) rows shown)
 
-  pub tells_capacities : IsPermutation (all_rows_of the.Capacity (row_lists (rows_of world))) rows → (r : Result (finite.FinMap key_cmp CapacityRow) OpenFault) → Reads r (read_rows capacity_in finite.empty rows) → Follows r (λ table. table ≡ capacities_of (rows_of world).vehicles)
+  pub tells_capacities : IsPermutation (all_rows_of the.Capacity (rows_of world)) rows → (r : Result (finite.FinMap key_cmp CapacityRow) OpenFault) → Reads r (read_rows capacity_in finite.empty rows) → Follows r (λ table. table ≡ capacities_of (maps_of world).vehicles)
   unfolding row_lists
   tells_capacities shown r read =
-      let vehicles = (rows_of world).vehicles in
+      let vehicles = (maps_of world).vehicles in
       reads_it (capacities_of vehicles) r (read_rows capacity_in finite.empty rows) read
       (reads_all key_cmp-total key_cmp-IsAntisymmetric (capacities_of vehicles) capacity_columns capacity_in (λ key room at.
       let its = vehicle_of vehicles key room at in
@@ -68,39 +68,39 @@ module _ (world : World) (lawful : IsLawful desk_seats world) (rows : List Row) 
       capacity_kept key room value.0 (subst (λ (x : CapacityRow). IsNumber x.capacity) its.2 value.1.capacity)) rows (subst (λ l. IsPermutation l rows) (capacity_rows vehicles) shown))
 
   -- the vehicles, where these are their capacities
-  pub reads_vehicles : (capacities : finite.FinMap key_cmp CapacityRow) → capacities ≡ capacities_of (rows_of world).vehicles → IsPermutation (all_rows_of the.Vehicle (row_lists (rows_of world))) rows
-      → read_rows (vehicle_with capacities) finite.empty rows ≡ Some (rows_of world).vehicles
+  pub reads_vehicles : (capacities : finite.FinMap key_cmp CapacityRow) → capacities ≡ capacities_of (maps_of world).vehicles → IsPermutation (all_rows_of the.Vehicle (rows_of world)) rows
+      → read_rows (vehicle_with capacities) finite.empty rows ≡ Some (maps_of world).vehicles
   unfolding row_lists
   reads_vehicles capacities are shown =
-      let vehicles = (rows_of world).vehicles in
+      let vehicles = (maps_of world).vehicles in
       ap (λ (r : finite.FinMap key_cmp CapacityRow). read_rows (vehicle_with r) finite.empty rows) are
       ∙ reads_all key_cmp-total key_cmp-IsAntisymmetric vehicles vehicle_columns (vehicle_with (capacities_of vehicles)) (λ key row at.
       let its = vehicle_value world lawful key row (sym (row_at world key) ∙ at) in
       told_with (capacities_of vehicles) (vehicle_columns key row) key (record row { capacity = 1 }) (record { capacity = row.capacity }) (vehicle_kept key row its.0 its.1) (capacity_known vehicles key row at)) rows shown
 
-  pub tells_nodes : IsPermutation (all_rows_of the.Node (row_lists (rows_of world))) rows → (r : Result (set.FinSet name_cmp) OpenFault) → Reads r (read_members node_in set.empty rows) → Follows r (λ nodes. nodes ≡ world.layout.nodes)
+  pub tells_nodes : IsPermutation (all_rows_of the.Node (rows_of world)) rows → (r : Result (set.FinSet name_cmp) OpenFault) → Reads r (read_members node_in set.empty rows) → Follows r (λ nodes. nodes ≡ world.layout.nodes)
   unfolding row_lists
   tells_nodes shown r read =
       reads_it world.layout.nodes r (read_members node_in set.empty rows) read
       (reads_members nat_list_cmp_total names_apart node_columns node_in world.layout.nodes (λ id there. name_kept id (node_named world lawful id there)) rows shown)
 
-  pub tells_used_names : IsPermutation (all_rows_of the.Used (row_lists (rows_of world))) rows → (r : Result (set.FinSet use_cmp) OpenFault) → Reads r (read_members used_in set.empty rows) → Follows r (λ used. used ≡ (rows_of world).used)
+  pub tells_used_names : IsPermutation (all_rows_of the.Used (rows_of world)) rows → (r : Result (set.FinSet use_cmp) OpenFault) → Reads r (read_members used_in set.empty rows) → Follows r (λ used. used ≡ (maps_of world).used)
   unfolding row_lists
   tells_used_names shown r read =
-      reads_it (rows_of world).used r (read_members used_in set.empty rows) read
-      (reads_members use_cmp-total use_cmp-IsAntisymmetric used_columns used_in (rows_of world).used (λ key there. used_kept key (used_named world lawful key.kind key.name (sym (used_is world key.kind key.name) ∙ there))) rows shown)
+      reads_it (maps_of world).used r (read_members used_in set.empty rows) read
+      (reads_members use_cmp-total use_cmp-IsAntisymmetric used_columns used_in (maps_of world).used (λ key there. used_kept key (used_named world lawful key.kind key.name (sym (used_is world key.kind key.name) ∙ there))) rows shown)
 
 module _ (world : World) (lawful : IsLawful desk_seats world) (good : HasConsistentTrips world) (rows : List Row) where
-  pub tells_legs : IsPermutation (all_rows_of the.Leg (row_lists (rows_of world))) rows → (r : Result (finite.FinMap leg_cmp (List ℕ)) OpenFault) → Reads r (read_rows leg_in finite.empty rows) → Follows r (λ table. table ≡ (rows_of world).legs)
+  pub tells_legs : IsPermutation (all_rows_of the.Leg (rows_of world)) rows → (r : Result (finite.FinMap leg_cmp (List ℕ)) OpenFault) → Reads r (read_rows leg_in finite.empty rows) → Follows r (λ table. table ≡ (maps_of world).legs)
   unfolding row_lists
   tells_legs shown r read =
-      let legs = (rows_of world).legs in
+      let legs = (maps_of world).legs in
       reads_it legs r (read_rows leg_in finite.empty rows) read
       (reads_all leg_cmp-total leg_cmp-IsAntisymmetric legs leg_columns leg_in (λ key id at. let its = leg_value world lawful good key id at in leg_kept key id its.0 its.1) rows shown)
 
-  pub tells_holds : IsPermutation (all_rows_of the.Hold (row_lists (rows_of world))) rows → (r : Result (finite.FinMap thing_cmp VehicleKey) OpenFault) → Reads r (read_rows hold_in finite.empty rows) → Follows r (λ table. table ≡ (rows_of world).holds)
+  pub tells_holds : IsPermutation (all_rows_of the.Hold (rows_of world)) rows → (r : Result (finite.FinMap thing_cmp VehicleKey) OpenFault) → Reads r (read_rows hold_in finite.empty rows) → Follows r (λ table. table ≡ (maps_of world).holds)
   unfolding row_lists
   tells_holds shown r read =
-      let holds = (rows_of world).holds in
+      let holds = (maps_of world).holds in
       reads_it holds r (read_rows hold_in finite.empty rows) read
       (reads_all thing_cmp-total thing_cmp-IsAntisymmetric holds hold_columns hold_in (λ thing key at. hold_kept thing key (held_value world lawful good thing key at) (holder_value world lawful thing key at)) rows shown)

@@ -10,14 +10,14 @@ use Rattle.agv_trip_rows.specs.TripRows.{acts_of, journeys_of}
 use Rattle.agv_world.specs.ConsistentTrips.{HasConsistentTrips}
 use Rattle.agv_world.specs.Kept.{Keeps}
 use Rattle.agv_world.specs.Lawful.{IsLawful}
-use Rattle.agv_world.specs.Rows.{rows_of}
+use Rattle.agv_world.specs.Maps.{maps_of}
 use Rattle.agv_world.specs.Told.{world_of}
 use Rattle.agv_world.specs.Worlds.{World}
 use Rattle.agv_world.specs.declared.row.VehicleRow.{VehicleRow}
 use Rattle.agv_world.specs.declared.world.World.{World as Tables}
 use Rattle.agv_schema.specs.DeskRows.{HaveRows, Holds, IsDesk, Placing, columns_in, place_of, table_at, table_names, width_of}
 use Rattle.agv_row_reading.specs.ReadTables.{Reads}
-use Rattle.agv_rows.specs.RowLists.{AreAlike, row_lists}
+use Rattle.agv_rows.specs.Rows.{AreAlike, rows_of}
 use Rattle.agv_schema.specs.SchemaNumbers.{desk_seats}
 use Rattle.agv_rows.specs.DecodedTrips.{capacities_of, trips_with}
 use Rattle.agv_row_reading.specs.WorldAnswers.{HasWorld}
@@ -64,17 +64,17 @@ given_by table nothing (Some t) follows = follows (Ok t) refl
 
 -- all its trips are told by their journeys, their acts and the rows of their jobs
 abbrev TellsTrips : World → Type 0
-TellsTrips world = trips_with (journeys_of (rows_of world).trips) (acts_of (rows_of world).trips) (rows_of world).jobs ≡ (rows_of world).trips
+TellsTrips world = trips_with (journeys_of (maps_of world).trips) (acts_of (maps_of world).trips) (maps_of world).jobs ≡ (maps_of world).trips
 
 pub tables_kept : (world : World) → IsLawful desk_seats world → HasConsistentTrips world → AreJourneyValues world → AreActValues world → TellsTrips world
-    → (lists : List (List Row)) → AreAlike (row_lists (rows_of world)) lists → Keeps (tables_in lists) world
+    → (lists : List (List Row)) → AreAlike (rows_of world) lists → Keeps (tables_in lists) world
 tables_kept world lawful good journey_values act_values told lists alike =
     let rows : TableName → List Row = λ name. table_at (place_of name) lists in
-    let shown : (name : TableName) → IsPermutation (table_at (place_of name) (row_lists (rows_of world))) (rows name) = λ name. alike_at (place_of name) (row_lists (rows_of world)) lists alike in
+    let shown : (name : TableName) → IsPermutation (table_at (place_of name) (rows_of world)) (rows name) = λ name. alike_at (place_of name) (rows_of world) lists alike in
     let jobs : jobs_in lists ≡ world.jobs = given_by world.jobs finite.empty _ (tells_jobs world lawful (rows the.Job) (shown the.Job)) in
-    let capacities : capacities_in lists ≡ capacities_of (rows_of world).vehicles = given_by (capacities_of (rows_of world).vehicles) finite.empty _ (tells_capacities world lawful (rows the.Capacity) (shown the.Capacity)) in
-    let journeys : journeys_in lists ≡ journeys_of (rows_of world).trips = given_by (journeys_of (rows_of world).trips) finite.empty _ (tells_journeys world (rows the.Journey) journey_values (shown the.Journey)) in
-    let acts : acts_in lists ≡ acts_of (rows_of world).trips = given_by (acts_of (rows_of world).trips) finite.empty _ (tells_acts world (rows the.Act) act_values (shown the.Act)) in
+    let capacities : capacities_in lists ≡ capacities_of (maps_of world).vehicles = given_by (capacities_of (maps_of world).vehicles) finite.empty _ (tells_capacities world lawful (rows the.Capacity) (shown the.Capacity)) in
+    let journeys : journeys_in lists ≡ journeys_of (maps_of world).trips = given_by (journeys_of (maps_of world).trips) finite.empty _ (tells_journeys world (rows the.Journey) journey_values (shown the.Journey)) in
+    let acts : acts_in lists ≡ acts_of (maps_of world).trips = given_by (acts_of (maps_of world).trips) finite.empty _ (tells_acts world (rows the.Act) act_values (shown the.Act)) in
     record {
       nodes = given_by _ _ _ (tells_nodes world lawful (rows the.Node) (shown the.Node));
       edges = given_by _ _ _ (tells_edges world lawful (rows the.Edge) (shown the.Edge));
@@ -95,4 +95,4 @@ unfolding world_in
 world_told good journeys acts all told desk db world has =
     let lawful = has.lawful in
     told (tables_in (lists_in db)) world
-    (tables_kept world lawful (good world lawful) (journeys world lawful) (acts world lawful) (all world lawful) (lists_in db) (lists_alike desk db (row_lists (rows_of world)) has.stands has.rows)) (good world lawful)
+    (tables_kept world lawful (good world lawful) (journeys world lawful) (acts world lawful) (all world lawful) (lists_in db) (lists_alike desk db (rows_of world) has.stands has.rows)) (good world lawful)

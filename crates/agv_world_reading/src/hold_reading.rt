@@ -2,10 +2,10 @@
 //!
 //! It answers as the other readings do (`TablesRead.antt` of agv_row_reading).
 ghost use Rattle.std.specs.Prelude.{◌≡◌, IsPermutation};
-ghost use Rattle.agv_world.specs.Rows.{rows_of};
+ghost use Rattle.agv_world.specs.Maps.{maps_of};
 ghost use Rattle.agv_rows.specs.Columns.{hold_columns};
 ghost use Rattle.agv_schema.specs.DeskRows.{place_of, table_at};
-ghost use Rattle.agv_rows.specs.RowLists.{rows_in};
+ghost use Rattle.agv_rows.specs.Rows.{rows_in};
 ghost use Rattle.agv_row_reading.specs.TablesRead.{TellsAll};
 ghost use Rattle.agv_schema.specs.declared.table_name.TableName.TheVariants as the;
 
@@ -25,7 +25,7 @@ pub fn query_holds<S: Alter>(
     alloc: Global,
     conn: &mut Connection<S>,
 ) -> Result<HeldThings, OpenFault>
-    ensures { TellsAll S.Store conn.old conn.new result (λ world held. held.table ≡ (rows_of world).holds) (λ lists held. IsPermutation (table_at (place_of the.Hold) lists) (rows_in hold_columns held.table)) }
+    ensures { TellsAll S.Store conn.old conn.new result (λ world held. held.table ≡ (maps_of world).holds) (λ lists held. IsPermutation (table_at (place_of the.Hold) lists) (rows_in hold_columns held.table)) }
 {
     has_consistent_trips();
     let rows = query_all_rows(conn, TableName::Hold)?;

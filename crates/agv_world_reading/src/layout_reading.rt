@@ -5,7 +5,7 @@ ghost use Rattle.agv_world.specs.Told.{world_of};
 ghost use Rattle.agv_rows.specs.Columns.{edge_columns, node_columns, station_columns};
 ghost use Rattle.agv_schema.specs.DeskRows.{place_of, table_at};
 ghost use Rattle.agv_row_reading.specs.ReadTables.{Reads};
-ghost use Rattle.agv_rows.specs.RowLists.{rows_for, rows_in};
+ghost use Rattle.agv_rows.specs.Rows.{rows_for, rows_in};
 ghost use Rattle.agv_row_reading.specs.TablesRead.{TellsAll};
 ghost use Rattle.agv_row_reading.specs.WorldAnswers.{AnswersQuery};
 ghost use Rattle.agv_schema.specs.declared.table_name.TableName.TheVariants as the;

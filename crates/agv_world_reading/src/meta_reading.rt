@@ -5,7 +5,7 @@ ghost use Rattle.std.specs.Prelude.{◌≡◌, IsPermutation};
 ghost use Rattle.agv_rows.specs.Columns.{meta_columns, meta_in};
 ghost use Rattle.agv_schema.specs.DeskRows.{place_of, table_at};
 ghost use Rattle.agv_row_reading.specs.ReadTables.{is_desk_meta, meta_read};
-ghost use Rattle.agv_rows.specs.RowLists.{rows_in};
+ghost use Rattle.agv_rows.specs.Rows.{rows_in};
 ghost use Rattle.agv_row_reading.specs.TablesRead.{TellsAll, desk_meta};
 ghost use Rattle.agv_schema.specs.declared.table_name.TableName.TheVariants as the;
 

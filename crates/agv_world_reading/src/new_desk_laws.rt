@@ -1,12 +1,11 @@
 //! A new desk's tables tell the world that knows nothing.
 ghost use Rattle.std.specs.Prelude.{◌≡◌};
 ghost use Rattle.sqlite.specs.Effect.{Database};
-ghost use Rattle.agv_world.specs.Rows.{rows_of};
 ghost use Rattle.agv_world.specs.Worlds.{empty_world};
 ghost use Rattle.agv_creation.specs.DeskTables.{first_rows};
 ghost use Rattle.agv_world_reading.specs.NewWorld.{KnowsNothing};
 ghost use Rattle.agv_creation.specs.NewDesk.{StandsNew};
-ghost use Rattle.agv_rows.specs.RowLists.{row_lists};
+ghost use Rattle.agv_rows.specs.Rows.{rows_of};
 
 use agv_trip_rows::row_laws::rows_have_keys;
 use agv_world::lawful_laws::begins_lawful;
@@ -14,7 +13,7 @@ use agv_world::lawful_laws::begins_lawful;
 /// A desk with its first rows knows nothing yet: these are the rows of the world of a new desk, which is lawful. So the
 /// queries of the tables, and the changes of them, may begin there.
 pub fn new_desks_know_nothing()
-    ensures rows { row_lists (rows_of empty_world) ≡ first_rows }
+    ensures rows { rows_of empty_world ≡ first_rows }
     ensures world { (db : Database) → StandsNew db → KnowsNothing db }
 {
     begins_lawful();

@@ -4,11 +4,11 @@
 //! whatever rows they have, what is read has just these (`TablesRead.antt` of agv_row_reading). The places of the loads are
 //! read one row at a time, and any other table as the list of its rows.
 ghost use Rattle.std.specs.Prelude.{◌≡◌, IsPermutation};
-ghost use Rattle.agv_world.specs.Rows.{rows_of};
+ghost use Rattle.agv_world.specs.Maps.{maps_of};
 ghost use Rattle.agv_rows.specs.Columns.{capacity_columns, edge_columns, job_columns, leg_columns, load_columns, node_columns, vehicle_capacity_columns, station_columns, used_columns, vehicle_columns};
 ghost use Rattle.agv_rows.specs.DecodedTrips.{capacities_of};
 ghost use Rattle.agv_schema.specs.DeskRows.{place_of, table_at};
-ghost use Rattle.agv_rows.specs.RowLists.{rows_for, rows_in};
+ghost use Rattle.agv_rows.specs.Rows.{rows_for, rows_in};
 ghost use Rattle.agv_row_reading.specs.ReadTables.{are_of_vehicles};
 ghost use Rattle.agv_row_reading.specs.TablesRead.{TellsAll};
 ghost use Rattle.agv_schema.specs.declared.table_name.TableName.TheVariants as the;
@@ -73,7 +73,7 @@ pub fn query_vehicles<S: Alter>(
     alloc: Global,
     conn: &mut Connection<S>,
 ) -> Result<ByVehicle<VehicleRow>, OpenFault>
-    ensures { TellsAll S.Store conn.old conn.new result (λ world table. table ≡ (rows_of world).vehicles)
+    ensures { TellsAll S.Store conn.old conn.new result (λ world table. table ≡ (maps_of world).vehicles)
         (λ lists table. IsPermutation (table_at (place_of the.Vehicle) lists) (rows_in vehicle_columns table)
         × IsPermutation (table_at (place_of the.Capacity) lists) (rows_in vehicle_capacity_columns table)) }
 {
@@ -93,7 +93,7 @@ fn query_capacities<S: Alter>(
     conn: &mut Connection<S>,
 ) -> Result<ByVehicle<CapacityRow>, OpenFault>
     ensures { TellsAll S.Store conn.old conn.new result
-        (λ world table. table ≡ capacities_of (rows_of world).vehicles)
+        (λ world table. table ≡ capacities_of (maps_of world).vehicles)
         (λ lists table. IsPermutation (table_at (place_of the.Capacity) lists) (rows_in capacity_columns table)) }
 {
     let rows = query_all_rows(conn, TableName::Capacity)?;
@@ -138,7 +138,7 @@ pub(crate) fn query_legs<S: Alter>(
     alloc: Global,
     conn: &mut Connection<S>,
 ) -> Result<ByLeg, OpenFault>
-    ensures { TellsAll S.Store conn.old conn.new result (λ world table. table ≡ (rows_of world).legs) (λ lists table. IsPermutation (table_at (place_of the.Leg) lists) (rows_in leg_columns table)) }
+    ensures { TellsAll S.Store conn.old conn.new result (λ world table. table ≡ (maps_of world).legs) (λ lists table. IsPermutation (table_at (place_of the.Leg) lists) (rows_in leg_columns table)) }
 {
     has_consistent_trips();
     let rows = query_all_rows(conn, TableName::Leg)?;
@@ -161,7 +161,7 @@ pub(crate) fn query_used<S: Alter>(
     alloc: Global,
     conn: &mut Connection<S>,
 ) -> Result<UsedNames, OpenFault>
-    ensures { TellsAll S.Store conn.old conn.new result (λ world table. table ≡ (rows_of world).used) (λ lists table. IsPermutation (table_at (place_of the.Used) lists) (rows_for used_columns table)) }
+    ensures { TellsAll S.Store conn.old conn.new result (λ world table. table ≡ (maps_of world).used) (λ lists table. IsPermutation (table_at (place_of the.Used) lists) (rows_for used_columns table)) }
 {
     let rows = query_all_rows(conn, TableName::Used)?;
     used_in_rows(alloc, rows.as_slice())

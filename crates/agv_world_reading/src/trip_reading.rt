@@ -4,10 +4,10 @@
 //! It answers as the other readings do (`TablesRead.antt` of agv_row_reading).
 ghost use Rattle.std.specs.Prelude.{◌≡◌, [], IsPermutation};
 ghost use Rattle.agv_trip_rows.specs.TripRows.{acts_of, journeys_of};
-ghost use Rattle.agv_world.specs.Rows.{rows_of};
+ghost use Rattle.agv_world.specs.Maps.{maps_of};
 ghost use Rattle.agv_rows.specs.Columns.{act_columns, job_columns, journey_columns};
 ghost use Rattle.agv_schema.specs.DeskRows.{place_of, table_at};
-ghost use Rattle.agv_rows.specs.RowLists.{rows_in};
+ghost use Rattle.agv_rows.specs.Rows.{rows_in};
 ghost use Rattle.agv_row_reading.specs.TablesRead.{TellsAll};
 ghost use Rattle.agv_schema.specs.declared.table_name.TableName.TheVariants as the;
 
@@ -29,7 +29,7 @@ pub(crate) fn query_trips<S: Alter>(
     conn: &mut Connection<S>,
 ) -> Result<(ByName<JobRow>, ByName<TripRow>), OpenFault>
     ensures { TellsAll S.Store conn.old conn.new result
-        (λ world tables. (tables.0 ≡ world.jobs) × (tables.1 ≡ (rows_of world).trips))
+        (λ world tables. (tables.0 ≡ world.jobs) × (tables.1 ≡ (maps_of world).trips))
         (λ lists tables. IsPermutation (table_at (place_of the.Job) lists) (rows_in job_columns tables.0)
         × IsPermutation (table_at (place_of the.Journey) lists) (rows_in journey_columns (journeys_of tables.1))
         × IsPermutation (table_at (place_of the.Act) lists) (rows_in act_columns (acts_of tables.1))
@@ -65,7 +65,7 @@ fn query_journeys<S: Alter>(
     conn: &mut Connection<S>,
 ) -> Result<ByName<JourneyRow>, OpenFault>
     ensures { TellsAll S.Store conn.old conn.new result
-        (λ world table. table ≡ journeys_of (rows_of world).trips)
+        (λ world table. table ≡ journeys_of (maps_of world).trips)
         (λ lists table. IsPermutation (table_at (place_of the.Journey) lists) (rows_in journey_columns table)) }
 {
     rows_tell_trips();
@@ -76,7 +76,7 @@ fn query_journeys<S: Alter>(
 // The acts, by their orders and numbers.
 fn query_acts<S: Alter>(alloc: Global, conn: &mut Connection<S>) -> Result<ByAct, OpenFault>
     ensures { TellsAll S.Store conn.old conn.new result
-        (λ world table. table ≡ acts_of (rows_of world).trips)
+        (λ world table. table ≡ acts_of (maps_of world).trips)
         (λ lists table. IsPermutation (table_at (place_of the.Act) lists) (rows_in act_columns table)) }
 {
     rows_tell_trips();

@@ -3,10 +3,10 @@
 //! It answers as the other readings do (`TablesRead.antt` of agv_row_reading).
 ghost use Rattle.std.specs.Prelude.{◌≡◌, IsPermutation};
 ghost use Rattle.agv_world.specs.Kept.{Keeps};
-ghost use Rattle.agv_world.specs.Rows.{rows_of};
+ghost use Rattle.agv_world.specs.Maps.{maps_of};
 ghost use Rattle.agv_rows.specs.Columns.{leg_columns, load_columns, vehicle_capacity_columns, used_columns, vehicle_columns};
 ghost use Rattle.agv_schema.specs.DeskRows.{place_of, table_at};
-ghost use Rattle.agv_rows.specs.RowLists.{rows_for, rows_in};
+ghost use Rattle.agv_rows.specs.Rows.{rows_for, rows_in};
 ghost use Rattle.agv_row_reading.specs.TablesRead.{HaveAll, HaveTables, TellsAll};
 ghost use Rattle.agv_schema.specs.declared.table_name.TableName.TheVariants as the;
 
@@ -53,7 +53,7 @@ fn query_traffic_tables<S: Alter>(
     conn: &mut Connection<S>,
 ) -> Result<(ByVehicle<VehicleRow>, ByLeg), OpenFault>
     ensures { TellsAll S.Store conn.old conn.new result
-        (λ world tables. (tables.0 ≡ (rows_of world).vehicles) × (tables.1 ≡ (rows_of world).legs))
+        (λ world tables. (tables.0 ≡ (maps_of world).vehicles) × (tables.1 ≡ (maps_of world).legs))
         (λ lists tables. IsPermutation (table_at (place_of the.Vehicle) lists) (rows_in vehicle_columns tables.0)
         × IsPermutation (table_at (place_of the.Capacity) lists) (rows_in vehicle_capacity_columns tables.0)
         × IsPermutation (table_at (place_of the.Leg) lists) (rows_in leg_columns tables.1)) }
@@ -69,7 +69,7 @@ fn query_stock_tables<S: Alter>(
     conn: &mut Connection<S>,
 ) -> Result<(ByName<Place>, UsedNames), OpenFault>
     ensures { TellsAll S.Store conn.old conn.new result
-        (λ world tables. (tables.0 ≡ world.places) × (tables.1 ≡ (rows_of world).used))
+        (λ world tables. (tables.0 ≡ world.places) × (tables.1 ≡ (maps_of world).used))
         (λ lists tables. IsPermutation (table_at (place_of the.Load) lists) (rows_in load_columns tables.0)
         × IsPermutation (table_at (place_of the.Used) lists) (rows_for used_columns tables.1)) }
 {
@@ -90,7 +90,7 @@ pub fn read_world<S: Alter>(
     conn: &mut Connection<S>,
 ) -> Result<(World, HeldThings), OpenFault>
     ensures { TellsAll S.Store conn.old conn.new result
-        (λ world read. Keeps read.0 world × (read.1.table ≡ (rows_of world).holds))
+        (λ world read. Keeps read.0 world × (read.1.table ≡ (maps_of world).holds))
         (λ lists read. HaveAll lists read.0 read.1.table) }
 {
     query_meta(conn)?;

@@ -8,7 +8,7 @@ use Rattle.agv_world.proofs.LawfulInParts.{vehicles_of}
 use Rattle.agv_world.specs.ConsistentTrips.{HasTrip}
 use Rattle.agv_world.specs.Lawful.{IsLawful}
 use Rattle.agv_world.specs.Questions.{row_of}
-use Rattle.agv_world.specs.Rows.{rows_of}
+use Rattle.agv_world.specs.Maps.{maps_of}
 use Rattle.agv_world.specs.Worlds.{Vehicle, World}
 use Rattle.agv_world.specs.declared.row.VehicleRow.{VehicleRow}
 use Rattle.agv_desk.specs.Histories.{CancelsSince, HasNoResync, IsRepeated, SpeaksOfTrip}
@@ -110,7 +110,7 @@ module _ (advances : AdvancesTrips) (fits : FitsAsSaid) (footprints : HoldsAreFo
 
   -- it changes no hold, but where it lists as finished a cancelOrder that the desk has written since
   pub repeated_holds : (world : World) (calls : List (ℕ × Call)) (at : ℕ) (key : VehicleKey) (state : StateMessage) → IsLawful seats world → AreWellTyped calls → (repeated : IsRepeated seats world calls key state)
-      → ((rows_of (after (steps seats world calls) (step seats (steps seats world calls) at (call.State key state)))).holds ≡ (rows_of (steps seats world calls)).holds)
+      → ((maps_of (after (steps seats world calls) (step seats (steps seats world calls) at (call.State key state)))).holds ≡ (maps_of (steps seats world calls)).holds)
       ⊎ CancelsSince (steps seats world repeated.earlier) (steps seats world calls) key state
   repeated_holds world calls at key state lawful typed repeated =
       let now = steps seats world calls in

@@ -23,7 +23,7 @@ use Rattle.agv_track.specs.declared.progress.Progress.{Progress}
 use Rattle.agv_world.specs.ConsistentTrips.{HasTrip, SharesNothing}
 use Rattle.agv_world.specs.LawfulParts.{HasLawfulVehicles}
 use Rattle.agv_world.specs.Questions.{row_of, trip_of}
-use Rattle.agv_world.specs.Rows.{hold_rows, rows_of, standing_of}
+use Rattle.agv_world.specs.Maps.{hold_rows, maps_of, standing_of}
 use Rattle.agv_header.specs.Spread.{spread}
 use Rattle.agv_world.specs.Worlds.{Vehicle, World}
 use Rattle.agv_world.specs.declared.row.VehicleRow.{VehicleRow}
@@ -46,7 +46,7 @@ use Rattle.agv_desk.proofs.histories.TripLeft.{trip_few, trip_under_way}
 -- no load moves, and no hold changes but where the exception holds
 pub record IsQuiet (world : World) (exception : Type 0) (effect : Effect) : Type 0 where
   pub moves : effect.moves ≡ []
-  pub holds : SharesNothing (with_effect world effect) → ((rows_of (with_effect world effect)).holds ≡ (rows_of world).holds) ⊎ exception
+  pub holds : SharesNothing (with_effect world effect) → ((maps_of (with_effect world effect)).holds ≡ (maps_of world).holds) ⊎ exception
 
 -- an effect that touches no vehicle
 quiet_nothing : (world : World) (exception : Type 0) (effect : Effect) → effect.touched ≡ Nothing → effect.moves ≡ [] → IsQuiet world exception effect
@@ -249,7 +249,7 @@ moves_quiet world exception (Refused why) quiet = refl
 moves_quiet world exception (Made effect) quiet = quiet.moves
 
 pub holds_quiet : (world : World) (exception : Type 0) (outcome : Outcome) → IfMade (IsQuiet world exception) outcome → SharesNothing (after world outcome)
-    → ((rows_of (after world outcome)).holds ≡ (rows_of world).holds) ⊎ exception
+    → ((maps_of (after world outcome)).holds ≡ (maps_of world).holds) ⊎ exception
 unfolding after
 holds_quiet world exception (Refused why) quiet apart = inl refl
 holds_quiet world exception (Made effect) quiet apart = quiet.holds apart

@@ -6,14 +6,14 @@ use Rattle.agv_header.specs.declared.key.Thing.{Thing}
 use Rattle.agv_header.specs.declared.key.VehicleKey.{VehicleKey}
 use Rattle.agv_track.specs.Footprints.{footprint_of}
 use Rattle.agv_world.specs.ConsistentTrips.{IsHolder, SharesNothing}
-use Rattle.agv_world.specs.Rows.{rows_of, standing_of}
+use Rattle.agv_world.specs.Maps.{maps_of, standing_of}
 use Rattle.agv_world.specs.Worlds.{Vehicle, World}
 use Rattle.agv_desk.proofs.outcomes.EffectParts.{which_vehicle}
 use Rattle.agv_desk.proofs.outcomes.Known.{same_some}
 
 -- the table of holds has each vehicle's footprint, and nothing else
 abbrev pub HoldsAreFootprints : Type 0
-HoldsAreFootprints = (world : World) → SharesNothing world → (thing : Thing) (key : VehicleKey) → (finite.get (rows_of world).holds thing ≡ Some key) ↔ IsHolder world key thing
+HoldsAreFootprints = (world : World) → SharesNothing world → (thing : Thing) (key : VehicleKey) → (finite.get (maps_of world).holds thing ≡ Some key) ↔ IsHolder world key thing
 
 -- two answers that are there alike are one
 alike : (one other : Option VehicleKey) → ((key : VehicleKey) → one ≡ Some key → other ≡ Some key) → ((key : VehicleKey) → other ≡ Some key → one ≡ Some key) → one ≡ other
@@ -24,10 +24,10 @@ alike (Some key) other there back = sym (there key refl)
 module _ (footprints : HoldsAreFootprints) where
   -- worlds with the same holders have the same table
   same_table : (world next : World) → SharesNothing world → SharesNothing next → ((key : VehicleKey) (thing : Thing) → IsHolder next key thing ↔ IsHolder world key thing)
-      → (rows_of next).holds ≡ (rows_of world).holds
+      → (maps_of next).holds ≡ (maps_of world).holds
   same_table world next apart apart_next same =
-      finite.same_map thing_cmp-total thing_cmp-IsAntisymmetric (rows_of next).holds (rows_of world).holds (λ thing.
-      alike (finite.get (rows_of next).holds thing) (finite.get (rows_of world).holds thing)
+      finite.same_map thing_cmp-total thing_cmp-IsAntisymmetric (maps_of next).holds (maps_of world).holds (λ thing.
+      alike (finite.get (maps_of next).holds thing) (finite.get (maps_of world).holds thing)
       (λ key is. (footprints world apart thing key).1 ((same key thing).0 ((footprints next apart_next thing key).0 is)))
       (λ key is. (footprints next apart_next thing key).1 ((same key thing).1 ((footprints world apart thing key).0 is))))
 
@@ -52,5 +52,5 @@ module _ (footprints : HoldsAreFootprints) where
           | inr other_one ↦ (holds.0, ap (λ vehicles. finite.get vehicles other) written ∙ sym other_one.1 ∙ holds.1, holds.2)
         ]
 
-    pub same_holds : SharesNothing world → SharesNothing next → (rows_of next).holds ≡ (rows_of world).holds
+    pub same_holds : SharesNothing world → SharesNothing next → (maps_of next).holds ≡ (maps_of world).holds
     same_holds apart apart_next = same_table world next apart apart_next (λ other thing. (held_before other thing, held_still other thing))

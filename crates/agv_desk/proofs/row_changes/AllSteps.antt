@@ -1,7 +1,7 @@
 -- Every call leads to the rows of the world after it.
 use Rattle.std.proofs.Common.{◌≡◌, ℕ}
 use Rattle.agv_world.specs.Changes.{changed}
-use Rattle.agv_world.specs.Rows.{rows_of}
+use Rattle.agv_world.specs.Maps.{maps_of}
 use Rattle.agv_world.specs.Worlds.{World}
 use Rattle.agv_desk.specs.InOrder.{IsInOrder}
 use Rattle.agv_desk.specs.Outcomes.{after, decided}
@@ -44,5 +44,5 @@ module _ (given : Given) (world : World) (in_order : IsInOrder world) where
   each seats at call.LoadsExport = leads given world in_order _ (lays_none world) (touches_none world)
 
   -- the rows that a call changes lead from the rows of the world to those of the world after it
-  pub leads_all : (seats at : ℕ) (made : Call) → changed (decided (step seats world at made)).changes (rows_of world) ≡ rows_of (after world (step seats world at made))
+  pub leads_all : (seats at : ℕ) (made : Call) → changed (decided (step seats world at made)).changes (maps_of world) ≡ maps_of (after world (step seats world at made))
   leads_all seats at made = decides world (step seats world at made) (each seats at made)

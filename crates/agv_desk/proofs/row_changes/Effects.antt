@@ -2,7 +2,7 @@
 use Rattle.std.proofs.Common.{◌≡◌, ℕ, List, [], ◌∷◌, ◌++◌, map, Option, None, refl, ap, ◌∙◌}
 use Rattle.agv_layout.specs.Layout.{Layout}
 use Rattle.agv_world.specs.Changes.{change, changed}
-use Rattle.agv_world.specs.Rows.{Rows, rows_of}
+use Rattle.agv_world.specs.Maps.{Maps, maps_of}
 use Rattle.agv_world.specs.TableChanges.{with_use, written}
 use Rattle.agv_world.specs.Worlds.{World}
 use Rattle.agv_world.specs.declared.change.Change.{Change}
@@ -12,41 +12,41 @@ use Rattle.agv_world.specs.declared.row.JobRow.{JobRow}
 use Rattle.agv_desk.specs.Outcomes.{Move, VehicleChange, Effect, moved, with_uses, with_touched, with_layout, with_effect, laid_changes, touched_changes, changes_of}
 
 -- one list of changes after another
-pub changed-append : (changes others : List Change) (rows : Rows) → changed (changes ++ others) rows ≡ changed others (changed changes rows)
+pub changed-append : (changes others : List Change) (maps : Maps) → changed (changes ++ others) maps ≡ changed others (changed changes maps)
 unfolding changed
-changed-append [] others rows = refl
-changed-append (one ∷ changes) others rows = changed-append changes others (change rows one)
+changed-append [] others maps = refl
+changed-append (one ∷ changes) others maps = changed-append changes others (change maps one)
 
-pub moves_rows : (moves : List Move) (rows : Rows) → changed (map (λ (move : Move). row.Load move.load move.place) moves) rows ≡ record rows { loads = moved rows.loads moves }
+pub moves_rows : (moves : List Move) (maps : Maps) → changed (map (λ (move : Move). row.Load move.load move.place) moves) maps ≡ record maps { loads = moved maps.loads moves }
 unfolding changed
-moves_rows [] rows = refl
-moves_rows (move ∷ moves) rows = moves_rows moves (change rows (row.Load move.load move.place))
+moves_rows [] maps = refl
+moves_rows (move ∷ moves) maps = moves_rows moves (change maps (row.Load move.load move.place))
 
-pub jobs_rows : (jobs : List (List ℕ × JobRow)) (rows : Rows) → changed (map (λ (job : List ℕ × JobRow). row.Job job.0 job.1) jobs) rows ≡ record rows { jobs = written rows.jobs jobs }
+pub jobs_rows : (jobs : List (List ℕ × JobRow)) (maps : Maps) → changed (map (λ (job : List ℕ × JobRow). row.Job job.0 job.1) jobs) maps ≡ record maps { jobs = written maps.jobs jobs }
 unfolding changed
-jobs_rows [] rows = refl
-jobs_rows (job ∷ jobs) rows = jobs_rows jobs (change rows (row.Job job.0 job.1))
+jobs_rows [] maps = refl
+jobs_rows (job ∷ jobs) maps = jobs_rows jobs (change maps (row.Job job.0 job.1))
 
 -- a name that is used is a row of the used names
 abbrev pub UsesARow : Type 0
-UsesARow = (world : World) (key : UseKey) → changed (row.Used key ∷ []) (rows_of world) ≡ rows_of (with_use world key.kind key.name)
+UsesARow = (world : World) (key : UseKey) → changed (row.Used key ∷ []) (maps_of world) ≡ maps_of (with_use world key.kind key.name)
 
 module _ (uses : UsesARow) where
-  pub uses_rows : (keys : List UseKey) (world : World) → changed (map (λ (key : UseKey). row.Used key) keys) (rows_of world) ≡ rows_of (with_uses world keys)
+  pub uses_rows : (keys : List UseKey) (world : World) → changed (map (λ (key : UseKey). row.Used key) keys) (maps_of world) ≡ maps_of (with_uses world keys)
   unfolding changed
   uses_rows [] world = refl
   uses_rows (key ∷ keys) world = ap (changed (map (λ (key : UseKey). row.Used key) keys)) (uses world key) ∙ uses_rows keys (with_use world key.kind key.name)
 
 -- the changes of the layout, and those of the vehicle, lead to the rows of the world with it
 abbrev pub LaysRows : World → Option Layout → Type 0
-LaysRows world layout = changed (laid_changes layout) (rows_of world) ≡ rows_of (with_layout world layout)
+LaysRows world layout = changed (laid_changes layout) (maps_of world) ≡ maps_of (with_layout world layout)
 
 abbrev pub TouchesRows : World → VehicleChange → Type 0
-TouchesRows world touched = changed (touched_changes touched) (rows_of world) ≡ rows_of (with_touched world touched)
+TouchesRows world touched = changed (touched_changes touched) (maps_of world) ≡ maps_of (with_touched world touched)
 
 -- all changes lead to the rows of the world after the effect
 pub record LeadsTo (world : World) (effect : Effect) : Type 0 where
-  pub rows : changed (changes_of effect) (rows_of world) ≡ rows_of (with_effect world effect)
+  pub rows : changed (changes_of effect) (maps_of world) ≡ maps_of (with_effect world effect)
 
 pub lays_none : (world : World) → LaysRows world None
 unfolding changed
@@ -66,13 +66,13 @@ module _ (uses : UsesARow) (world : World) (effect : Effect) where
       let placed : World = record touched { places = moved touched.places effect.moves } in
       let done : World = record placed { jobs = written placed.jobs effect.jobs } in
       record {
-        rows = changed-append (laid_changes effect.layout) (touched_changes effect.touched ++ (moves ++ (jobs ++ used))) (rows_of world)
+        rows = changed-append (laid_changes effect.layout) (touched_changes effect.touched ++ (moves ++ (jobs ++ used))) (maps_of world)
             ∙ ap (changed (touched_changes effect.touched ++ (moves ++ (jobs ++ used)))) lays
-            ∙ changed-append (touched_changes effect.touched) (moves ++ (jobs ++ used)) (rows_of (with_layout world effect.layout))
+            ∙ changed-append (touched_changes effect.touched) (moves ++ (jobs ++ used)) (maps_of (with_layout world effect.layout))
             ∙ ap (changed (moves ++ (jobs ++ used))) touches
-            ∙ changed-append moves (jobs ++ used) (rows_of touched)
-            ∙ ap (changed (jobs ++ used)) (moves_rows effect.moves (rows_of touched))
-            ∙ changed-append jobs used (rows_of placed)
-            ∙ ap (changed used) (jobs_rows effect.jobs (rows_of placed))
+            ∙ changed-append moves (jobs ++ used) (maps_of touched)
+            ∙ ap (changed (jobs ++ used)) (moves_rows effect.moves (maps_of touched))
+            ∙ changed-append jobs used (maps_of placed)
+            ∙ ap (changed used) (jobs_rows effect.jobs (maps_of placed))
             ∙ uses_rows uses effect.uses done;
       }

@@ -17,7 +17,7 @@ use Rattle.agv_track.specs.declared.progress.Progress.{Progress}
 use Rattle.agv_track.specs.declared.standing.Standing.{Standing}
 use Rattle.agv_world.specs.Changes.{changed}
 use Rattle.agv_world.specs.ConsistentTrips.{HasTrip, HasOneTripAnOrder, SharesNothing}
-use Rattle.agv_world.specs.Rows.{rows_of, standing_of}
+use Rattle.agv_world.specs.Maps.{maps_of, standing_of}
 use Rattle.agv_world.specs.VehicleChanges.{KeepsOrderAndEdges, StandsAsBefore, own_changes, trip_before, vehicle_changes, with_vehicle}
 use Rattle.agv_world.specs.TableChanges.{with_use}
 use Rattle.agv_world.specs.Worlds.{Vehicle, World, empty_layout}
@@ -27,7 +27,7 @@ use Rattle.agv_desk.specs.Outcomes.{laid_changes, with_layout}
 
 abbrev pub KeepsApartByClaim : Type 0
 KeepsApartByClaim = (world : World) (key : VehicleKey) (vehicle : Vehicle) → SharesNothing world
-    → first_held (rows_of world).holds key (footprint_of (standing_of vehicle)) ≡ None
+    → first_held (maps_of world).holds key (footprint_of (standing_of vehicle)) ≡ None
     → SharesNothing (with_vehicle world key vehicle)
 
 abbrev pub KeepsApartByLess : Type 0
@@ -55,19 +55,19 @@ FollowsAVehicle = (world : World) (key : VehicleKey) (vehicle : Vehicle)
     → HasOneTripAnOrder world → SharesNothing world
     → HasOneTripAnOrder (with_vehicle world key vehicle) → SharesNothing (with_vehicle world key vehicle)
     → KeepsOrderAndEdges (trip_before (finite.get world.vehicles key)) vehicle.trip
-    → changed (vehicle_changes key (finite.get world.vehicles key) vehicle) (rows_of world) ≡ rows_of (with_vehicle world key vehicle)
+    → changed (vehicle_changes key (finite.get world.vehicles key) vehicle) (maps_of world) ≡ maps_of (with_vehicle world key vehicle)
 
 abbrev pub NotesAVehicle : Type 0
 NotesAVehicle = (world : World) (key : VehicleKey) (old new : Vehicle) → finite.get world.vehicles key ≡ Some old → StandsAsBefore old new
     → HasOneTripAnOrder world → SharesNothing world
-    → changed (own_changes key (Some old.row) new.row) (rows_of world) ≡ rows_of (with_vehicle world key new)
+    → changed (own_changes key (Some old.row) new.row) (maps_of world) ≡ maps_of (with_vehicle world key new)
 
 abbrev pub UsesAName : Type 0
-UsesAName = (world : World) (key : UseKey) → changed (row.Used key ∷ []) (rows_of world) ≡ rows_of (with_use world key.kind key.name)
+UsesAName = (world : World) (key : UseKey) → changed (row.Used key ∷ []) (maps_of world) ≡ maps_of (with_use world key.kind key.name)
 
 abbrev pub SetsTheLayout : Type 0
 SetsTheLayout = (world : World) (layout : Layout) → world.layout ≡ empty_layout
-    → changed (laid_changes (Some layout)) (rows_of world) ≡ rows_of (with_layout world (Some layout))
+    → changed (laid_changes (Some layout)) (maps_of world) ≡ maps_of (with_layout world (Some layout))
 
 abbrev pub GivesItself : Type 0
 GivesItself = (layout : Layout) → KeepsRules layout → layout_of (rows_in layout) ≡ Ok layout

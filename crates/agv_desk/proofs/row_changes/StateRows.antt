@@ -13,7 +13,7 @@ use Rattle.agv_track.specs.Footprints.{IsOnBase, IsOnTrip, IsHeldBy, IsOnRest, f
 use Rattle.agv_track.specs.Progressed.{progressed, Advances, IsNextOf}
 use Rattle.agv_track.specs.declared.progress.Progress.{Progress}
 use Rattle.agv_world.specs.Questions.{row_of, trip_of}
-use Rattle.agv_world.specs.Rows.{standing_of}
+use Rattle.agv_world.specs.Maps.{standing_of}
 use Rattle.agv_world.specs.VehicleChanges.{KeepsOrderAndEdges, with_vehicle}
 use Rattle.agv_world.specs.ConsistentTrips.{HasOneTripAnOrder}
 use Rattle.agv_world.specs.Worlds.{Vehicle, World}

@@ -5,7 +5,7 @@ use Rattle.agv_header.specs.declared.key.VehicleKey.{VehicleKey}
 use Rattle.agv_world.specs.Changes.{changed}
 use Rattle.agv_world.specs.ConsistentTrips.{HasOneTripAnOrder, SharesNothing}
 use Rattle.agv_world.specs.Questions.{row_of, trip_of}
-use Rattle.agv_world.specs.Rows.{rows_of}
+use Rattle.agv_world.specs.Maps.{maps_of}
 use Rattle.agv_world.specs.VehicleChanges.{KeepsOrderAndEdges, trip_before, vehicle_changes, with_vehicle}
 use Rattle.agv_world.specs.Worlds.{Vehicle, World}
 use Rattle.agv_world.specs.declared.row.VehicleRow.{VehicleRow}
@@ -17,7 +17,7 @@ use Rattle.agv_desk.proofs.outcomes.Known.{vehicle_with, known}
 use Rattle.agv_desk.proofs.outcomes.Ladders.{IfMade}
 
 -- what is decided, where each effect leads to the rows
-pub decides : (world : World) (outcome : Outcome) → IfMade (LeadsTo world) outcome → changed (decided outcome).changes (rows_of world) ≡ rows_of (after world outcome)
+pub decides : (world : World) (outcome : Outcome) → IfMade (LeadsTo world) outcome → changed (decided outcome).changes (maps_of world) ≡ maps_of (after world outcome)
 unfolding decided after changed
 decides world (Refused why) leads = refl
 decides world (Made effect) leads = leads.rows
@@ -47,5 +47,5 @@ module _ (given : Given) (world : World) (in_order : IsInOrder world) where
       → HasOneTripAnOrder (with_vehicle world key new) → SharesNothing (with_vehicle world key new) → KeepsOrderAndEdges (trip_before old) new.trip
       → TouchesRows world (Whole key old new)
   puts key old new is one apart goes =
-      subst (λ there. KeepsOrderAndEdges (trip_before there) new.trip → changed (vehicle_changes key there new) (rows_of world) ≡ rows_of (with_vehicle world key new)) is
+      subst (λ there. KeepsOrderAndEdges (trip_before there) new.trip → changed (vehicle_changes key there new) (maps_of world) ≡ maps_of (with_vehicle world key new)) is
       (given.follows world key new in_order.one_trip in_order.apart one apart) goes

@@ -6,7 +6,7 @@ ghost use Rattle.agv_header.specs.declared.key.VehicleKey.{VehicleKey};
 ghost use Rattle.agv_header.specs.declared.refusal.Refusal.{Refusal as RefusalOf};
 ghost use Rattle.agv_message.specs.declared.state.StateMessage.{StateMessage as Message};
 ghost use Rattle.agv_world.specs.Changes.{changed};
-ghost use Rattle.agv_world.specs.Rows.{rows_of};
+ghost use Rattle.agv_world.specs.Maps.{maps_of};
 ghost use Rattle.agv_world.specs.Worlds.{World};
 ghost use Rattle.agv_world.specs.declared.fault.Fault.{Fault};
 ghost use Rattle.agv_world.specs.declared.fault.Fault.TheVariants as fault;
@@ -36,7 +36,7 @@ use agv_world::{Floor, PlainFloor};
 /// From a world in order, the rows that a call changes lead to the rows of the world after it.
 pub fn leads_to_the_rows()
     ensures { (seats : ℕ) (world : World) (at : ℕ) (call : Call) → IsInOrder world
-        → changed (decided (step seats world at call)).changes (rows_of world) ≡ rows_of (after world (step seats world at call)) }
+        → changed (decided (step seats world at call)).changes (maps_of world) ≡ maps_of (after world (step seats world at call)) }
 {
     gives_itself();
     advances();

@@ -12,7 +12,7 @@ ghost use Rattle.agv_desk.specs.WellTyped.{AreWellTyped, IsSeats};
 ghost use Rattle.agv_desk.specs.declared.call.Call.{Call as CallOf};
 ghost use Rattle.agv_desk.specs.declared.call.Call.TheVariants as call;
 ghost use Rattle.agv_world.specs.Lawful.{IsLawful};
-ghost use Rattle.agv_world.specs.Rows.{rows_of};
+ghost use Rattle.agv_world.specs.Maps.{maps_of};
 ghost use Rattle.agv_world.specs.Worlds.{World};
 
 use crate::Call;
@@ -86,7 +86,7 @@ pub fn repeats_quietly()
         → moves_of (step seats (steps seats world calls) at (call.State key state)) ≡ [] }
     ensures holds { (seats : ℕ) → IsSeats seats → (world : World) (calls : List (ℕ × CallOf)) (at : ℕ) (key : VehicleKey) (state : Message)
         → IsLawful seats world → AreWellTyped calls → (repeated : IsRepeated seats world calls key state)
-        → ((rows_of (after (steps seats world calls) (step seats (steps seats world calls) at (call.State key state)))).holds ≡ (rows_of (steps seats world calls)).holds)
+        → ((maps_of (after (steps seats world calls) (step seats (steps seats world calls) at (call.State key state)))).holds ≡ (maps_of (steps seats world calls)).holds)
         ⊎ CancelsSince (steps seats world repeated.earlier) (steps seats world calls) key state }
     ensures without_resync { (seats : ℕ) → IsSeats seats → (world : World) (calls : List (ℕ × CallOf)) (at : ℕ) (key : VehicleKey) (state : Message)
         → IsLawful seats world → AreWellTyped calls → (repeated : IsRepeated seats world calls key state) → HasNoResync key repeated.since

@@ -19,7 +19,7 @@ use Rattle.agv_world.specs.ConsistentTrips.{HasConsistentTrips}
 use Rattle.agv_world.specs.Kept.{Keeps}
 use Rattle.agv_world.specs.Lawful.{HasAct, IsJob, carried_at, station_for}
 use Rattle.agv_world.specs.LoadTests.{are_acts, are_jobs_apart, is_act, is_act_of, is_apart_from, is_as_acted, is_carried_at, is_done, is_riding, is_same_job, is_shared, names_its_job}
-use Rattle.agv_world.specs.Rows.{trip_row}
+use Rattle.agv_world.specs.Maps.{trip_row}
 use Rattle.agv_world.specs.Told.{world_of}
 use Rattle.agv_world.specs.declared.row.JobRow.{JobRow}
 use Rattle.agv_world.specs.declared.row.TripRow.{TripRow}

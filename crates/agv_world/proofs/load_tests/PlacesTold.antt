@@ -18,7 +18,7 @@ use Rattle.agv_world.specs.ConsistentTrips.{HasConsistentTrips}
 use Rattle.agv_world.specs.Kept.{Keeps}
 use Rattle.agv_world.specs.Lawful.{IsJob, IsJobIn, IsPlaceIn, IsToDrop, is_to_drop}
 use Rattle.agv_world.specs.LoadTests.{are_jobs, are_loads_few, are_places, has_station, is_carried, is_drop_of, is_dropped_by, is_in_phase, is_job, is_job_row, is_place, is_placed_at, is_placed_on}
-use Rattle.agv_world.specs.Rows.{trip_row}
+use Rattle.agv_world.specs.Maps.{trip_row}
 use Rattle.agv_world.specs.Told.{vehicle_in, world_of}
 use Rattle.agv_world.specs.declared.row.JobRow.{JobRow}
 use Rattle.agv_world.specs.declared.world.World.{World as Tables}

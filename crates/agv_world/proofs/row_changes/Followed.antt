@@ -13,7 +13,7 @@ use Rattle.agv_world.specs.Changes.{changed}
 use Rattle.agv_world.specs.ConsistentTrips.{HasOneTripAnOrder, SharesNothing}
 use Rattle.agv_world.specs.KeyOrders.{leg_cmp-total, leg_cmp-IsAntisymmetric}
 use Rattle.agv_world.specs.Keys.{leg_cmp}
-use Rattle.agv_world.specs.Rows.{Rows, rows_of, vehicle_rows, trip_rows, rows_of_trip, leg_rows, legs_of_trip, hold_rows, standing_of}
+use Rattle.agv_world.specs.Maps.{Maps, maps_of, vehicle_rows, trip_rows, rows_of_trip, leg_rows, legs_of_trip, hold_rows, standing_of}
 use Rattle.agv_header.specs.Spread.{spread}
 use Rattle.agv_world.specs.VehicleChanges.{KeepsOrderAndEdges, StandsAsBefore, row_before, trip_before, held_before, own_changes, trip_changes, hold_changes, vehicle_changes, with_vehicle}
 use Rattle.agv_world.specs.Worlds.{Vehicle, World}
@@ -76,18 +76,18 @@ module _ (world : World) (key : VehicleKey) (vehicle : Vehicle) (once : HasOneTr
       stood_hold : (q : Thing) (y : VehicleKey) → given thing_cmp hold_rows key old q ≡ Some y → get (spread thing_cmp hold_rows world.vehicles) q ≡ Some y
       stood_hold = stood key_cmp-total key_cmp-IsAntisymmetric thing_cmp thing_cmp-total thing_cmp-IsAntisymmetric hold_rows world.vehicles key vehicle (holds_apart world shares) (holds_apart (with_vehicle world key vehicle) shares_now)
 
-  pub followed : KeepsOrderAndEdges (trip_before old) vehicle.trip → changed (vehicle_changes key old vehicle) (rows_of world) ≡ rows_of (with_vehicle world key vehicle)
+  pub followed : KeepsOrderAndEdges (trip_before old) vehicle.trip → changed (vehicle_changes key old vehicle) (maps_of world) ≡ maps_of (with_vehicle world key vehicle)
   unfolding changed
   followed goes =
       let own = own_changes key (row_before old) vehicle.row in
-      let first : Rows = record (rows_of world) { vehicles = own_table key (row_before old) vehicle.row (rows_of world).vehicles } in
+      let first : Maps = record (maps_of world) { vehicles = own_table key (row_before old) vehicle.row (maps_of world).vehicles } in
       let held : List Thing = footprint_of (standing_of vehicle) in
-      changed-append own (trip_changes key (trip_before old) vehicle.trip ++ hold_changes key (held_before old) held) (rows_of world)
-      ∙ ap (changed (trip_changes key (trip_before old) vehicle.trip ++ hold_changes key (held_before old) held)) (changed-own key (row_before old) vehicle.row (rows_of world))
+      changed-append own (trip_changes key (trip_before old) vehicle.trip ++ hold_changes key (held_before old) held) (maps_of world)
+      ∙ ap (changed (trip_changes key (trip_before old) vehicle.trip ++ hold_changes key (held_before old) held)) (changed-own key (row_before old) vehicle.row (maps_of world))
       ∙ changed-append (trip_changes key (trip_before old) vehicle.trip) (hold_changes key (held_before old) held) first
       ∙ ap (changed (hold_changes key (held_before old) held)) (changed-trip key (trip_before old) vehicle.trip first)
       ∙ changed-hold key (held_before old) held (record first { trips = trip_table key (trip_before old) vehicle.trip first.trips; legs = leg_table (trip_before old) vehicle.trip first.legs })
-      ∙ (λ i. record (rows_of world) { vehicles = vehicles_now world key vehicle i; trips = trips_now goes i; legs = legs_now goes i; holds = holds_now i })
+      ∙ (λ i. record (maps_of world) { vehicles = vehicles_now world key vehicle i; trips = trips_now goes i; legs = legs_now goes i; holds = holds_now i })
 
 -- ---- a vehicle that stands as before
 module _ (world : World) (key : VehicleKey) (old new : Vehicle) (at : get world.vehicles key ≡ Some old) (stands : StandsAsBefore old new) where
@@ -117,8 +117,8 @@ module _ (world : World) (key : VehicleKey) (old new : Vehicle) (at : get world.
   holds_same = respread_same key_cmp-total key_cmp-IsAntisymmetric thing_cmp thing_cmp-total thing_cmp-IsAntisymmetric hold_rows world.vehicles key new (holds_apart world shares) (holds_apart (with_vehicle world key new) shares_now) old at
       (ap (λ s. map (λ (thing : Thing). (thing, key)) (footprint_of s)) (same_standing world key old new at stands))
 
-  pub noted : changed (own_changes key (Some old.row) new.row) (rows_of world) ≡ rows_of (with_vehicle world key new)
+  pub noted : changed (own_changes key (Some old.row) new.row) (maps_of world) ≡ maps_of (with_vehicle world key new)
   noted =
-      ap (λ o. changed (own_changes key (row_before o) new.row) (rows_of world)) (sym at)
-      ∙ changed-own key (row_before (get world.vehicles key)) new.row (rows_of world)
-      ∙ (λ i. record (rows_of world) { vehicles = vehicles_now world key new i; trips = trips_same i; legs = legs_same i; holds = holds_same i })
+      ap (λ o. changed (own_changes key (row_before o) new.row) (maps_of world)) (sym at)
+      ∙ changed-own key (row_before (get world.vehicles key)) new.row (maps_of world)
+      ∙ (λ i. record (maps_of world) { vehicles = vehicles_now world key new i; trips = trips_same i; legs = legs_same i; holds = holds_same i })

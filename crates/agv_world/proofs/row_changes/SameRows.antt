@@ -10,7 +10,7 @@ use Rattle.agv_message.specs.contracts.order.ActKind.{the_type as ActKinds}
 use Rattle.agv_message.specs.contracts.status.Status.{the_type as Statuses}
 use Rattle.agv_order.specs.declared.act.Act.{Act}
 use Rattle.agv_order.specs.declared.trip.Trip.{Trip}
-use Rattle.agv_world.specs.Rows.{trip_row}
+use Rattle.agv_world.specs.Maps.{trip_row}
 use Rattle.agv_world.specs.SameRows.{same_name, same_rest, same_sent, same_act, same_row, same_trip_row}
 use Rattle.agv_world.specs.declared.row.Sent.{Sent}
 use Rattle.agv_world.specs.declared.row.VehicleRow.{VehicleRow}

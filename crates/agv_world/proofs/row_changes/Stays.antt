@@ -12,7 +12,7 @@ use Rattle.agv_order.specs.declared.trip.Trip.{Trip}
 use Rattle.agv_track.specs.Footprints.{footprint_of}
 use Rattle.agv_track.specs.Holds.{Holds, is_in, first_held, other_holder, or_further}
 use Rattle.agv_world.specs.ConsistentTrips.{IsVehicle, IsHolder, HasTrip, HasOneTripAnOrder, SharesNothing}
-use Rattle.agv_world.specs.Rows.{rows_of, standing_of}
+use Rattle.agv_world.specs.Maps.{maps_of, standing_of}
 use Rattle.agv_world.specs.VehicleChanges.{with_vehicle}
 use Rattle.agv_world.specs.Worlds.{Vehicle, World}
 use Rattle.agv_world.proofs.lists.Entries.{no_more, same_Some, is_same}
@@ -64,9 +64,9 @@ open_to table key (thing ∷ things) none q among by e =
     ]
 
 -- a vehicle whose claim isn't refused
-pub apart_by_claim : (world : World) (key : VehicleKey) (vehicle : Vehicle) → SharesNothing world → first_held (rows_of world).holds key (footprint_of (standing_of vehicle)) ≡ None → SharesNothing (with_vehicle world key vehicle)
+pub apart_by_claim : (world : World) (key : VehicleKey) (vehicle : Vehicle) → SharesNothing world → first_held (maps_of world).holds key (footprint_of (standing_of vehicle)) ≡ None → SharesNothing (with_vehicle world key vehicle)
 apart_by_claim world key vehicle shares none =
-    apart_from_others world key vehicle shares (λ thing other needs held. open_to (rows_of world).holds key (footprint_of (standing_of vehicle)) none thing (list_any-from_Contains thing_eq-equivalence thing _ needs) other ((holder_is world shares thing other).1 held))
+    apart_from_others world key vehicle shares (λ thing other needs held. open_to (maps_of world).holds key (footprint_of (standing_of vehicle)) none thing (list_any-from_Contains thing_eq-equivalence thing _ needs) other ((holder_is world shares thing other).1 held))
 
 -- a vehicle that needs nothing but what it had
 pub apart_by_less : (world : World) (key : VehicleKey) (old new : Vehicle) → get world.vehicles key ≡ Some old

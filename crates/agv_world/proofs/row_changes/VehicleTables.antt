@@ -17,7 +17,7 @@ use Rattle.agv_track.specs.Holders.{gained}
 use Rattle.agv_track.specs.Holds.{is_in}
 use Rattle.agv_world.specs.KeyOrders.{leg_cmp-total, leg_cmp-IsAntisymmetric}
 use Rattle.agv_world.specs.Keys.{leg_cmp}
-use Rattle.agv_world.specs.Rows.{Rows, rows_of_trip, trip_rows, trip_row, leg_rows, legs_of_trip, hold_rows, vehicle_rows}
+use Rattle.agv_world.specs.Maps.{Maps, rows_of_trip, trip_rows, trip_row, leg_rows, legs_of_trip, hold_rows, vehicle_rows}
 use Rattle.agv_world.specs.SameRows.{same_row, same_trip_row}
 use Rattle.agv_world.specs.VehicleChanges.{KeepsOrderAndEdges, own_changes, trip_changes, hold_changes, row_before, trip_before, held_before}
 use Rattle.agv_world.specs.Changes.{changed}
@@ -53,7 +53,7 @@ abbrev pub own_table : VehicleKey → Option VehicleRow → VehicleRow → FinMa
 own_table key None new t = insert t key new
 own_table key (Some old) new t = cond (same_row old new) t (insert t key new)
 
-pub changed-own : (key : VehicleKey) (old : Option VehicleRow) (new : VehicleRow) (r : Rows) → changed (own_changes key old new) r ≡ record r { vehicles = own_table key old new r.vehicles }
+pub changed-own : (key : VehicleKey) (old : Option VehicleRow) (new : VehicleRow) (r : Maps) → changed (own_changes key old new) r ≡ record r { vehicles = own_table key old new r.vehicles }
 unfolding changed
 changed-own key None new r = refl
 changed-own key (Some old) new r =
@@ -161,7 +161,7 @@ given_legs key None q = refl
 given_legs key (Some old) q = refl
 
 -- a trip's changes are those of the two tables
-pub changed-trip : (key : VehicleKey) (old new : Option Trip) (r : Rows) → changed (trip_changes key old new) r ≡ record r { trips = trip_table key old new r.trips; legs = leg_table old new r.legs }
+pub changed-trip : (key : VehicleKey) (old new : Option Trip) (r : Maps) → changed (trip_changes key old new) r ≡ record r { trips = trip_table key old new r.trips; legs = leg_table old new r.legs }
 unfolding changed
 changed-trip key None None r = refl
 changed-trip key None (Some new) r = changed-legs (λ (n : ℕ × Edge). leg_at new.order n.0) (λ (n : ℕ × Edge). Some n.1.id) (enumerate_from 0 new.edges) (record r { trips = insert r.trips new.order (trip_row key new) })
@@ -196,7 +196,7 @@ holds_at key old new t q own =
     ∙ (λ i. cond (among_gained new old q i) None (cond (among_gained old new q i) (Some key) (get t q)))
     ∙ moved key (is_in q new) (is_in q old) (get t q) own
 
-pub changed-hold : (key : VehicleKey) (old new : List Thing) (r : Rows) → changed (hold_changes key old new) r ≡ record r { holds = hold_table key old new r.holds }
+pub changed-hold : (key : VehicleKey) (old new : List Thing) (r : Maps) → changed (hold_changes key old new) r ≡ record r { holds = hold_table key old new r.holds }
 changed-hold key old new r =
     changed-append (map (λ x. row.Hold x (Some key)) (gained old new)) (map (λ x. row.Hold x None) (gained new old)) r
     ∙ ap (changed (map (λ x. row.Hold x None) (gained new old))) (changed-holds (Some key) (gained old new) r)

@@ -10,7 +10,7 @@ use Rattle.agv_layout.specs.LayoutOf.{nodes_of}
 use Rattle.agv_layout.specs.declared.edge.EdgeEnds.{EdgeEnds}
 use Rattle.agv_stock.specs.declared.place.Place.{Place}
 use Rattle.agv_world.specs.Changes.{changed}
-use Rattle.agv_world.specs.Rows.{Rows, rows_of}
+use Rattle.agv_world.specs.Maps.{Maps, maps_of}
 use Rattle.agv_world.specs.TableChanges.{written, load_changes, job_changes, with_use, layout_changes}
 use Rattle.agv_world.specs.Worlds.{World, empty_layout}
 use Rattle.agv_world.specs.declared.change.Change.TheVariants as row
@@ -25,19 +25,19 @@ use Rattle.agv_world.proofs.lists.Puts.{put_cases}
 use Rattle.agv_world.proofs.world_rows.UsedKeys.{or_none, used_now}
 
 -- ---- loads, jobs, used names
-pub loads_written : (world : World) (moves : List (List ℕ × Place)) → changed (load_changes moves) (rows_of world) ≡ rows_of (record world { places = written world.places moves })
-loads_written world moves = changed-loads moves (rows_of world)
+pub loads_written : (world : World) (moves : List (List ℕ × Place)) → changed (load_changes moves) (maps_of world) ≡ maps_of (record world { places = written world.places moves })
+loads_written world moves = changed-loads moves (maps_of world)
 
-pub jobs_written : (world : World) (jobs : List (List ℕ × JobRow)) → changed (job_changes jobs) (rows_of world) ≡ rows_of (record world { jobs = written world.jobs jobs })
-jobs_written world jobs = changed-jobs jobs (rows_of world)
+pub jobs_written : (world : World) (jobs : List (List ℕ × JobRow)) → changed (job_changes jobs) (maps_of world) ≡ maps_of (record world { jobs = written world.jobs jobs })
+jobs_written world jobs = changed-jobs jobs (maps_of world)
 
-with_name : (world : World) (kind : UseKind) (name : List ℕ) → record (rows_of world) { used = (rows_of (with_use world kind name)).used } ≡ rows_of (with_use world kind name)
+with_name : (world : World) (kind : UseKind) (name : List ℕ) → record (maps_of world) { used = (maps_of (with_use world kind name)).used } ≡ maps_of (with_use world kind name)
 with_name world Order name = refl
 with_name world Reference name = refl
 
-pub use_written : (world : World) (key : UseKey) → changed (row.Used key ∷ []) (rows_of world) ≡ rows_of (with_use world key.kind key.name)
+pub use_written : (world : World) (key : UseKey) → changed (row.Used key ∷ []) (maps_of world) ≡ maps_of (with_use world key.kind key.name)
 unfolding changed
-use_written world key = ap (λ keys. record (rows_of world) { used = keys }) (used_now world key) ∙ with_name world key.kind key.name
+use_written world key = ap (λ keys. record (maps_of world) { used = keys }) (used_now world key) ∙ with_name world key.kind key.name
 
 -- ---- all entries of a map, written into an empty one
 module _ {K X : Type 0} {R : K → K → Ordering} (total : IsTotalOrder R) (apart : IsAntisymmetric R) (m : FinMap R X) where
@@ -94,11 +94,11 @@ module _ {K : Type 0} {R : K → K → Ordering} (total : IsTotalOrder R) (apart
 
 -- ---- the layout
 pub layout_written : (world : World) (layout : Layout) → AreNodesInOrder layout (nodes_of layout) → world.layout ≡ empty_layout
-    → changed (layout_changes layout) (rows_of world) ≡ rows_of (record world { layout = layout })
+    → changed (layout_changes layout) (maps_of world) ≡ maps_of (record world { layout = layout })
 layout_written world layout listed none =
-    let first : Rows = rows_of world in
-    let second : Rows = record first { nodes = joined first.nodes (nodes_of layout) } in
-    let third : Rows = record second { edges = written first.edges (entries layout.edges) } in
+    let first : Maps = maps_of world in
+    let second : Maps = record first { nodes = joined first.nodes (nodes_of layout) } in
+    let third : Maps = record second { edges = written first.edges (entries layout.edges) } in
     let nodes : joined first.nodes (nodes_of layout) ≡ layout.nodes = ap (λ (l : Layout). joined l.nodes (nodes_of layout)) none ∙ joined_all names_total names_apart (nodes_of layout) ∙ listed.all in
     let edges : written first.edges (entries layout.edges) ≡ layout.edges = ap (λ (l : Layout). written l.edges (entries layout.edges)) none ∙ moved_all names_total names_apart layout.edges in
     let stations : written first.stations (entries layout.stations) ≡ layout.stations = ap (λ (l : Layout). written l.stations (entries layout.stations)) none ∙ moved_all names_total names_apart layout.stations in

@@ -9,7 +9,7 @@ use Rattle.agv_header.specs.declared.key.Thing.{Thing}
 use Rattle.agv_header.specs.declared.key.VehicleKey.{VehicleKey}
 use Rattle.agv_track.specs.Footprints.{footprint_of}
 use Rattle.agv_world.specs.Questions.{holder_of}
-use Rattle.agv_world.specs.Rows.{hold_rows, standing_of}
+use Rattle.agv_world.specs.Maps.{hold_rows, standing_of}
 use Rattle.agv_header.specs.Spread.{spread}
 use Rattle.agv_world.specs.Told.{is_held_by, vehicle_in, vehicles_in, vehicles_of, world_of}
 use Rattle.agv_world.specs.Worlds.{Vehicle}

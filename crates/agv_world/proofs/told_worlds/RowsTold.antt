@@ -12,7 +12,7 @@ use Rattle.agv_world.specs.ConsistentTrips.{HasTrip, HasConsistentTrips, IsVehic
 use Rattle.agv_world.specs.Kept.{Keeps}
 use Rattle.agv_world.specs.Lawful.{HasAct}
 use Rattle.agv_world.specs.LawfulParts.{HasLawfulVehicles}
-use Rattle.agv_world.specs.Rows.{rows_of_trip, trip_row}
+use Rattle.agv_world.specs.Maps.{rows_of_trip, trip_row}
 use Rattle.agv_world.specs.Told.{open_trip, vehicle_in, world_of}
 use Rattle.agv_world.specs.Worlds.{Vehicle, World}
 use Rattle.agv_world.specs.declared.row.TripRow.{TripRow}

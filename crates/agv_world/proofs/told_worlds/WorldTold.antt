@@ -14,7 +14,7 @@ use Rattle.agv_order.specs.declared.trip.Trip.{Trip}
 use Rattle.agv_world.specs.ConsistentTrips.{HasConsistentTrips, HasTrip}
 use Rattle.agv_world.specs.Kept.{Keeps}
 use Rattle.agv_world.specs.Keys.{leg_cmp}
-use Rattle.agv_world.specs.Rows.{legs_of_trip, rows_of_trip, trip_row}
+use Rattle.agv_world.specs.Maps.{legs_of_trip, rows_of_trip, trip_row}
 use Rattle.agv_world.specs.Told.{edge_named, edges_of, is_of_order, names_of, names_vehicle, open_trip, trip_in, vehicle_in, vehicles_of, world_of}
 use Rattle.agv_world.specs.Worlds.{Vehicle, World}
 use Rattle.agv_world.specs.declared.key.LegKey.{LegKey}

@@ -14,7 +14,7 @@ use Rattle.agv_track.specs.Footprints.{footprint_of}
 use Rattle.agv_track.specs.Holds.{Holds, claimed, first_held, is_in, or_further, other_holder}
 use Rattle.agv_world.specs.ConsistentTrips.{IsHolder, SharesNothing}
 use Rattle.agv_world.specs.LawfulTests.{are_apart, can_claim, things_of}
-use Rattle.agv_world.specs.Rows.{standing_of}
+use Rattle.agv_world.specs.Maps.{standing_of}
 use Rattle.agv_world.specs.Told.{vehicle_in, world_of}
 use Rattle.agv_world.specs.Worlds.{Vehicle}
 use Rattle.agv_world.specs.declared.row.VehicleRow.{VehicleRow}

@@ -14,7 +14,7 @@ use Rattle.agv_world.specs.Kept.{Keeps}
 use Rattle.agv_world.specs.KeyOrders.{leg_cmp-total, leg_cmp-IsAntisymmetric, use_cmp-total, use_cmp-IsAntisymmetric}
 use Rattle.agv_world.specs.Keys.{leg_cmp}
 use Rattle.agv_world.specs.LawfulTests.{are_in_turn, are_legs, are_trips, has_trip_row, is_trip_of, is_trip_of_row, is_first, is_trip_row, is_used_order}
-use Rattle.agv_world.specs.Rows.{leg_rows, legs_of_trip, rows_of, rows_of_trip, trip_row, trip_rows}
+use Rattle.agv_world.specs.Maps.{leg_rows, legs_of_trip, maps_of, rows_of_trip, trip_row, trip_rows}
 use Rattle.agv_world.specs.Told.{trip_in, vehicle_in, vehicles_of, world_of}
 use Rattle.agv_world.specs.Worlds.{Vehicle}
 use Rattle.agv_world.specs.declared.row.TripRow.{TripRow}
@@ -64,7 +64,7 @@ module _ (tables : Tables) where
   open_trip_told order row at is = (vehicle_in tables row.vehicle is.owner, told_vehicle tables row.vehicle is.owner is.there, first_open tables order row at is.first)
 
   -- ---- the tables of vehicles and used names
-  kept_vehicles : tables.vehicles ≡ (rows_of (world_of tables)).vehicles
+  kept_vehicles : tables.vehicles ≡ (maps_of (world_of tables)).vehicles
   kept_vehicles = finite.same_map key_cmp-total key_cmp-IsAntisymmetric _ _ (λ q. alike _ _
       (λ row at. (vehicle_table (world_of tables)).into q (vehicle_in tables q row) q row (told_vehicle tables q row at) (own_key key_cmp-total q row))
       (λ row at.
@@ -73,7 +73,7 @@ module _ (tables : Tables) where
       let told = vehicle_told tables from.0 from.1 from.2 in
       ap (get tables.vehicles) one.0 ∙ told.1 ∙ ap (λ (vehicle : Vehicle). Some vehicle.row) told.2 ∙ ap Some (sym one.1)))
 
-  kept_used : tables.used ≡ (rows_of (world_of tables)).used
+  kept_used : tables.used ≡ (maps_of (world_of tables)).used
   kept_used = set.same_set use_cmp-total use_cmp-IsAntisymmetric _ _ (λ q. sym (used_is (world_of tables) q.kind q.name ∙ is_used-told tables q.kind q.name))
 
   -- ---- those of trips and edge rows
@@ -86,7 +86,7 @@ module _ (tables : Tables) where
   row_again : (key : VehicleKey) (trip : Trip) → (told : IsTold tables key trip) → trip_row key trip ≡ told.row
   row_again key trip told = ap (trip_row key) (sym told.is) ∙ ap (λ k. record told.row { vehicle = k }) (sym told.by)
 
-  kept_trips : are_trips tables ≡ true → tables.trips ≡ (rows_of (world_of tables)).trips
+  kept_trips : are_trips tables ≡ true → tables.trips ≡ (maps_of (world_of tables)).trips
   kept_trips trips = finite.same_map names_total names_apart _ _ (λ q. alike _ _
       (λ row at.
       let has = open_trip_told q row at (trip_row_told trips q row at) in
@@ -97,7 +97,7 @@ module _ (tables : Tables) where
       let told = trip_told tables from.0 trip.0 (from.1, from.2, trip.1) in
       ap (get tables.trips) trip.2 ∙ told.here ∙ ap Some (sym (trip.3 ∙ row_again from.0 trip.0 told))))
 
-  kept_legs : are_trips tables ≡ true → are_legs tables ≡ true → tables.legs ≡ (rows_of (world_of tables)).legs
+  kept_legs : are_trips tables ≡ true → are_legs tables ≡ true → tables.legs ≡ (maps_of (world_of tables)).legs
   kept_legs trips legs = finite.same_map leg_cmp-total leg_cmp-IsAntisymmetric _ _ (λ q. alike _ _
       (λ id at.
       let row = there (get tables.trips q.order) (each-entry leg_cmp-total leg_cmp-IsAntisymmetric (has_trip_row tables) tables.legs legs q id at) in

@@ -22,7 +22,7 @@ use Rattle.agv_world.specs.Keys.{leg_cmp}
 use Rattle.agv_world.specs.Lawful.{picks}
 use Rattle.agv_world.specs.LawfulParts.{HasLawfulVehicles, IsTripOf}
 use Rattle.agv_world.specs.LawfulTests.{are_in_turn, are_lawful_vehicles, are_legs, are_trips, are_vehicles, has_trip_row, is_trip_of, is_trip_of_row, is_first, is_name_of, is_trip_row, is_used_order, is_vehicle_row}
-use Rattle.agv_world.specs.Rows.{legs_of_trip}
+use Rattle.agv_world.specs.Maps.{legs_of_trip}
 use Rattle.agv_world.specs.Told.{is_of_order, layout_of_tables, names_of, trip_in, vehicle_in, world_of}
 use Rattle.agv_world.specs.Worlds.{Vehicle, World, empty_layout}
 use Rattle.agv_world.specs.declared.key.UseKind.TheVariants.{Order, Reference}

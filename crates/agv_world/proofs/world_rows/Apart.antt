@@ -5,7 +5,7 @@ use Rattle.agv_header.specs.KeyOrder.{key_cmp-IsAntisymmetric}
 use Rattle.agv_header.specs.Name.{name_cmp}
 use Rattle.agv_world.specs.ConsistentTrips.{HasOneTripAnOrder}
 use Rattle.agv_world.specs.Keys.{leg_cmp}
-use Rattle.agv_world.specs.Rows.{vehicle_rows, trip_rows, leg_rows}
+use Rattle.agv_world.specs.Maps.{vehicle_rows, trip_rows, leg_rows}
 use Rattle.agv_world.specs.Worlds.{World}
 use Rattle.agv_world.proofs.world_rows.RowKeys.{one_key, trip_at, leg_of}
 use Rattle.agv_world.proofs.world_rows.Spreads.{IsApart}

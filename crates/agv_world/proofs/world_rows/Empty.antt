@@ -10,7 +10,7 @@ use Rattle.std.proofs.lemmas.Cmp.{tied_itself}
 use Rattle.std.proofs.lemmas.List.{nil_from_length}
 use Rattle.agv_header.specs.Name.{name_cmp}
 use Rattle.agv_world.specs.Keys.{use_cmp}
-use Rattle.agv_world.specs.Rows.{used_names}
+use Rattle.agv_world.specs.Maps.{used_names}
 use Rattle.agv_header.specs.Spread.{spread}
 use Rattle.agv_world.specs.Worlds.{empty_world}
 use Rattle.agv_world.proofs.lists.Orders.{names_total}

@@ -13,7 +13,7 @@ use Rattle.agv_header.specs.declared.key.VehicleKey.{VehicleKey}
 use Rattle.agv_track.specs.Footprints.{footprint_of}
 use Rattle.agv_track.specs.Holds.{is_in}
 use Rattle.agv_world.specs.ConsistentTrips.{IsHolder, SharesNothing}
-use Rattle.agv_world.specs.Rows.{rows_of, hold_rows, standing_of}
+use Rattle.agv_world.specs.Maps.{maps_of, hold_rows, standing_of}
 use Rattle.agv_world.specs.Worlds.{Vehicle, World}
 use Rattle.agv_world.proofs.lists.Entries.{no_more, same_Some, is_same}
 use Rattle.agv_world.proofs.world_rows.Spreads.{IsApart, IsSpread, spread_is}
@@ -46,7 +46,7 @@ module _ (world : World) (shares : SharesNothing world) where
   holds_are = spread_is key_cmp-total key_cmp-IsAntisymmetric thing_cmp thing_cmp-total hold_rows world.vehicles holds_apart
 
 -- the row of a node or edge has its holder
-pub holder_is : (world : World) → SharesNothing world → (thing : Thing) (key : VehicleKey) → (get (rows_of world).holds thing ≡ Some key) ↔ IsHolder world key thing
+pub holder_is : (world : World) → SharesNothing world → (thing : Thing) (key : VehicleKey) → (get (maps_of world).holds thing ≡ Some key) ↔ IsHolder world key thing
 holder_is world shares thing key = (
   λ e. let f = (holds_are world shares).from thing key e in let told = held_at f.0 f.1 thing key f.3 in (f.1, ap (get world.vehicles) told.1 ∙ f.2, told.0),
   λ is. (holds_are world shares).into key is.0 thing key is.1 (held key is.0 thing is.2),

@@ -10,7 +10,7 @@ use Rattle.agv_layout.specs.declared.edge.Edge.{Edge}
 use Rattle.agv_order.specs.declared.trip.Trip.{Trip}
 use Rattle.agv_world.specs.KeyOrders.{leg_cmp-total, leg_cmp-IsAntisymmetric}
 use Rattle.agv_world.specs.Keys.{leg_cmp}
-use Rattle.agv_world.specs.Rows.{rows_of_trip, trip_row, legs_of_trip, leg_row}
+use Rattle.agv_world.specs.Maps.{rows_of_trip, trip_row, legs_of_trip, leg_row}
 use Rattle.agv_world.specs.declared.key.LegKey.{LegKey}
 use Rattle.agv_world.specs.declared.row.TripRow.{TripRow}
 use Rattle.agv_world.proofs.lists.Entries.{no_more, same_Some, is_same}

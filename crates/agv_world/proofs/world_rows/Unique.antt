@@ -15,7 +15,7 @@ use Rattle.agv_order.specs.declared.trip.Trip.{Trip}
 use Rattle.agv_world.specs.ConsistentTrips.{HasConsistentTrips, HasTrip}
 use Rattle.agv_world.specs.KeyOrders.{leg_cmp-total}
 use Rattle.agv_world.specs.Keys.{leg_cmp}
-use Rattle.agv_world.specs.Rows.{Rows, rows_of, vehicle_rows, trip_rows, rows_of_trip, trip_row, leg_rows, legs_of_trip}
+use Rattle.agv_world.specs.Maps.{Maps, maps_of, vehicle_rows, trip_rows, rows_of_trip, trip_row, leg_rows, legs_of_trip}
 use Rattle.agv_header.specs.Spread.{spread}
 use Rattle.agv_world.specs.Worlds.{Vehicle, World}
 use Rattle.agv_world.specs.declared.key.LegKey.{LegKey}
@@ -59,12 +59,12 @@ same_edges layout order i (x ∷ xs) (y ∷ ys) h k f g =
     λ j. head j ∷ tail j
 
 -- ---- trips
-module _ (w v : World) (W : HasConsistentTrips w) (V : HasConsistentTrips v) (e : rows_of w ≡ rows_of v) where
+module _ (w v : World) (W : HasConsistentTrips w) (V : HasConsistentTrips v) (e : maps_of w ≡ maps_of v) where
   -- the rows of a trip's edges stand in the other world too
   legs_over : (a b : VehicleKey) (t u : Trip) → HasTrip w a t → HasTrip v b u → t.order ≡ u.order → Among t.order 0 t.edges u.edges
   legs_over a b t u h k s q n f =
       let here : get (spread leg_cmp leg_rows w.vehicles) q ≡ Some n = (legs_of w W).into a h.0 q n h.1 (ap (λ o. find leg_cmp q (legs_of_trip o)) h.2 ∙ f) in
-      let there : get (spread leg_cmp leg_rows v.vehicles) q ≡ Some n = sym (ap (λ (r : Rows). get r.legs q) e) ∙ here in
+      let there : get (spread leg_cmp leg_rows v.vehicles) q ≡ Some n = sym (ap (λ (r : Maps). get r.legs q) e) ∙ here in
       let g = (legs_of v V).from q n there in
       let key = leg_of g.1.trip q n g.3 in
       let order : q.order ≡ t.order = (number_key t.order 0 t.edges q n f).0 in
@@ -72,11 +72,11 @@ module _ (w v : World) (W : HasConsistentTrips w) (V : HasConsistentTrips v) (e 
       let vehicle : g.1 ≡ k.0 = same_Some _ _ (sym g.2 ∙ ap (get v.vehicles) owner ∙ k.1) in
       ap (λ o. find leg_cmp q (numbered o 0 u.edges)) s ∙ sym (ap (λ o. find leg_cmp q (legs_of_trip o)) (ap (λ (x : Vehicle). x.trip) vehicle ∙ k.2)) ∙ g.3
 
-module _ (w v : World) (W : HasConsistentTrips w) (V : HasConsistentTrips v) (e : rows_of w ≡ rows_of v) where
+module _ (w v : World) (W : HasConsistentTrips w) (V : HasConsistentTrips v) (e : maps_of w ≡ maps_of v) where
   trip_over : (a : VehicleKey) (x y : Vehicle) (t : Trip) → get w.vehicles a ≡ Some x → get v.vehicles a ≡ Some y → x.trip ≡ Some t → y.trip ≡ Some t
   trip_over a x y t g h s =
       let here : get (spread name_cmp trip_rows w.vehicles) t.order ≡ Some (trip_row a t) = (trips_of w W).into a x t.order (trip_row a t) g (ap (λ o. find name_cmp t.order (rows_of_trip a o)) s ∙ own_key names_total t.order (trip_row a t)) in
-      let there : get (spread name_cmp trip_rows v.vehicles) t.order ≡ Some (trip_row a t) = sym (ap (λ (r : Rows). get r.trips t.order) e) ∙ here in
+      let there : get (spread name_cmp trip_rows v.vehicles) t.order ≡ Some (trip_row a t) = sym (ap (λ (r : Maps). get r.trips t.order) e) ∙ here in
       let f = (trips_of v V).from t.order (trip_row a t) there in
       let r = trip_at f.0 f.1.trip t.order (trip_row a t) f.3 in
       let u = r.0 in
@@ -86,7 +86,7 @@ module _ (w v : World) (W : HasConsistentTrips w) (V : HasConsistentTrips v) (e 
       let vehicle : f.1 ≡ y = same_Some _ _ (sym f.2 ∙ sym (ap (get v.vehicles) owner) ∙ h) in
       let own : t.vehicle ≡ u.vehicle = W.own a t (x, g, s) ∙ owner ∙ sym (V.own f.0 u (f.1, f.2, r.1)) in
       let edges : t.edges ≡ u.edges = same_edges w.layout t.order 0 t.edges u.edges (W.known a t (x, g, s))
-      (subst (λ (edges : FinMap name_cmp EdgeEnds). AllByRecursion (λ (edge : Edge). get edges edge.id ≡ Some (record { start = edge.start; finish = edge.finish })) u.edges) (sym (ap (λ (r : Rows). r.edges) e)) (V.known f.0 u (f.1, f.2, r.1)))
+      (subst (λ (edges : FinMap name_cmp EdgeEnds). AllByRecursion (λ (edge : Edge). get edges edge.id ≡ Some (record { start = edge.start; finish = edge.finish })) u.edges) (sym (ap (λ (r : Maps). r.edges) e)) (V.known f.0 u (f.1, f.2, r.1)))
       (legs_over w v W V e a f.0 t u (x, g, s) (f.1, f.2, r.1) order)
       (subst (λ o. Among o 0 u.edges t.edges) (sym order) (legs_over v w V W (sym e) f.0 a u t (f.1, f.2, r.1) (x, g, s) (sym order))) in
       let trip : t ≡ u = λ i. record {
@@ -104,11 +104,11 @@ module _ (w v : World) (W : HasConsistentTrips w) (V : HasConsistentTrips v) (e 
       sym (ap (λ (x : Vehicle). x.trip) vehicle) ∙ r.1 ∙ ap Some (sym trip)
 
 -- ---- vehicles
-module _ (w v : World) (W : HasConsistentTrips w) (V : HasConsistentTrips v) (e : rows_of w ≡ rows_of v) where
+module _ (w v : World) (W : HasConsistentTrips w) (V : HasConsistentTrips v) (e : maps_of w ≡ maps_of v) where
   vehicle_over : (a : VehicleKey) (x : Vehicle) → get w.vehicles a ≡ Some x → get v.vehicles a ≡ Some x
   vehicle_over a x g =
       let here : get (spread key_cmp vehicle_rows w.vehicles) a ≡ Some x.row = (vehicles_of w).into a x a x.row g (own_key key_cmp-total a x.row) in
-      let there : get (spread key_cmp vehicle_rows v.vehicles) a ≡ Some x.row = sym (ap (λ (r : Rows). get r.vehicles a) e) ∙ here in
+      let there : get (spread key_cmp vehicle_rows v.vehicles) a ≡ Some x.row = sym (ap (λ (r : Maps). get r.vehicles a) e) ∙ here in
       let f = (vehicles_of v).from a x.row there in
       let y = f.1 in
       let one = one_key key_cmp-IsAntisymmetric a f.0 y.row x.row f.3 in
@@ -119,11 +119,11 @@ module _ (w v : World) (W : HasConsistentTrips w) (V : HasConsistentTrips v) (e 
       at ∙ ap Some (sym vehicle)
 
 -- ---- worlds
-pub one_world : (w v : World) → HasConsistentTrips w → HasConsistentTrips v → rows_of w ≡ rows_of v → w ≡ v
+pub one_world : (w v : World) → HasConsistentTrips w → HasConsistentTrips v → maps_of w ≡ maps_of v → w ≡ v
 one_world w v W V e =
     let vehicles : w.vehicles ≡ v.vehicles = same_map key_cmp-total key_cmp-IsAntisymmetric w.vehicles v.vehicles (λ a. alike (get w.vehicles a) (get v.vehicles a) (vehicle_over w v W V e a) (vehicle_over v w V W (sym e) a)) in
-    let orders : w.orders ≡ v.orders = set.same_set names_total names_apart w.orders v.orders (λ name. sym (used_order w name) ∙ ap (λ (r : Rows). set.contains r.used (order_key name)) e ∙ used_order v name) in
-    let references : w.references ≡ v.references = set.same_set names_total names_apart w.references v.references (λ name. sym (used_reference w name) ∙ ap (λ (r : Rows). set.contains r.used (reference_key name)) e ∙ used_reference v name) in
+    let orders : w.orders ≡ v.orders = set.same_set names_total names_apart w.orders v.orders (λ name. sym (used_order w name) ∙ ap (λ (r : Maps). set.contains r.used (order_key name)) e ∙ used_order v name) in
+    let references : w.references ≡ v.references = set.same_set names_total names_apart w.references v.references (λ name. sym (used_reference w name) ∙ ap (λ (r : Maps). set.contains r.used (reference_key name)) e ∙ used_reference v name) in
     λ i. record {
       layout = record { nodes = (e i).nodes; edges = (e i).edges; stations = (e i).stations };
       vehicles = vehicles i;

@@ -7,7 +7,7 @@ use Rattle.agv_header.specs.Name.{name_cmp}
 use Rattle.agv_world.specs.KeyOrders.{use_cmp-total, use_cmp-IsAntisymmetric}
 use Rattle.agv_world.specs.Keys.{use_cmp}
 use Rattle.agv_world.specs.Questions.{is_used}
-use Rattle.agv_world.specs.Rows.{rows_of, used_names}
+use Rattle.agv_world.specs.Maps.{maps_of, used_names}
 use Rattle.agv_world.specs.TableChanges.{with_use}
 use Rattle.agv_world.specs.Worlds.{World}
 use Rattle.agv_world.specs.declared.key.UseKey.{UseKey}
@@ -51,7 +51,7 @@ references_none : (name : List ℕ) (names : List (List ℕ)) → any_used (refe
 references_none name [] = refl
 references_none name (x ∷ names) = references_none name names
 
-pub used_order : (world : World) (name : List ℕ) → set.contains (rows_of world).used (order_key name) ≡ set.contains world.orders name
+pub used_order : (world : World) (name : List ℕ) → set.contains (maps_of world).used (order_key name) ≡ set.contains world.orders name
 used_order world name =
     set.contains-from_list use_cmp-total (used_names world) (order_key name)
     ∙ any-append (order_key name) (map order_key (set.items world.orders)) (map reference_key (set.items world.references))
@@ -60,7 +60,7 @@ used_order world name =
     ∙ orders_any name (set.items world.orders)
     ∙ sym (set.contains-items world.orders name)
 
-pub used_reference : (world : World) (name : List ℕ) → set.contains (rows_of world).used (reference_key name) ≡ set.contains world.references name
+pub used_reference : (world : World) (name : List ℕ) → set.contains (maps_of world).used (reference_key name) ≡ set.contains world.references name
 used_reference world name =
     set.contains-from_list use_cmp-total (used_names world) (reference_key name)
     ∙ any-append (reference_key name) (map order_key (set.items world.orders)) (map reference_key (set.items world.references))
@@ -69,7 +69,7 @@ used_reference world name =
     ∙ sym (set.contains-items world.references name)
 
 -- the table has a name just where it was used
-pub used_is : (world : World) (kind : UseKind) (name : List ℕ) → set.contains (rows_of world).used (record { kind = kind; name = name }) ≡ is_used world kind name
+pub used_is : (world : World) (kind : UseKind) (name : List ℕ) → set.contains (maps_of world).used (record { kind = kind; name = name }) ≡ is_used world kind name
 unfolding is_used
 used_is world Order name = used_order world name
 used_is world Reference name = used_reference world name
@@ -82,9 +82,9 @@ one_more world Reference Order name q = refl
 one_more world Reference Reference name q = sym (set.contains-insert names_total world.references name q)
 
 -- one name more that was used
-pub used_now : (world : World) (key : UseKey) → set.insert (rows_of world).used key ≡ (rows_of (with_use world key.kind key.name)).used
-used_now world key = set.same_set use_cmp-total use_cmp-IsAntisymmetric (set.insert (rows_of world).used key) (rows_of (with_use world key.kind key.name)).used (λ q.
-    set.contains-insert use_cmp-total (rows_of world).used key q
+pub used_now : (world : World) (key : UseKey) → set.insert (maps_of world).used key ≡ (maps_of (with_use world key.kind key.name)).used
+used_now world key = set.same_set use_cmp-total use_cmp-IsAntisymmetric (set.insert (maps_of world).used key) (maps_of (with_use world key.kind key.name)).used (λ q.
+    set.contains-insert use_cmp-total (maps_of world).used key q
     ∙ ap (λ b. eq_by_cmp use_cmp q key || b) (used_is world q.kind q.name)
     ∙ one_more world key.kind q.kind key.name q.name
     ∙ sym (used_is (with_use world key.kind key.name) q.kind q.name))

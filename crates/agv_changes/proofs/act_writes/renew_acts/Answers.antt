@@ -1,6 +1,6 @@
 use Rattle.agv_trip_rows.specs.TripRows.{act_rows_from}
 use Rattle.agv_schema.specs.DeskRows.{with_rows}
-use Rattle.agv_rows.specs.RowLists.{rows_of_acts, without_acts}
+use Rattle.agv_rows.specs.Rows.{rows_of_acts, without_acts}
 use Rattle.agv_schema.specs.declared.table_name.TableName.TheVariants as the
 use Rattle.agv_statements.proofs.DeskStatements.{makes_then}
 use Rattle.agv_statements.proofs.WritesThen.{writes_then}

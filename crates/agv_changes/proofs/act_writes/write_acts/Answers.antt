@@ -3,7 +3,7 @@ use Rattle.sqlite.specs.Held.{state}
 use Rattle.agv_trip_rows.specs.TripRows.{act_rows_from}
 use Rattle.agv_changes.specs.ActRows.{AreOfOrder, acts_listed}
 use Rattle.agv_schema.specs.DeskRows.{Answers, with_rows}
-use Rattle.agv_rows.specs.RowLists.{rows_of_acts, without_acts}
+use Rattle.agv_rows.specs.Rows.{rows_of_acts, without_acts}
 use Rattle.agv_statements.specs.RowQueries.{rows_asked}
 use Rattle.agv_schema.specs.declared.rows_by.RowsBy.TheVariants as by
 use Rattle.agv_schema.specs.declared.table_name.TableName.TheVariants as the

@@ -1,6 +1,6 @@
 use Rattle.std.proofs.Common.{take}
 use Rattle.agv_schema.specs.DeskRows.{Makes}
-use Rattle.agv_rows.specs.RowLists.{listed_all}
+use Rattle.agv_rows.specs.Rows.{listed_all}
 use Rattle.agv_statements.specs.WritesInside.{WritesInside}
 use Rattle.agv_changes.proofs.change_running.run_changes.Given as goal
 

@@ -1,6 +1,6 @@
 use Rattle.agv_schema.specs.DeskRows.{without_key}
 use Rattle.agv_rows.specs.RowKeys.{name_key}
-use Rattle.agv_rows.specs.RowLists.{without_acts}
+use Rattle.agv_rows.specs.Rows.{without_acts}
 use Rattle.agv_schema.specs.declared.table_name.TableName.TheVariants as the
 use Rattle.agv_schema.proofs.StatesKept.{on_ok}
 use Rattle.agv_statements.proofs.DeskStatements.{makes_then}

@@ -6,7 +6,7 @@ use Rattle.agv_trip_rows.specs.TripRows.{act_rows_from, journey_of}
 use Rattle.agv_rows.specs.Columns.{journey_columns}
 use Rattle.agv_schema.specs.DeskRows.{Makes, with_put, with_rows}
 use Rattle.agv_rows.specs.RowKeys.{name_key}
-use Rattle.agv_rows.specs.RowLists.{rows_of_acts, without_acts}
+use Rattle.agv_rows.specs.Rows.{rows_of_acts, without_acts}
 use Rattle.agv_schema.specs.declared.table_name.TableName.TheVariants as the
 use Rattle.agv_schema.proofs.StatesKept.{on_ok}
 use Rattle.agv_statements.proofs.DeskStatements.{makes_then}

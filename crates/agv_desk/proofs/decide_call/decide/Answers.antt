@@ -1,6 +1,6 @@
 use Rattle.std.proofs.Common.{ap, ◌∙◌}
 use Rattle.agv_world.specs.Changes.{changed}
-use Rattle.agv_world.specs.Rows.{rows_of}
+use Rattle.agv_world.specs.Maps.{maps_of}
 use Rattle.agv_world.proofs.lists.Asking.{asked_as}
 use Rattle.agv_desk.specs.declared.answer.Decision.{Decision}
 use Rattle.agv_desk.proofs.outcomes.Deciding.{of_size}
@@ -13,7 +13,7 @@ returns-clause-changes g c =
     let seats = g.F.Floor.facts.seats c.args.floor.now in
     asked_as g.F.Floor.facts c.args.floor.now c.decide_each.new.floor c.decide_each.result _ _
     (λ decision says in_order.
-    ap (λ (d : Decision). changed d.changes (rows_of world)) (says (of_size world in_order c.args.call.now))
+    ap (λ (d : Decision). changed d.changes (maps_of world)) (says (of_size world in_order c.args.call.now))
     ∙ c.leads_to_the_rows.ensures seats world c.args.at c.args.call.now in_order)
     c.decide_each.ensures
 

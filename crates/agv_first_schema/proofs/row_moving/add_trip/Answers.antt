@@ -4,7 +4,7 @@ use Rattle.agv_trip_rows.specs.TripRows.{act_rows, act_rows_from, journey_of}
 use Rattle.agv_schema.specs.declared.table_name.TableName.TheVariants as the
 use Rattle.agv_rows.specs.Columns.{journey_columns}
 use Rattle.agv_schema.specs.DeskRows.{Makes, with_row, with_rows}
-use Rattle.agv_rows.specs.RowLists.{rows_of_acts}
+use Rattle.agv_rows.specs.Rows.{rows_of_acts}
 use Rattle.agv_statements.proofs.WritesThen.{writes_then}
 use Rattle.agv_first_schema.proofs.MovingEach.{then_made}
 use Rattle.agv_first_schema.proofs.row_moving.add_trip.Goals as goal

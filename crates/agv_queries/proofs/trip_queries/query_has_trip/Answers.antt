@@ -1,5 +1,5 @@
 use Rattle.std.proofs.Common.{◌==◌, ℕ, Ok, is_some, not, refl, sym, ap, subst, ◌∙◌}
-use Rattle.agv_world.specs.Rows.{rows_of}
+use Rattle.agv_world.specs.Maps.{maps_of}
 use Rattle.agv_rows.specs.DecodedTrips.{journey_for}
 use Rattle.agv_statements.specs.RowQueries.{FitsColumns, columns_asked, table_asked}
 use Rattle.agv_schema.specs.declared.rows_by.RowsBy.TheVariants as by
@@ -21,4 +21,4 @@ returns g c =
     (λ world lawful shown.
     ap not (c.is_empty.ensures ∙ ap (λ (n : ℕ). n == 0) c.in_ok-rows.rows.ok.0)
     ∙ tells_driven world (laws.one world lawful) key _ c.vehicle_key_values.ensures c.in_ok-rows.rows.items shown
-    ∙ sym (ap is_some (laws.trip world lawful key) ∙ trip_there world (laws.acts world lawful) (journey_for (rows_of world) key))) c.in_ok-rows.ensures
+    ∙ sym (ap is_some (laws.trip world lawful key) ∙ trip_there world (laws.acts world lawful) (journey_for (maps_of world) key))) c.in_ok-rows.ensures

@@ -1,6 +1,6 @@
 use Rattle.std.proofs.Common.{None, Ok, Some, ap, sym, ◌∙◌}
 use Rattle.std.specs.Option.{option_and_then}
-use Rattle.agv_world.specs.Rows.{rows_of}
+use Rattle.agv_world.specs.Maps.{maps_of}
 use Rattle.agv_rows.specs.DecodedTrips.{told_by_journey}
 use Rattle.agv_row_reading.proofs.Asking.{follows, passes, then_follows, then_passes}
 use Rattle.agv_queries.proofs.trip_queries.query_trip.Goals as goal
@@ -11,7 +11,7 @@ returns-in_err-journey g c = passes g.S.Store c.args.conn.now c.query_journey.ne
 pub returns-in-None : goal.returns-in-None
 returns-in-None g c =
     follows g.S.Store c.args.conn.now c.query_journey.new.conn c.in_ok-journey.journey _ _ (Ok None)
-    (λ world lawful one _. sym (c.rows_tell_trips.ensures.trip world lawful c.args.key.now ∙ ap (option_and_then (told_by_journey (rows_of world))) (sym one ∙ c.in-None.is))) c.in_ok-journey.ensures
+    (λ world lawful one _. sym (c.rows_tell_trips.ensures.trip world lawful c.args.key.now ∙ ap (option_and_then (told_by_journey (maps_of world))) (sym one ∙ c.in-None.is))) c.in_ok-journey.ensures
 
 pub returns-in_err-trip-in-Some : goal.returns-in_err-trip-in-Some
 returns-in_err-trip-in-Some g c =
@@ -24,5 +24,5 @@ returns-in_ok-trip-in-Some g c =
     c.in_ok-trip-in-Some.trip _ _ (Ok (Some c.in_ok-trip-in-Some.trip))
     (λ world lawful one two agrees.
     sym (two agrees)
-    ∙ sym (c.rows_tell_trips.ensures.trip world lawful c.args.key.now ∙ ap (option_and_then (told_by_journey (rows_of world))) (sym one ∙ c.in-Some.is)))
+    ∙ sym (c.rows_tell_trips.ensures.trip world lawful c.args.key.now ∙ ap (option_and_then (told_by_journey (maps_of world))) (sym one ∙ c.in-Some.is)))
     c.in_ok-trip-in-Some.ensures

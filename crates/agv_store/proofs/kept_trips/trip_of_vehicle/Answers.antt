@@ -4,7 +4,7 @@ use Rattle.agv_header.specs.Key.{key_cmp}
 use Rattle.agv_header.specs.KeyOrder.{key_cmp-IsAntisymmetric, key_cmp-ties, key_eq}
 use Rattle.agv_header.specs.declared.key.VehicleKey.{VehicleKey}
 use Rattle.agv_order.specs.declared.trip.Trip.{Trip}
-use Rattle.agv_world.specs.Rows.{Rows}
+use Rattle.agv_world.specs.Maps.{Maps}
 use Rattle.agv_store.specs.KeptTrips.{AreOpen, IsTripOf}
 use Rattle.agv_store.proofs.kept_trips.trip_of_vehicle.Goals as goal
 
@@ -13,5 +13,5 @@ same_key a b is = key_cmp-IsAntisymmetric a b ((Equal-is (key_cmp a b)).0 (sym (
 
 pub returns-then-eq : goal.returns-then-eq
 returns-then-eq c =
-    subst (λ (trip : Trip). (trip.vehicle ≡ c.args.key.now) × ((rows : Rows) → AreOpen c.args.trips.now rows → IsTripOf rows c.args.order trip)) (sym c.in_ok-copy-in-Some.ensures)
-    (same_key _ _ (sym c.eq.ensures ∙ c.if-eq.true), λ rows are. are c.args.order c.in-Some.trip.now (sym c.in-Some.ensures.value))
+    subst (λ (trip : Trip). (trip.vehicle ≡ c.args.key.now) × ((maps : Maps) → AreOpen c.args.trips.now maps → IsTripOf maps c.args.order trip)) (sym c.in_ok-copy-in-Some.ensures)
+    (same_key _ _ (sym c.eq.ensures ∙ c.if-eq.true), λ maps are. are c.args.order c.in-Some.trip.now (sym c.in-Some.ensures.value))

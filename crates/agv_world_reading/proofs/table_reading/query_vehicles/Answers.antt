@@ -2,7 +2,7 @@ use Rattle.std.proofs.Common.{◌∙◌, Err, Ok, subst, sym}
 use Rattle.std.proofs.lemmas.Option.{same_Some}
 use Rattle.std.specs.FinMap as map
 use Rattle.agv_header.specs.Key.{key_cmp}
-use Rattle.agv_world.specs.Rows.{rows_of}
+use Rattle.agv_world.specs.Maps.{maps_of}
 use Rattle.agv_world.specs.declared.row.VehicleRow.{VehicleRow}
 use Rattle.agv_rows.specs.DecodedTrips.{vehicle_with}
 use Rattle.agv_row_reading.specs.ReadTables.{Reads, read_rows}
@@ -30,7 +30,7 @@ returns-in_err-vehicles g c =
     c.in_ok-rows.rows _ _ _ _ r
     (passes_no_storage c.in_err-vehicles.field-0.0 r c.from_residual-in_err-vehicles.ensures.1
     (reads_no_storage {A = map.FinMap key_cmp VehicleRow} (Err c.in_err-vehicles.field-0.0) (read_rows (vehicle_with capacities) map.empty c.in_ok-rows.rows.items) read))
-    (λ world lawful one two. reads_fails (rows_of world).vehicles c.in_err-vehicles.field-0.0 _ read (reads_vehicles world lawful c.in_ok-rows.rows.items capacities one two) r c.from_residual-in_err-vehicles.ensures.1 _)
+    (λ world lawful one two. reads_fails (maps_of world).vehicles c.in_err-vehicles.field-0.0 _ read (reads_vehicles world lawful c.in_ok-rows.rows.items capacities one two) r c.from_residual-in_err-vehicles.ensures.1 _)
     (λ lists one two. if_err c.in_err-vehicles.field-0.0 r c.from_residual-in_err-vehicles.ensures.1 _) c.in_ok-rows.ensures
 
 pub returns-then-are_of_vehicles : goal.returns-then-are_of_vehicles
@@ -40,7 +40,7 @@ returns-then-are_of_vehicles g c =
     let read = subst (λ rows. Reads {A = map.FinMap key_cmp VehicleRow} (Ok vehicles) (read_rows (vehicle_with capacities) map.empty rows)) c.as_slice.ensures.value c.in_ok-vehicles.ensures in
     all_then_follows g.S.Store c.args.conn.now c.query_capacities.new.conn c.query_all_rows.new.conn capacities _ _ c.in_ok-capacities.ensures
     c.in_ok-rows.rows _ _ _ _ (Ok vehicles) tt
-    (λ world lawful one two. same_Some vehicles (rows_of world).vehicles (sym read ∙ reads_vehicles world lawful c.in_ok-rows.rows.items capacities one two))
+    (λ world lawful one two. same_Some vehicles (maps_of world).vehicles (sym read ∙ reads_vehicles world lawful c.in_ok-rows.rows.items capacities one two))
     (λ lists one two. vehicles_shown capacities vehicles c.in_ok-rows.rows.items _ _ read (sym c.are_of_vehicles.ensures ∙ c.if-are_of_vehicles.true) two one) c.in_ok-rows.ensures
 
 pub returns : goal.returns
@@ -51,5 +51,5 @@ returns g c =
     all_then_follows g.S.Store c.args.conn.now c.query_capacities.new.conn c.query_all_rows.new.conn capacities _ _ c.in_ok-capacities.ensures
     c.in_ok-rows.rows _ _ _ _ (Err fault.Damaged) (λ is. cc is)
     (λ world lawful one two.
-    none_left_over (rows_of world).vehicles vehicles capacities (same_Some vehicles (rows_of world).vehicles (sym read ∙ reads_vehicles world lawful c.in_ok-rows.rows.items capacities one two)) one (sym c.are_of_vehicles.ensures ∙ c.if-are_of_vehicles.false))
+    none_left_over (maps_of world).vehicles vehicles capacities (same_Some vehicles (maps_of world).vehicles (sym read ∙ reads_vehicles world lawful c.in_ok-rows.rows.items capacities one two)) one (sym c.are_of_vehicles.ensures ∙ c.if-are_of_vehicles.false))
     (λ lists one two. tt) c.in_ok-rows.ensures

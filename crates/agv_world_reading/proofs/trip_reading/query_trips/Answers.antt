@@ -2,7 +2,7 @@ use Rattle.std.proofs.Common.{◌≡◌, ◌∙◌, Err, None, Ok, Option, Some,
 use Rattle.std.proofs.lemmas.Option.{same_Some}
 use Rattle.std.specs.FinMap as map
 use Rattle.agv_header.specs.Name.{name_cmp}
-use Rattle.agv_world.specs.Rows.{rows_of}
+use Rattle.agv_world.specs.Maps.{maps_of}
 use Rattle.agv_world.specs.declared.row.TripRow.{TripRow}
 use Rattle.agv_schema.specs.SchemaNumbers.{desk_seats}
 use Rattle.agv_row_reading.specs.declared.open_fault.OpenFault.TheVariants as fault
@@ -51,7 +51,7 @@ returns-in-None g c =
     (Ok c.in_ok-journeys.journeys) _ _ c.in_ok-journeys.ensures)
     c.in_ok-acts.acts _ _ _ _ (Err fault.Damaged) (λ is. cc is)
     (λ world lawful before acts.
-    let wrong : ◌≡◌ {A = Option (map.FinMap name_cmp TripRow)} None (Some (rows_of world).trips) =
+    let wrong : ◌≡◌ {A = Option (map.FinMap name_cmp TripRow)} None (Some (maps_of world).trips) =
     sym c.in-None.is ∙ tells_trips c.in_ok-journeys.journeys c.in_ok-acts.acts c.in_ok-jobs.jobs c.in_ok-told.told c.in_ok-told.ensures world (c.lawful_rows_tell_trips.ensures.all desk_seats world lawful) before.0.1 before.1 acts in
     cc wrong)
     (λ lists before acts. tt) c.in_ok-acts.ensures
@@ -71,7 +71,7 @@ returns-in-Some g c =
     acts _ _ _ _ (Ok (jobs, trips)) tt
     (λ world lawful before its. (
       before.0.1,
-      same_Some trips (rows_of world).trips (sym c.in-Some.is ∙ tells_trips journeys acts jobs told just world (c.lawful_rows_tell_trips.ensures.all desk_seats world lawful) before.0.1 before.1 its),
+      same_Some trips (maps_of world).trips (sym c.in-Some.is ∙ tells_trips journeys acts jobs told just world (c.lawful_rows_tell_trips.ensures.all desk_seats world lawful) before.0.1 before.1 its),
     ))
     (λ lists before its. (
       before.0.1,

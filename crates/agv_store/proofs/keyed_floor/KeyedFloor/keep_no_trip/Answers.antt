@@ -1,6 +1,6 @@
 use Rattle.std.proofs.Common.{◌≡◌, None, subst, sym}
 use Rattle.agv_world.specs.Questions.{trip_of}
-use Rattle.agv_world.specs.Rows.{rows_of}
+use Rattle.agv_world.specs.Maps.{maps_of}
 use Rattle.agv_schema.specs.Connections.{IsClean, IsOpen}
 use Rattle.agv_store.specs.Floors.{Keyed, world_at}
 use Rattle.agv_store.proofs.Asked.{known_so}
@@ -14,6 +14,6 @@ invariant_of-self g c =
     known_so g.S.Store c.self.inside.conn c.self.inside.known _ c.self.inside.failed c.self.inside.in_doubt c.self.invariant
     (λ clean still is.
     let world = world_at g.S.Store c.self.inside.conn in
-    with_trips (c.put_no_trip.ensures (rows_of world)
-    (no_row (rows_of world) c.args.key.now (trip_of world c.args.key.now) (λ trip. (c.rows_have_trips.ensures world (c.self.invariant.knows clean still).has.lawful c.args.key.now trip).1) (there clean still))
+    with_trips (c.put_no_trip.ensures (maps_of world)
+    (no_row (maps_of world) c.args.key.now (trip_of world c.args.key.now) (λ trip. (c.rows_have_trips.ensures world (c.self.invariant.knows clean still).has.lawful c.args.key.now trip).1) (there clean still))
     is.trips_are) is)

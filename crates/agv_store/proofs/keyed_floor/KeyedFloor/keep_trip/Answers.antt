@@ -1,6 +1,6 @@
 use Rattle.std.proofs.Common.{◌≡◌, Some, subst, sym}
 use Rattle.agv_world.specs.Questions.{trip_of}
-use Rattle.agv_world.specs.Rows.{rows_of}
+use Rattle.agv_world.specs.Maps.{maps_of}
 use Rattle.agv_rows.specs.DecodedTrips.{HasTripRows}
 use Rattle.agv_schema.specs.Connections.{IsClean, IsOpen}
 use Rattle.agv_store.specs.Floors.{Keyed, world_at}
@@ -14,6 +14,6 @@ invariant_of-self g c =
     known_so g.S.Store c.self.inside.conn c.self.inside.known _ c.self.inside.failed c.self.inside.in_doubt c.self.invariant
     (λ clean still is.
     let world = world_at g.S.Store c.self.inside.conn in
-    with_trips (c.put_trip.ensures (rows_of world)
-    (subst (HasTripRows (rows_of world)) (sym c.in_ok-copy.ensures) ((c.rows_have_trips.ensures world (c.self.invariant.knows clean still).has.lawful c.args.key.now c.args.trip.now).0 (sym (there clean still))).1)
+    with_trips (c.put_trip.ensures (maps_of world)
+    (subst (HasTripRows (maps_of world)) (sym c.in_ok-copy.ensures) ((c.rows_have_trips.ensures world (c.self.invariant.knows clean still).has.lawful c.args.key.now c.args.trip.now).0 (sym (there clean still))).1)
     is.trips_are) is)

@@ -1,6 +1,6 @@
 use Rattle.std.proofs.Common.{◌≡◌, Some, subst, sym, ◌∙◌}
 use Rattle.agv_world.specs.Questions.{row_of}
-use Rattle.agv_world.specs.Rows.{rows_of}
+use Rattle.agv_world.specs.Maps.{maps_of}
 use Rattle.agv_schema.specs.Connections.{IsClean, IsOpen}
 use Rattle.agv_store.specs.Floors.{Keyed, world_at}
 use Rattle.agv_store.proofs.Asked.{known_so}
@@ -14,5 +14,5 @@ invariant_of-self g c =
     known_so g.S.Store c.self.inside.conn c.self.inside.known _ c.self.inside.failed c.self.inside.in_doubt c.self.invariant
     (λ clean still is.
     let world = world_at g.S.Store c.self.inside.conn in
-    with_vehicles (row_kept_or_not c.self.inside.known.vehicles c.insert.new.self (rows_of world) c.args.key.now c.args.vehicle.now c.insert.result c.insert.ensures.ok c.insert.ensures.err
+    with_vehicles (row_kept_or_not c.self.inside.known.vehicles c.insert.new.self (maps_of world) c.args.key.now c.args.vehicle.now c.insert.result c.insert.ensures.ok c.insert.ensures.err
     (c.rows_have_vehicles.ensures world c.args.key.now ∙ sym (there clean still)) is.vehicles_are) is)

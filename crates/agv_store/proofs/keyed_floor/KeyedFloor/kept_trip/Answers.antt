@@ -1,6 +1,6 @@
 use Rattle.std.proofs.Common.{IfOk, Err, Ok, Result, sym}
 use Rattle.std.proofs.lemmas.Option.{IfSome_then}
-use Rattle.agv_world.specs.Rows.{rows_of}
+use Rattle.agv_world.specs.Maps.{maps_of}
 use Rattle.agv_store.specs.Floors.{world_at}
 use Rattle.agv_store.proofs.Asked.{known_seen}
 use Rattle.agv_store.proofs.keyed_floor.KeyedFloor.kept_trip.Goals as goal
@@ -13,5 +13,5 @@ pub returns : goal.returns
 returns g c =
     found_then c.trip_of_vehicle.result c.trip_of_vehicle.ensures (λ kept found. IfSome_then kept found (λ trip is clean still.
     let world = world_at g.S.Store c.args.self.now.held in
-    let its = is.1 (rows_of world) (known_seen g.S.Store c.self.inside.conn c.self.inside.known c.self.inside.failed c.self.inside.in_doubt c.self.invariant c.args.self.now c.self.view_is clean still).trips_are.0 in
+    let its = is.1 (maps_of world) (known_seen g.S.Store c.self.inside.conn c.self.inside.known c.self.inside.failed c.self.inside.in_doubt c.self.invariant c.args.self.now c.self.view_is clean still).trips_are.0 in
     sym ((c.rows_have_trips.ensures world (c.knows.ensures clean still).has.lawful c.args.key.now trip).1 (is.0, its.1))))

@@ -23,7 +23,7 @@ returns-then-is_empty-clause-knew g c clean = knows_before g.S.Store c.args.self
 
 pub returns-then-is_empty-clause-serves : goal.returns-then-is_empty-clause-serves
 returns-then-is_empty-clause-serves g c =
-    told g.S.Store c.args.self.now.held c.decided.new.self.held (asked_till g.S.Store c.args.self.now c.decided.new.self c.in_ok-decision.ensures.decides) c.knows.ensures c.args.at c.args.call.now c.in_ok-decision.decision c.in_ok-decision.ensures.decides.told c.in_ok-decision.ensures.knows c.has_consistent_trips.ensures c.rows_tell_the_world.ensures (c.if-is_empty.ensures.0 refl)
+    told g.S.Store c.args.self.now.held c.decided.new.self.held (asked_till g.S.Store c.args.self.now c.decided.new.self c.in_ok-decision.ensures.decides) c.knows.ensures c.args.at c.args.call.now c.in_ok-decision.decision c.in_ok-decision.ensures.decides.told c.in_ok-decision.ensures.knows c.has_consistent_trips.ensures c.maps_tell_the_world.ensures (c.if-is_empty.ensures.0 refl)
 
 pub returns-then-is_empty-clause-was_open : goal.returns-then-is_empty-clause-was_open
 returns-then-is_empty-clause-was_open g c = (asked_till g.S.Store c.args.self.now c.decided.new.self c.in_ok-decision.ensures.decides).was_open

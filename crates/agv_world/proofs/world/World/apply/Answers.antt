@@ -3,14 +3,14 @@ use Rattle.std.proofs.lemmas.Bool.{eqb-true}
 use Rattle.std.proofs.lemmas.List.{nil_from_length}
 use Rattle.agv_world.specs.Changes.{changed}
 use Rattle.agv_world.specs.Kept.{Agrees}
-use Rattle.agv_world.specs.Rows.{rows_of}
+use Rattle.agv_world.specs.Maps.{maps_of}
 use Rattle.agv_world.proofs.world.World.apply.Goals as goal
 
 pub returns-then-is_empty-clause-applied : goal.returns-then-is_empty-clause-applied
 unfolding changed
 returns-then-is_empty-clause-applied c world next keeps leads =
     let none = nil_from_length c.args.changes.now (eqb-true (length c.args.changes.now) 0 (sym c.is_empty.ensures ∙ c.if-is_empty.true)) in
-    subst (Agrees c.args.self.now) (subst (λ changes. changed changes (rows_of world) ≡ rows_of next) none leads) keeps
+    subst (Agrees c.args.self.now) (subst (λ changes. changed changes (maps_of world) ≡ maps_of next) none leads) keeps
 
 pub returns-then-is_empty-clause-agrees : goal.returns-then-is_empty-clause-agrees
 unfolding changed

@@ -2,7 +2,7 @@ use Rattle.std.proofs.Common.{sym, ◌∙◌}
 use Rattle.agv_header.specs.Key.{key_cmp}
 use Rattle.agv_header.specs.Name.{name_cmp}
 use Rattle.agv_world.specs.Keys.{leg_cmp}
-use Rattle.agv_world.specs.Rows.{vehicle_rows, trip_rows, leg_rows}
+use Rattle.agv_world.specs.Maps.{vehicle_rows, trip_rows, leg_rows}
 use Rattle.agv_world.proofs.world_rows.Empty.{spread-empty, used-empty}
 use Rattle.agv_world.proofs.world.World.empty.Goals as goal
 

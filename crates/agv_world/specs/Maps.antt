@@ -1,4 +1,5 @@
--- The rows of a world: the content of the eleven tables, each a map from the key to the rest of the row.
+-- A world as eleven maps, each from a key to the rest of its row: what the rules write, one entry a change. (Its rows in the fourteen tables of a
+-- database are `rows_of` of agv_rows.)
 use Rattle.std.specs.Prelude.{ℕ, List, [], ◌∷◌, ◌++◌, map, Option, None, Some}
 use Rattle.std.specs.Ordering.{nat_cmp}
 use Rattle.std.specs.FinMap as finite
@@ -26,8 +27,8 @@ use Rattle.agv_world.specs.declared.row.JobRow.{JobRow}
 use Rattle.agv_world.specs.declared.row.TripRow.{TripRow}
 use Rattle.agv_world.specs.declared.row.VehicleRow.{VehicleRow}
 
--- the eleven tables. In a database a vehicle lies in two and a trip in two others, and the `trip` of the first schema is empty: fourteen
-pub record Rows : Type 0 where
+-- the eleven maps
+pub record Maps : Type 0 where
   pub meta : finite.FinMap nat_cmp ℕ
   pub nodes : set.FinSet name_cmp
   pub edges : finite.FinMap name_cmp EdgeEnds
@@ -40,9 +41,9 @@ pub record Rows : Type 0 where
   pub holds : finite.FinMap thing_cmp VehicleKey
   pub used : set.FinSet use_cmp
 
--- ---- the rows that a vehicle gives to each table
+-- ---- the entries that a vehicle gives to each map
 
--- its own row
+-- its own
 abbrev pub vehicle_rows : VehicleKey → Vehicle → List (VehicleKey × VehicleRow)
 vehicle_rows key vehicle = (key, vehicle.row) ∷ []
 
@@ -87,7 +88,7 @@ standing_of vehicle = record { node = vehicle.row.node; rest = vehicle.row.rest;
 abbrev pub hold_rows : VehicleKey → Vehicle → List (Thing × VehicleKey)
 hold_rows key vehicle = map (λ thing. (thing, key)) (footprint_of (standing_of vehicle))
 
--- ---- all rows
+-- ---- all entries
 
 -- the names that were used, each in its kind
 abbrev pub used_names : World → List UseKey
@@ -95,9 +96,9 @@ used_names world =
     map (λ name. record { kind = used.Order; name = name }) (set.items world.orders)
     ++ map (λ name. record { kind = used.Reference; name = name }) (set.items world.references)
 
--- the rows of a world
-abbrev pub rows_of : World → Rows
-rows_of world = record {
+-- the maps of a world
+abbrev pub maps_of : World → Maps
+maps_of world = record {
   meta = finite.insert finite.empty 1 schema_number;
   nodes = world.layout.nodes;
   edges = world.layout.edges;

@@ -1,4 +1,4 @@
--- The rows of a world as lists of SQL rows, one for each table in the order of the desk's tables, and what each change of rows does to them.
+-- The rows of a world in the fourteen tables, one list for each in their order, and what each change does to them.
 use Rattle.std.specs.Prelude.{◌≡◌, ℕ, Bool, List, [], ◌∷◌, map, filter, Option, None, Some, IsPermutation}
 use Rattle.std.specs.FinMap as finite
 use Rattle.std.specs.FinSet as set
@@ -7,7 +7,7 @@ use Rattle.std.specs.declared.cmp.Ordering.{Ordering}
 use Rattle.sqlite_value.specs.Order.{Row}
 use Rattle.sqlite.specs.Effect.{Database}
 use Rattle.agv_header.specs.declared.key.VehicleKey.{VehicleKey}
-use Rattle.agv_world.specs.Rows.{Rows, rows_of}
+use Rattle.agv_world.specs.Maps.{Maps, maps_of}
 use Rattle.agv_world.specs.Worlds.{World}
 use Rattle.agv_world.specs.declared.change.Change.{Change}
 use Rattle.agv_world.specs.declared.change.Change.TheVariants as row
@@ -42,31 +42,36 @@ abbrev pub row_if : {X : Type 0} → (X → Row) → Option X → List Row
 row_if columns None = []
 row_if columns (Some x) = columns x ∷ []
 
--- the rows of all tables
-unfoldable pub row_lists : Rows → List (List Row)
-row_lists rows =
-    rows_in meta_columns rows.meta
-    ∷ rows_for node_columns rows.nodes
-    ∷ rows_in edge_columns rows.edges
-    ∷ rows_in station_columns rows.stations
-    ∷ rows_in vehicle_columns rows.vehicles
+-- the rows of the fourteen tables. A vehicle has a row in `vehicle` and one in `capacity`; an open trip has one in `journey`, and one in `act` for
+-- each of its acts; `trip` is that of the first schema, and empty
+unfoldable pub row_lists : Maps → List (List Row)
+row_lists maps =
+    rows_in meta_columns maps.meta
+    ∷ rows_for node_columns maps.nodes
+    ∷ rows_in edge_columns maps.edges
+    ∷ rows_in station_columns maps.stations
+    ∷ rows_in vehicle_columns maps.vehicles
     ∷ []
-    ∷ rows_in leg_columns rows.legs
-    ∷ rows_in load_columns rows.loads
-    ∷ rows_in job_columns rows.jobs
-    ∷ rows_in hold_columns rows.holds
-    ∷ rows_for used_columns rows.used
-    ∷ rows_in vehicle_capacity_columns rows.vehicles
-    ∷ rows_in journey_columns (journeys_of rows.trips)
-    ∷ rows_in act_columns (acts_of rows.trips) ∷ []
+    ∷ rows_in leg_columns maps.legs
+    ∷ rows_in load_columns maps.loads
+    ∷ rows_in job_columns maps.jobs
+    ∷ rows_in hold_columns maps.holds
+    ∷ rows_for used_columns maps.used
+    ∷ rows_in vehicle_capacity_columns maps.vehicles
+    ∷ rows_in journey_columns (journeys_of maps.trips)
+    ∷ rows_in act_columns (acts_of maps.trips) ∷ []
+
+-- the rows of a world
+abbrev pub rows_of : World → List (List Row)
+rows_of world = row_lists (maps_of world)
 
 -- the lists have the same rows, table by table, in some order
 abbrev pub AreAlike : List (List Row) → List (List Row) → Type 0
 AreAlike = AllZip IsPermutation
 
 -- the lists tell these rows of a world
-abbrev pub TellRows : List (List Row) → Rows → Type 0
-TellRows lists rows = AreAlike lists (row_lists rows)
+abbrev pub TellRows : List (List Row) → Maps → Type 0
+TellRows lists maps = AreAlike lists (row_lists maps)
 
 -- ---- what is seen of a table
 
@@ -77,20 +82,20 @@ ShowEntries {K} {X} rows columns table =
     → IsPermutation (filter passes rows) (map (λ (entry : K × X). columns entry.0 entry.1) (filter is (finite.entries table)))
 
 -- so it is of each table
-pub record ShowAll (lists : List (List Row)) (rows : Rows) : Type 0 where
-  pub nodes : ShowEntries (table_at (place_of the.Node) lists) (λ id nothing. node_columns id) (marked rows.nodes)
-  pub edges : ShowEntries (table_at (place_of the.Edge) lists) edge_columns rows.edges
-  pub stations : ShowEntries (table_at (place_of the.Station) lists) station_columns rows.stations
-  pub vehicles : ShowEntries (table_at (place_of the.Vehicle) lists) vehicle_columns rows.vehicles
+pub record ShowAll (lists : List (List Row)) (maps : Maps) : Type 0 where
+  pub nodes : ShowEntries (table_at (place_of the.Node) lists) (λ id nothing. node_columns id) (marked maps.nodes)
+  pub edges : ShowEntries (table_at (place_of the.Edge) lists) edge_columns maps.edges
+  pub stations : ShowEntries (table_at (place_of the.Station) lists) station_columns maps.stations
+  pub vehicles : ShowEntries (table_at (place_of the.Vehicle) lists) vehicle_columns maps.vehicles
   pub trips : table_at (place_of the.Trip) lists ≡ []
-  pub legs : ShowEntries (table_at (place_of the.Leg) lists) leg_columns rows.legs
-  pub loads : ShowEntries (table_at (place_of the.Load) lists) load_columns rows.loads
-  pub jobs : ShowEntries (table_at (place_of the.Job) lists) job_columns rows.jobs
-  pub holds : ShowEntries (table_at (place_of the.Hold) lists) hold_columns rows.holds
-  pub used : ShowEntries (table_at (place_of the.Used) lists) (λ key nothing. used_columns key) (marked rows.used)
-  pub capacities : ShowEntries (table_at (place_of the.Capacity) lists) vehicle_capacity_columns rows.vehicles
-  pub journeys : ShowEntries (table_at (place_of the.Journey) lists) journey_columns (journeys_of rows.trips)
-  pub acts : ShowEntries (table_at (place_of the.Act) lists) act_columns (acts_of rows.trips)
+  pub legs : ShowEntries (table_at (place_of the.Leg) lists) leg_columns maps.legs
+  pub loads : ShowEntries (table_at (place_of the.Load) lists) load_columns maps.loads
+  pub jobs : ShowEntries (table_at (place_of the.Job) lists) job_columns maps.jobs
+  pub holds : ShowEntries (table_at (place_of the.Hold) lists) hold_columns maps.holds
+  pub used : ShowEntries (table_at (place_of the.Used) lists) (λ key nothing. used_columns key) (marked maps.used)
+  pub capacities : ShowEntries (table_at (place_of the.Capacity) lists) vehicle_capacity_columns maps.vehicles
+  pub journeys : ShowEntries (table_at (place_of the.Journey) lists) journey_columns (journeys_of maps.trips)
+  pub acts : ShowEntries (table_at (place_of the.Act) lists) act_columns (acts_of maps.trips)
 
 -- ---- what a change does to the lists
 
@@ -138,11 +143,11 @@ listed_all (one ∷ changes) lists = listed_all changes (listed one lists)
 -- ---- what the tables can tell
 
 -- each act of each open trip has the load and the station of its job, which is known: the tables tell no more
-abbrev pub ActsAreOfJobs : Rows → Type 0
-ActsAreOfJobs rows = (order : List ℕ) (trip : TripRow) → finite.get rows.trips order ≡ Some trip → AllByRecursion (IsOfJob rows.jobs) trip.acts
+abbrev pub ActsAreOfJobs : Maps → Type 0
+ActsAreOfJobs maps = (order : List ℕ) (trip : TripRow) → finite.get maps.trips order ≡ Some trip → AllByRecursion (IsOfJob maps.jobs) trip.acts
 
 -- ---- a database
 
 -- the desk's tables in the database have the rows of this world
 abbrev pub HoldsWorld : Placing → Database → World → Type 0
-HoldsWorld desk db world = Holds desk db (row_lists (rows_of world))
+HoldsWorld desk db world = Holds desk db (rows_of world)
