@@ -10,10 +10,10 @@ use Rattle.sqlite_trees.proofs.ListLemmas.{all-append, all_weaker, filter_all, f
 use Rattle.sqlite_value.specs.declared.value.Value.TheVariants.{Text}
 use Rattle.sqlite_value.specs.Order.{Row, column}
 use Rattle.agv_order.specs.declared.act.Act.{Act}
-use Rattle.agv_trip_rows.specs.ActKeys.{act_cmp, act_cmp-IsAntisymmetric, act_cmp-total}
-use Rattle.agv_trip_rows.specs.TripRows.{act_key, act_row, act_rows_from}
-use Rattle.agv_trip_rows.specs.declared.act_key.ActKey.{ActKey}
-use Rattle.agv_trip_rows.specs.declared.act_row.ActRow.{ActRow}
+use Rattle.agv_rows.specs.ActKeys.{act_cmp, act_cmp-IsAntisymmetric, act_cmp-total}
+use Rattle.agv_rows.specs.TripRows.{act_key, act_row, act_rows_from}
+use Rattle.agv_rows.specs.declared.act_key.ActKey.{ActKey}
+use Rattle.agv_rows.specs.declared.act_row.ActRow.{ActRow}
 use Rattle.agv_changes.specs.ActRows.{AreOfOrder, acts_listed}
 use Rattle.agv_rows.specs.Columns.{act_columns}
 use Rattle.agv_schema.specs.DeskRows.{Placing, Answers, Holds, IsDesk, Makes, has_columns, has_key, is_equal, on_table, place_of, table_at, table_for, with_rows}

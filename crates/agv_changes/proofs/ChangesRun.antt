@@ -6,7 +6,7 @@ use Rattle.sqlite.specs.declared.error.Error.{Error}
 use Rattle.sqlite.specs.Effect.{Database}
 use Rattle.sqlite.specs.State.{State}
 use Rattle.agv_order.specs.declared.act.Act.{Act}
-use Rattle.agv_trip_rows.specs.TripRows.{act_key, act_row, act_rows_from}
+use Rattle.agv_rows.specs.TripRows.{act_key, act_row, act_rows_from}
 use Rattle.agv_world.specs.declared.change.Change.{Change}
 use Rattle.agv_changes.specs.ChangesMade.{ChangesWorlds, MakesChanges}
 use Rattle.agv_rows.specs.Columns.{act_columns}

@@ -8,7 +8,7 @@ use Rattle.agv_header.specs.KeyOrder.{key_cmp-total}
 use Rattle.agv_header.specs.declared.key.VehicleKey.{VehicleKey}
 use Rattle.agv_stock.specs.declared.place.Place.{Place}
 use Rattle.agv_stock.specs.declared.place.Place.TheVariants as place
-use Rattle.agv_trip_rows.specs.declared.journey_row.JourneyRow.{JourneyRow}
+use Rattle.agv_rows.specs.declared.journey_row.JourneyRow.{JourneyRow}
 use Rattle.agv_world.specs.declared.row.JobRow.{JobRow}
 use Rattle.agv_world.specs.declared.row.VehicleRow.{VehicleRow}
 use Rattle.agv_rows.specs.Columns.{job_columns, journey_columns, load_columns, vehicle_columns}

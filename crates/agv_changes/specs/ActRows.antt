@@ -1,8 +1,8 @@
 -- The rows of the acts of an order that are there, whatever they say of a node and a status. No public clause cites this.
 use Rattle.std.specs.Prelude.{◌≡◌, ◌+◌, ℕ, List, [], ◌∷◌, filter}
 use Rattle.sqlite_value.specs.Order.{Row}
-use Rattle.agv_trip_rows.specs.TripRows.{act_key}
-use Rattle.agv_trip_rows.specs.declared.act_row.ActRow.{ActRow}
+use Rattle.agv_rows.specs.TripRows.{act_key}
+use Rattle.agv_rows.specs.declared.act_row.ActRow.{ActRow}
 use Rattle.agv_rows.specs.Columns.{act_columns}
 use Rattle.agv_schema.specs.DeskRows.{has_columns, place_of, table_at}
 use Rattle.agv_rows.specs.RowKeys.{name_key}

@@ -4,7 +4,7 @@
 //! what the transaction's end undoes.
 ghost use Rattle.std.specs.Prelude.{◌≡◌, IfOk, IsTrue, OnOk, length};
 ghost use Rattle.sqlite.specs.Held.{state};
-ghost use Rattle.agv_trip_rows.specs.TripRows.{act_key, act_row, act_rows_from};
+ghost use Rattle.agv_rows.specs.TripRows.{act_key, act_row, act_rows_from};
 ghost use Rattle.agv_rows.specs.Columns.{act_columns};
 ghost use Rattle.agv_changes.specs.ActRows.{AreOfOrder, acts_listed};
 ghost use Rattle.agv_schema.specs.DeskRows.{Answers, Makes, table_for, with_row, with_rows};
@@ -18,12 +18,12 @@ use agv_header::Name;
 use agv_order::Act;
 use agv_rows::key_values::name_key_values;
 use agv_rows::row_values::act_values;
+use agv_rows::{ActKey, ActRow};
 use agv_schema::rows_by::RowsBy;
 use agv_schema::table_name::TableName;
 use agv_statements::row_finds::find_rows_by_inside;
 use agv_statements::row_updates::update_row;
 use agv_statements::row_writes::{delete_row, insert_row};
-use agv_trip_rows::{ActKey, ActRow};
 use sqlite::{Alter, Error, Row, Transaction};
 
 /// The order has no acts.

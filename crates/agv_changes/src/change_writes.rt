@@ -16,6 +16,7 @@ use crate::capacity_writes::write_capacity;
 use crate::hold_rows::drop_hold;
 use agv_header::{Name, Thing, VehicleKey};
 use agv_layout::{EdgeEnds, StationSite};
+use agv_rows::JourneyRow;
 use agv_rows::key_values::{hold_key_values, leg_key_values, name_key_values, vehicle_key_values};
 use agv_rows::row_values::{
     edge_values, hold_values, job_values, journey_values, leg_values, load_values, node_values,
@@ -25,7 +26,6 @@ use agv_schema::table_name::TableName;
 use agv_statements::row_updates::put_over;
 use agv_statements::row_writes::{delete_row, put_new};
 use agv_stock::Place;
-use agv_trip_rows::JourneyRow;
 use agv_world::{Change, JobRow, LegKey, TripRow, UseKey, VehicleRow};
 use sqlite::{Alter, Error, Transaction};
 

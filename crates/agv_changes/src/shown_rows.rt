@@ -1,14 +1,14 @@
 //! Whether rows that are shown are those that would be written: then nothing has to be.
 ghost use Rattle.std.specs.Prelude.{◌≡◌, ◌+◌, ◌<◌, ◌^◌, [], ◌∷◌, length, IfSome, IsTrue};
-ghost use Rattle.agv_trip_rows.specs.TripRows.{act_key, act_row};
+ghost use Rattle.agv_rows.specs.TripRows.{act_key, act_row};
 ghost use Rattle.agv_changes.specs.ActRows.{AreOfOrder, IsOfOrder};
 ghost use Rattle.agv_rows.specs.Columns.{act_columns, vehicle_capacity_columns};
 
 use agv_header::{Name, VehicleKey};
 use agv_order::Act;
+use agv_rows::ActRow;
 use agv_rows::decode_row::{decode_act, decode_capacity};
 use agv_rows::row_laws::a_row_told_writes_its_columns;
-use agv_trip_rows::ActRow;
 use agv_world::VehicleRow;
 use sqlite::Row;
 

@@ -18,7 +18,7 @@ use Rattle.agv_world.specs.declared.world.World.{World as Tables}
 use Rattle.agv_first_schema.specs.FirstFound.{FindsFirst, FirstTablesStand, ReadsLists}
 use Rattle.agv_first_schema.specs.FirstRows.{HasFirstWorld, HasNoFirstWorld, first_lists, first_names}
 use Rattle.agv_first_schema.specs.FirstTold.{Finds, TellFirst}
-use Rattle.agv_rowids.specs.Rowids.{AreTablesKeyed}
+use Rattle.agv_row_reading.specs.Rowids.{AreTablesKeyed}
 use Rattle.agv_rows.specs.DecodedTrips.{tables_of}
 use Rattle.agv_schema.specs.DeskRows.{HaveRows, Placing, width_of}
 use Rattle.agv_rows.specs.Rows.{AreAlike}

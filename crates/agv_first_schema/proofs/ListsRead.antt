@@ -13,7 +13,7 @@ use Rattle.sqlite.specs.State.{HasCleanDisk, IsRolledBack, IsUnchanged, Survives
 use Rattle.sqlite.proofs.StateLemmas.{survives_then}
 use Rattle.agv_first_schema.specs.FirstFound.{ReadsLists, StaysBy, all_lists, one_list}
 use Rattle.agv_row_reading.specs.OpenFault.{open_fault_of}
-use Rattle.agv_rowids.specs.Rowids.{AreTablesKeyed, TellsKeyedAlone}
+use Rattle.agv_row_reading.specs.Rowids.{AreTablesKeyed, TellsKeyedAlone}
 use Rattle.agv_schema.specs.DeskRows.{AnswersAlone, HaveRows, Placing, StandApart, columns_in, width_of}
 use Rattle.agv_schema.specs.Connections.{HasStorageCause}
 use Rattle.agv_schema.specs.Errors.{IsOfStore, is_of_store}

@@ -10,10 +10,10 @@ use Rattle.sqlite_value.specs.Order.{Row}
 use Rattle.agv_header.specs.Key.{key_cmp}
 use Rattle.agv_header.specs.Name.{name_cmp}
 use Rattle.agv_header.specs.declared.key.VehicleKey.{VehicleKey}
-use Rattle.agv_trip_rows.specs.TripRows.{act_rows, acts_of, journey_of, journeys_of}
-use Rattle.agv_trip_rows.specs.declared.act_key.ActKey.{ActKey}
-use Rattle.agv_trip_rows.specs.declared.act_row.ActRow.{ActRow}
-use Rattle.agv_trip_rows.specs.declared.journey_row.JourneyRow.{JourneyRow}
+use Rattle.agv_rows.specs.TripRows.{act_rows, acts_of, journey_of, journeys_of}
+use Rattle.agv_rows.specs.declared.act_key.ActKey.{ActKey}
+use Rattle.agv_rows.specs.declared.act_row.ActRow.{ActRow}
+use Rattle.agv_rows.specs.declared.journey_row.JourneyRow.{JourneyRow}
 use Rattle.agv_world.specs.Kept.{Keeps}
 use Rattle.agv_world.specs.Maps.{maps_of}
 use Rattle.agv_world.specs.Worlds.{World}

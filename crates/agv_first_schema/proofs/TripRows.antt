@@ -10,12 +10,12 @@ use Rattle.sqlite_value.specs.Order.{Row}
 use Rattle.agv_header.specs.Name.{IsName, name_cmp}
 use Rattle.agv_message.specs.declared.order.ActKind.TheVariants.{Pick, Drop}
 use Rattle.agv_order.specs.declared.act.Act.{Act}
-use Rattle.agv_trip_rows.specs.RowValues.{IsActKey, IsActValue, IsJourneyValue}
-use Rattle.agv_trip_rows.specs.TripRows as rows_of_trips
-use Rattle.agv_trip_rows.specs.TripRows.{act_row, journey_of, journeys_of}
-use Rattle.agv_trip_rows.specs.declared.act_key.ActKey.{ActKey}
-use Rattle.agv_trip_rows.specs.declared.act_row.ActRow.{ActRow}
-use Rattle.agv_trip_rows.specs.declared.journey_row.JourneyRow.{JourneyRow}
+use Rattle.agv_rows.specs.RowValues.{IsActKey, IsActValue, IsJourneyValue}
+use Rattle.agv_rows.specs.TripRows as rows_of_trips
+use Rattle.agv_rows.specs.TripRows.{act_row, journey_of, journeys_of}
+use Rattle.agv_rows.specs.declared.act_key.ActKey.{ActKey}
+use Rattle.agv_rows.specs.declared.act_row.ActRow.{ActRow}
+use Rattle.agv_rows.specs.declared.journey_row.JourneyRow.{JourneyRow}
 use Rattle.agv_world.specs.Lawful.{IsKey, IsLawful}
 use Rattle.agv_world.specs.Maps.{Maps, maps_of}
 use Rattle.agv_world.specs.Worlds.{World}

@@ -11,7 +11,7 @@ use Rattle.agv_world.specs.Kept.{Keeps}
 use Rattle.agv_world.specs.Worlds.{World}
 use Rattle.agv_world.specs.declared.world.World.{World as Tables}
 use Rattle.agv_schema.specs.DeskRows.{HaveRows, Placing, StandApart, width_of}
-use Rattle.agv_rowids.specs.Rowids.{AreTablesKeyed}
+use Rattle.agv_row_reading.specs.Rowids.{AreTablesKeyed}
 use Rattle.agv_schema.specs.Connections.{HasStorageCause}
 use Rattle.agv_row_reading.specs.declared.open_fault.OpenFault.{OpenFault}
 use Rattle.agv_row_reading.specs.declared.open_fault.OpenFault.TheVariants as fault

@@ -9,7 +9,7 @@ use Rattle.sqlite_schema.specs.declared.schema.Table.{Table}
 use Rattle.sqlite_catalog.specs.Change.{is_used}
 use Rattle.sqlite.specs.Effect.{Database, IsDatabase}
 use Rattle.agv_header.specs.declared.key.VehicleKey.{VehicleKey}
-use Rattle.agv_trip_rows.specs.TripRows.{act_rows, journey_of}
+use Rattle.agv_rows.specs.TripRows.{act_rows, journey_of}
 use Rattle.agv_world.specs.Kept.{Keeps}
 use Rattle.agv_world.specs.Worlds.{World}
 use Rattle.agv_world.specs.declared.row.TripRow.{TripRow}

@@ -10,8 +10,8 @@ ghost use Rattle.agv_rows.specs.DecodedTrips.{tables_of};
 ghost use Rattle.agv_rows.specs.Rows.{AreAlike};
 
 use agv_order::laws::stops_twice;
-use agv_trip_rows::row_laws::tables_have_rows;
-use agv_trip_rows::trip_laws::lawful_rows_have_values;
+use agv_rows::trip_row_laws::tables_have_rows;
+use agv_rows::trips_told_laws::lawful_rows_have_values;
 use agv_world::lawful_laws::has_consistent_trips;
 
 /// The rows of a lawful world, with one place on each vehicle, tell its tables and what its vehicles hold, in any order.

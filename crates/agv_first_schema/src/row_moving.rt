@@ -13,10 +13,10 @@ ghost use Rattle.agv_statements.specs.WritesInside.{MakesInside, WritesInside};
 
 use agv_changes::act_writes::add_acts;
 use agv_header::{Name, VehicleKey};
+use agv_rows::JourneyRow;
 use agv_rows::row_values::{capacity_values, journey_values};
 use agv_schema::table_name::TableName;
 use agv_statements::row_writes::insert_row;
-use agv_trip_rows::JourneyRow;
 use agv_world::{ByName, ByVehicle, TripRow, VehicleRow, World};
 use sqlite::types::{ToSql, ValueRef};
 use sqlite::{Alter, Error, Transaction};

@@ -13,7 +13,7 @@ use agv_creation::desk_tables::is_any_used;
 use agv_creation::step_running::run_text;
 use agv_creation::table_texts::{ACT, CAPACITY, JOURNEY};
 use agv_creation::tables_beside::are_unreferred;
-use agv_trip_rows::row_laws::rows_have_keys;
+use agv_rows::trip_row_laws::rows_have_keys;
 use agv_world::World;
 use sqlite::{Alter, Connection, Error, Transaction};
 use sqlite_schema::schema::Schema;

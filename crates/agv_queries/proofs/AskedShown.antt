@@ -8,7 +8,7 @@ use Rattle.agv_header.specs.declared.key.VehicleKey.{VehicleKey}
 use Rattle.agv_stock.specs.Rooms.{is_at, is_on}
 use Rattle.agv_stock.specs.declared.place.Place.{Place}
 use Rattle.agv_stock.specs.declared.place.Place.TheVariants as place
-use Rattle.agv_trip_rows.specs.TripRows.{is_of}
+use Rattle.agv_rows.specs.TripRows.{is_of}
 use Rattle.agv_world.specs.Maps.{Maps}
 use Rattle.agv_world.specs.Told.{is_of_order}
 use Rattle.agv_world.specs.declared.row.JobRow.{JobRow}

@@ -12,9 +12,9 @@ use Rattle.agv_header.specs.KeyOrder.{key_cmp-total, key_cmp-IsAntisymmetric}
 use Rattle.agv_header.specs.ThingOrder.{thing_cmp-total, thing_cmp-IsAntisymmetric}
 use Rattle.agv_header.specs.declared.key.Thing.{Thing}
 use Rattle.agv_header.specs.declared.key.VehicleKey.{VehicleKey}
-use Rattle.agv_trip_rows.specs.ActKeys.{act_cmp-total, act_cmp-IsAntisymmetric}
-use Rattle.agv_trip_rows.specs.TripRows.{acts_of, journeys_of}
-use Rattle.agv_trip_rows.specs.declared.act_key.ActKey.{ActKey}
+use Rattle.agv_rows.specs.ActKeys.{act_cmp-total, act_cmp-IsAntisymmetric}
+use Rattle.agv_rows.specs.TripRows.{acts_of, journeys_of}
+use Rattle.agv_rows.specs.declared.act_key.ActKey.{ActKey}
 use Rattle.agv_world.specs.KeyOrders.{leg_cmp-total, leg_cmp-IsAntisymmetric, use_cmp-total, use_cmp-IsAntisymmetric}
 use Rattle.agv_world.specs.Maps.{Maps}
 use Rattle.agv_world.specs.declared.key.LegKey.{LegKey}

@@ -15,12 +15,12 @@ use Rattle.agv_layout.specs.Layout.{Layout}
 use Rattle.agv_layout.specs.declared.edge.Edge.{Edge}
 use Rattle.agv_layout.specs.declared.edge.EdgeEnds.{EdgeEnds}
 use Rattle.agv_order.specs.declared.act.Act.{Act}
-use Rattle.agv_trip_rows.specs.ActKeys.{act_cmp, act_cmp-IsAntisymmetric, act_cmp-total}
-use Rattle.agv_trip_rows.specs.TripRows.{acts_of, is_of, journeys_of}
-use Rattle.agv_trip_rows.specs.TripsTold.{act_told, acts_told, trip_told}
-use Rattle.agv_trip_rows.specs.declared.act_key.ActKey.{ActKey}
-use Rattle.agv_trip_rows.specs.declared.act_row.ActRow.{ActRow}
-use Rattle.agv_trip_rows.specs.declared.journey_row.JourneyRow.{JourneyRow}
+use Rattle.agv_rows.specs.ActKeys.{act_cmp, act_cmp-IsAntisymmetric, act_cmp-total}
+use Rattle.agv_rows.specs.TripRows.{acts_of, is_of, journeys_of}
+use Rattle.agv_rows.specs.TripsTold.{act_told, acts_told, trip_told}
+use Rattle.agv_rows.specs.declared.act_key.ActKey.{ActKey}
+use Rattle.agv_rows.specs.declared.act_row.ActRow.{ActRow}
+use Rattle.agv_rows.specs.declared.journey_row.JourneyRow.{JourneyRow}
 use Rattle.agv_world.specs.ConsistentTrips.{HasConsistentTrips}
 use Rattle.agv_world.specs.KeyOrders.{leg_cmp-IsAntisymmetric, leg_cmp-total}
 use Rattle.agv_world.specs.Keys.{leg_cmp}

@@ -12,8 +12,8 @@ use Rattle.agv_world.specs.Maps.{Maps}
 use Rattle.agv_world.specs.Told.{is_of_order}
 use Rattle.agv_world.specs.declared.key.LegKey.{LegKey}
 use Rattle.agv_world.specs.declared.row.JobRow.{JobRow}
-use Rattle.agv_trip_rows.specs.TripRows.{acts_of, is_of, journeys_of}
-use Rattle.agv_trip_rows.specs.declared.journey_row.JourneyRow.{JourneyRow}
+use Rattle.agv_rows.specs.TripRows.{acts_of, is_of, journeys_of}
+use Rattle.agv_rows.specs.declared.journey_row.JourneyRow.{JourneyRow}
 use Rattle.agv_rows.specs.ValueEncodings.{phase_name}
 use Rattle.agv_rows.specs.Columns.{job_columns, leg_columns, load_columns, journey_columns}
 use Rattle.agv_rows.specs.RowKeys.{name_key, vehicle_key}

@@ -14,8 +14,8 @@ ghost use Rattle.agv_rows.specs.Columns.{meta_columns, node_columns, edge_column
 ghost use Rattle.agv_schema.specs.DeskRows.{rows_of_key};
 ghost use Rattle.agv_rows.specs.RowKeys.{name_key, vehicle_key, act_row_key, leg_key, hold_key};
 ghost use Rattle.agv_rows.specs.Rows.{ShowAll, TellRows, row_if};
-ghost use Rattle.agv_trip_rows.specs.TripRows.{acts_of, journeys_of};
-ghost use Rattle.agv_trip_rows.specs.declared.act_key.ActKey.{ActKey};
+ghost use Rattle.agv_rows.specs.TripRows.{acts_of, journeys_of};
+ghost use Rattle.agv_rows.specs.declared.act_key.ActKey.{ActKey};
 ghost use Rattle.agv_schema.specs.declared.table_name.TableName.TheVariants as the;
 
 /// In lists that tell the rows of a world, the rows of a key are the one that the world has at the key, or none.

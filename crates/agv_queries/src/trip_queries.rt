@@ -5,8 +5,8 @@
 //! layout that is given is that of this world.
 ghost use Rattle.std.specs.Prelude.{◌≡◌, is_some, Some, filter};
 ghost use Rattle.std.specs.FinMap as map;
-ghost use Rattle.agv_trip_rows.specs.TripRows.{acts_of, is_of};
-ghost use Rattle.agv_trip_rows.specs.TripsTold.{acts_told};
+ghost use Rattle.agv_rows.specs.TripRows.{acts_of, is_of};
+ghost use Rattle.agv_rows.specs.TripsTold.{acts_told};
 ghost use Rattle.agv_world.specs.Questions.{trip_of};
 ghost use Rattle.agv_world.specs.Maps.{maps_of};
 ghost use Rattle.agv_world.specs.Told.{edges_of};
@@ -24,11 +24,11 @@ use agv_order::{Act, Trip};
 use agv_row_reading::OpenFault;
 use agv_row_reading::queried_rows::query_rows_by;
 use agv_row_reading::row_tables::{acts_in_rows, legs_in_rows};
+use agv_rows::JourneyRow;
 use agv_rows::decode_row::decode_journey;
 use agv_rows::key_values::{name_key_values, vehicle_key_values};
 use agv_rows::trip_laws::rows_tell_trips;
 use agv_schema::rows_by::RowsBy;
-use agv_trip_rows::JourneyRow;
 use agv_world::lawful_laws::has_consistent_trips;
 use sqlite::{Alter, Connection, Row};
 use std::alloc::Global;

@@ -2,5 +2,6 @@ pub mod FirstRow
 pub mod HeldThings
 pub mod OpenFault
 pub mod ReadTables
+pub mod Rowids
 pub mod TablesRead
 pub mod WorldAnswers

@@ -7,7 +7,7 @@ use Rattle.sqlite_value.specs.Order.{Row}
 use Rattle.sqlite.specs.Held.{Held, state}
 use Rattle.sqlite.specs.State.{HasCleanDisk}
 use Rattle.agv_track.specs.Holds.{Holds as Holders}
-use Rattle.agv_trip_rows.specs.TripRows.{acts_of, journeys_of}
+use Rattle.agv_rows.specs.TripRows.{acts_of, journeys_of}
 use Rattle.agv_world.specs.Worlds.{World}
 use Rattle.agv_world.specs.declared.world.World.{World as Tables}
 use Rattle.agv_rows.specs.Columns.{act_columns, edge_columns, journey_columns, hold_columns, job_columns, leg_columns, load_columns, meta_columns, node_columns, vehicle_capacity_columns, station_columns, used_columns, vehicle_columns}

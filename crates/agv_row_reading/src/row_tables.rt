@@ -12,13 +12,12 @@ ghost use Rattle.agv_row_reading.specs.ReadTables.{Reads, read_members, read_row
 use crate::OpenFault;
 use agv_header::VehicleKey;
 use agv_layout::{EdgeEnds, StationSite};
-use agv_rows::CapacityRow;
 use agv_rows::decode_row::{
     decode_act, decode_capacity, decode_edge, decode_job, decode_journey, decode_leg, decode_load,
     decode_node, decode_station, decode_used, decode_vehicle,
 };
+use agv_rows::{ActKey, ByAct, CapacityRow, JourneyRow};
 use agv_stock::Place;
-use agv_trip_rows::{ActKey, ByAct, JourneyRow};
 use agv_world::{ByLeg, ByName, ByVehicle, JobRow, LegKey, Names, UseKey, UsedNames, VehicleRow};
 use sqlite::Row;
 use std::alloc::Global;

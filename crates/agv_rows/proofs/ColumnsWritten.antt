@@ -12,9 +12,9 @@ use Rattle.agv_layout.specs.declared.station.StationSite.{StationSite}
 use Rattle.agv_message.specs.Instant.{instant_name}
 use Rattle.agv_message.specs.declared.instant.InstantKind.{InstantKind}
 use Rattle.agv_stock.specs.declared.place.Place.{Place}
-use Rattle.agv_trip_rows.specs.declared.act_key.ActKey.{ActKey}
-use Rattle.agv_trip_rows.specs.declared.act_row.ActRow.{ActRow}
-use Rattle.agv_trip_rows.specs.declared.journey_row.JourneyRow.{JourneyRow}
+use Rattle.agv_rows.specs.declared.act_key.ActKey.{ActKey}
+use Rattle.agv_rows.specs.declared.act_row.ActRow.{ActRow}
+use Rattle.agv_rows.specs.declared.journey_row.JourneyRow.{JourneyRow}
 use Rattle.agv_world.specs.declared.key.LegKey.{LegKey}
 use Rattle.agv_world.specs.declared.key.UseKey.{UseKey}
 use Rattle.agv_world.specs.declared.row.JobRow.{JobRow}

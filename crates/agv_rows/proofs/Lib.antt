@@ -1,3 +1,12 @@
+pub mod Elements
+pub mod KeyedTripRows
+pub mod TripRowKeys
+pub mod TripTables
+pub mod RowsAtKeys
+pub mod RowsTellActs
+pub mod TripsFrom
+pub mod LawfulTripRows
+pub mod TripRowValues
 pub mod CellLemmas
 pub mod ColumnsKept
 pub mod ColumnsTell

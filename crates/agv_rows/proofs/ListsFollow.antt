@@ -10,7 +10,7 @@ use Rattle.sqlite_value.specs.Order.{Row}
 use Rattle.agv_header.specs.ThingOrder.{thing_cmp-total, thing_cmp-IsAntisymmetric}
 use Rattle.agv_header.specs.KeyOrder.{key_cmp-total, key_cmp-IsAntisymmetric}
 use Rattle.agv_header.specs.Name.{name_cmp}
-use Rattle.agv_trip_rows.specs.TripRows.{act_rows, acts_of, all_act_rows, is_journey_of, is_of, journey_of, journey_rows, journeys_of}
+use Rattle.agv_rows.specs.TripRows.{act_rows, acts_of, all_act_rows, is_journey_of, is_of, journey_of, journey_rows, journeys_of}
 use Rattle.agv_world.specs.Changes.{change, changed}
 use Rattle.agv_world.specs.KeyOrders.{leg_cmp-total, leg_cmp-IsAntisymmetric, use_cmp-total, use_cmp-IsAntisymmetric}
 use Rattle.agv_world.specs.Maps.{Maps}

@@ -4,11 +4,11 @@ use Rattle.std.specs.FinMap as finite
 use Rattle.std.specs.List.{AllByRecursion}
 use Rattle.std.specs.Option.{option_map}
 use Rattle.agv_header.specs.Name.{name_cmp}
-use Rattle.agv_trip_rows.specs.ActKeys.{act_cmp}
-use Rattle.agv_trip_rows.specs.TripRows.{act_rows, acts_of, all_act_rows, is_journey_of, is_of, journey_of, journey_rows, journeys_of, rows_if}
-use Rattle.agv_trip_rows.specs.TripsTold.{AreTripsOf, IsOfJob, acts_told}
-use Rattle.agv_trip_rows.specs.declared.act_row.ActRow.{ActRow}
-use Rattle.agv_trip_rows.specs.declared.journey_row.JourneyRow.{JourneyRow}
+use Rattle.agv_rows.specs.ActKeys.{act_cmp}
+use Rattle.agv_rows.specs.TripRows.{act_rows, acts_of, all_act_rows, is_journey_of, is_of, journey_of, journey_rows, journeys_of, rows_if}
+use Rattle.agv_rows.specs.TripsTold.{AreTripsOf, IsOfJob, acts_told}
+use Rattle.agv_rows.specs.declared.act_row.ActRow.{ActRow}
+use Rattle.agv_rows.specs.declared.journey_row.JourneyRow.{JourneyRow}
 use Rattle.agv_world.specs.declared.row.JobRow.{JobRow}
 use Rattle.agv_world.specs.declared.row.TripRow.{TripRow}
 

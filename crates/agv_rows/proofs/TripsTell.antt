@@ -14,9 +14,9 @@ use Rattle.agv_header.specs.Name.{name_cmp}
 use Rattle.agv_header.specs.declared.key.VehicleKey.{VehicleKey}
 use Rattle.agv_order.specs.declared.act.Act.{Act}
 use Rattle.agv_order.specs.declared.trip.Trip.{Trip}
-use Rattle.agv_trip_rows.specs.TripRows.{act_rows, acts_of, is_of, journey_of, journeys_of, rows_if}
-use Rattle.agv_trip_rows.specs.TripsTold.{acts_told, trip_told}
-use Rattle.agv_trip_rows.specs.declared.journey_row.JourneyRow.{JourneyRow}
+use Rattle.agv_rows.specs.TripRows.{act_rows, acts_of, is_of, journey_of, journeys_of, rows_if}
+use Rattle.agv_rows.specs.TripsTold.{acts_told, trip_told}
+use Rattle.agv_rows.specs.declared.journey_row.JourneyRow.{JourneyRow}
 use Rattle.agv_world.specs.ConsistentTrips.{HasConsistentTrips}
 use Rattle.agv_world.specs.Kept.{Keeps}
 use Rattle.agv_world.specs.Questions.{trip_of}

@@ -11,11 +11,11 @@ use Rattle.agv_header.specs.declared.key.VehicleKey.{VehicleKey}
 use Rattle.agv_layout.specs.declared.edge.Edge.{Edge}
 use Rattle.agv_order.specs.declared.act.Act.{Act}
 use Rattle.agv_order.specs.declared.trip.Trip.{Trip}
-use Rattle.agv_trip_rows.specs.ActKeys.{act_cmp}
-use Rattle.agv_trip_rows.specs.TripRows.{acts_of, is_of, journeys_of}
-use Rattle.agv_trip_rows.specs.TripsTold.{acts_told, trip_told}
-use Rattle.agv_trip_rows.specs.declared.act_row.ActRow.{ActRow}
-use Rattle.agv_trip_rows.specs.declared.journey_row.JourneyRow.{JourneyRow}
+use Rattle.agv_rows.specs.ActKeys.{act_cmp}
+use Rattle.agv_rows.specs.TripRows.{acts_of, is_of, journeys_of}
+use Rattle.agv_rows.specs.TripsTold.{acts_told, trip_told}
+use Rattle.agv_rows.specs.declared.act_row.ActRow.{ActRow}
+use Rattle.agv_rows.specs.declared.journey_row.JourneyRow.{JourneyRow}
 use Rattle.agv_world.specs.Maps.{Maps, trip_row}
 use Rattle.agv_world.specs.Told.{edges_of, trip_in}
 use Rattle.agv_world.specs.declared.row.JobRow.{JobRow}

@@ -1,3 +1,7 @@
+pub mod ActKeys
+pub mod TripRows
+pub mod TripsTold
+pub mod RowValues
 pub mod Columns
 pub mod DecodedTrips
 pub mod RowKeys

@@ -5,7 +5,7 @@ use Rattle.sqlite_value.specs.Order.{Row}
 use Rattle.agv_header.specs.declared.key.Thing.{Thing}
 use Rattle.agv_header.specs.declared.key.Thing.TheVariants as thing
 use Rattle.agv_header.specs.declared.key.VehicleKey.{VehicleKey}
-use Rattle.agv_trip_rows.specs.declared.act_key.ActKey.{ActKey}
+use Rattle.agv_rows.specs.declared.act_key.ActKey.{ActKey}
 use Rattle.agv_world.specs.declared.key.LegKey.{LegKey}
 use Rattle.agv_rows.specs.ValueEncodings.{number_cell, thing_name}
 use Rattle.agv_rows.specs.declared.words.ThingKind.TheVariants as held

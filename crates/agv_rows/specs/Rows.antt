@@ -18,10 +18,10 @@ use Rattle.agv_schema.specs.DeskRows.{Placing, Holds, place_of, table_at, with_p
 use Rattle.agv_rows.specs.RowKeys.{name_key, vehicle_key, leg_key, hold_key}
 use Rattle.agv_schema.specs.RowTexts.{columns_deleted}
 use Rattle.agv_schema.specs.declared.table_name.TableName.TheVariants as the
-use Rattle.agv_trip_rows.specs.TripRows.{act_rows, acts_of, journey_of, journeys_of}
-use Rattle.agv_trip_rows.specs.TripsTold.{IsOfJob}
-use Rattle.agv_trip_rows.specs.declared.act_key.ActKey.{ActKey}
-use Rattle.agv_trip_rows.specs.declared.act_row.ActRow.{ActRow}
+use Rattle.agv_rows.specs.TripRows.{act_rows, acts_of, journey_of, journeys_of}
+use Rattle.agv_rows.specs.TripsTold.{IsOfJob}
+use Rattle.agv_rows.specs.declared.act_key.ActKey.{ActKey}
+use Rattle.agv_rows.specs.declared.act_row.ActRow.{ActRow}
 
 -- ---- the rows of a world
 

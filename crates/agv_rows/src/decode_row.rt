@@ -8,11 +8,10 @@ use crate::decode_value::{
     act_kind_at, flag_at, maybe_instant_at, maybe_name_at, maybe_number_at, moment_at, name_at,
     number_at, phase_at, place_kind_at, status_at, thing_kind_at, use_at,
 };
-use crate::{PlaceKind, ThingKind};
+use crate::{ActKey, ActRow, JourneyRow, PlaceKind, ThingKind};
 use agv_header::{Name, Thing, VehicleKey};
 use agv_layout::{EdgeEnds, StationSite};
 use agv_stock::Place;
-use agv_trip_rows::{ActKey, ActRow, JourneyRow};
 use agv_world::{JobRow, LegKey, Sent, UseKey, VehicleRow};
 use sqlite::Row;
 

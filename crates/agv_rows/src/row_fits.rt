@@ -13,9 +13,9 @@ ghost use Rattle.agv_rows.specs.Columns.{meta_columns, node_columns, edge_column
 ghost use Rattle.agv_schema.specs.DeskRows.{FitsTable};
 ghost use Rattle.agv_schema.specs.declared.table_name.TableName.TheVariants as the;
 ghost use Rattle.agv_rows.specs.declared.capacity_row.CapacityRow.{CapacityRow};
-ghost use Rattle.agv_trip_rows.specs.declared.act_key.ActKey.{ActKey};
-ghost use Rattle.agv_trip_rows.specs.declared.act_row.ActRow.{ActRow};
-ghost use Rattle.agv_trip_rows.specs.declared.journey_row.JourneyRow.{JourneyRow};
+ghost use Rattle.agv_rows.specs.declared.act_key.ActKey.{ActKey};
+ghost use Rattle.agv_rows.specs.declared.act_row.ActRow.{ActRow};
+ghost use Rattle.agv_rows.specs.declared.journey_row.JourneyRow.{JourneyRow};
 
 /// A row has as many values as its table has columns, each of the column's kind or NULL.
 pub fn rows_fit_their_tables()

@@ -15,9 +15,9 @@ ghost use Rattle.agv_world.specs.declared.row.VehicleRow.{VehicleRow};
 ghost use Rattle.agv_rows.specs.Columns.{meta_columns, meta_in, node_columns, node_in, edge_columns, edge_in, station_columns, station_in, vehicle_columns, vehicle_in, capacity_columns, capacity_in, journey_columns, journey_in, act_columns, act_in, leg_columns, leg_in, load_columns, load_in, job_columns, job_in, hold_columns, hold_in, used_columns, used_in};
 ghost use Rattle.agv_rows.specs.TypedRows.{IsNumber, AreEnds, IsStationSite, IsVehicleRow, IsJourneyRow, IsActRow, IsActRowKey, IsLegKey, IsPlace, IsJobRow, IsThing};
 ghost use Rattle.agv_rows.specs.declared.capacity_row.CapacityRow.{CapacityRow};
-ghost use Rattle.agv_trip_rows.specs.declared.act_key.ActKey.{ActKey};
-ghost use Rattle.agv_trip_rows.specs.declared.act_row.ActRow.{ActRow};
-ghost use Rattle.agv_trip_rows.specs.declared.journey_row.JourneyRow.{JourneyRow};
+ghost use Rattle.agv_rows.specs.declared.act_key.ActKey.{ActKey};
+ghost use Rattle.agv_rows.specs.declared.act_row.ActRow.{ActRow};
+ghost use Rattle.agv_rows.specs.declared.journey_row.JourneyRow.{JourneyRow};
 
 /// The columns that a row of the world writes tell that row, but for the capacity of a vehicle, which has a row of its own.
 pub fn columns_tell_their_row()

@@ -13,8 +13,8 @@ ghost use Rattle.agv_schema.specs.DeskRows.{Placing, Holds, IsDesk};
 ghost use Rattle.agv_rows.specs.Rows.{ActsAreOfJobs, AreAlike, HoldsWorld, TellRows, listed, listed_all, row_lists};
 ghost use Rattle.agv_schema.specs.declared.table_name.TableName.TheVariants as the;
 
-use agv_trip_rows::row_laws::{rows_follow_changes, rows_have_keys};
-use agv_trip_rows::trip_laws::{lawful_rows_tell_trips, rows_tell_one_table};
+use crate::trip_row_laws::{rows_follow_changes, rows_have_keys};
+use crate::trips_told_laws::{lawful_rows_tell_trips, rows_tell_one_table};
 use agv_world::lawful_laws::has_consistent_trips;
 use agv_world::laws::maps_tell_the_world;
 

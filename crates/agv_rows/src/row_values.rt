@@ -8,11 +8,11 @@ ghost use Rattle.agv_rows.specs.ValueEncodings.{number_cell};
 ghost use Rattle.agv_rows.specs.Columns.{node_columns, edge_columns, station_columns, vehicle_columns, vehicle_capacity_columns, journey_columns, act_columns, leg_columns, load_columns, job_columns, hold_columns, used_columns};
 
 use crate::words::{phase_text, use_text};
+use crate::{ActKey, ActRow, JourneyRow};
 use agv_header::{Name, Thing, VehicleKey};
 use agv_layout::{EdgeEnds, StationSite};
 use agv_message::InstantKind;
 use agv_stock::Place;
-use agv_trip_rows::{ActKey, ActRow, JourneyRow};
 use agv_world::{JobRow, LegKey, UseKey, VehicleRow};
 use sqlite::types::{ToSql, ValueRef};
 

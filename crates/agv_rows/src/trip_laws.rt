@@ -7,11 +7,11 @@ ghost use Rattle.agv_header.specs.Name.{IsName};
 ghost use Rattle.agv_header.specs.declared.key.VehicleKey.{VehicleKey};
 ghost use Rattle.agv_order.specs.declared.act.Act.{Act};
 ghost use Rattle.agv_order.specs.declared.trip.Trip.{Trip};
-ghost use Rattle.agv_trip_rows.specs.TripRows.{acts_of, is_of, journeys_of};
-ghost use Rattle.agv_trip_rows.specs.TripsTold.{acts_told};
-ghost use Rattle.agv_trip_rows.specs.declared.act_key.ActKey.{ActKey};
-ghost use Rattle.agv_trip_rows.specs.declared.act_row.ActRow.{ActRow};
-ghost use Rattle.agv_trip_rows.specs.declared.journey_row.JourneyRow.{JourneyRow};
+ghost use Rattle.agv_rows.specs.TripRows.{acts_of, is_of, journeys_of};
+ghost use Rattle.agv_rows.specs.TripsTold.{acts_told};
+ghost use Rattle.agv_rows.specs.declared.act_key.ActKey.{ActKey};
+ghost use Rattle.agv_rows.specs.declared.act_row.ActRow.{ActRow};
+ghost use Rattle.agv_rows.specs.declared.journey_row.JourneyRow.{JourneyRow};
 ghost use Rattle.agv_world.specs.Lawful.{IsLawful};
 ghost use Rattle.agv_world.specs.Questions.{row_of, trip_of};
 ghost use Rattle.agv_world.specs.Maps.{maps_of};
@@ -21,8 +21,8 @@ ghost use Rattle.agv_schema.specs.SchemaNumbers.{desk_seats};
 ghost use Rattle.agv_rows.specs.DecodedTrips.{HasTripRows, is_driven_by, journey_for, tables_of, told_by_journey, trips_with};
 ghost use Rattle.agv_rows.specs.TypedRows.{IsActRow, IsActRowKey, IsJourneyRow};
 
-use agv_trip_rows::row_laws::{rows_are_of_trips, rows_have_keys, tables_have_rows};
-use agv_trip_rows::trip_laws::{
+use crate::trip_row_laws::{rows_are_of_trips, rows_have_keys, tables_have_rows};
+use crate::trips_told_laws::{
     lawful_rows_have_values, lawful_rows_tell_trips, rows_tell_one_table,
 };
 use agv_world::lawful_laws::has_consistent_trips;

@@ -26,7 +26,7 @@ use agv_creation::tables_beside::allows_desk;
 use agv_desk::Answer;
 use agv_header::Moment;
 use agv_http::{Routes, answer_bytes};
-use agv_rowids::rowid_reading::query_rowids;
+use agv_row_reading::rowid_reading::query_rowids;
 use agv_store::Desk;
 use sqlite::{Alter, Connection};
 use std::alloc::Global;

@@ -15,7 +15,7 @@ use Rattle.agv_world.specs.Maps.{maps_of}
 use Rattle.agv_world.specs.Worlds.{World}
 use Rattle.agv_world.specs.declared.world.World.{World as Tables}
 use Rattle.agv_row_reading.specs.WorldAnswers.{HasNoWorld, HasWorld, AnswersQuery}
-use Rattle.agv_rowids.specs.Rowids.{AreTablesKeyed, TellsKeyed}
+use Rattle.agv_row_reading.specs.Rowids.{AreTablesKeyed, TellsKeyed}
 use Rattle.agv_row_reading.specs.TablesRead.{HasCauseOverTables, HaveAll, TellsAll}
 use Rattle.agv_world_reading.specs.WorldIn.{world_in}
 use Rattle.agv_schema.specs.DeskRows.{AreKeyed, HaveRows, Holds, Placing, columns_in, table_names, width_of}

@@ -11,7 +11,7 @@ use Rattle.sqlite_value.specs.Order.{Row}
 use Rattle.agv_header.specs.Key.{key_cmp}
 use Rattle.agv_header.specs.KeyOrder.{key_cmp-IsAntisymmetric, key_cmp-total}
 use Rattle.agv_header.specs.declared.key.VehicleKey.{VehicleKey}
-use Rattle.agv_trip_rows.proofs.RowKeys.{rise_from_sorted, sorted_from_rise}
+use Rattle.agv_rows.proofs.RowKeys.{rise_from_sorted, sorted_from_rise}
 use Rattle.agv_world.specs.declared.row.VehicleRow.{VehicleRow}
 use Rattle.agv_world.proofs.lists.EachEntry.{all-entries, each-entry}
 use Rattle.agv_world.proofs.lists.InOrder.{entries-shown}

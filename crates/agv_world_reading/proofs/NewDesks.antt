@@ -19,7 +19,7 @@ use Rattle.agv_layout.specs.declared.station.StationSite.{StationSite}
 use Rattle.agv_stock.specs.declared.place.Place.{Place}
 use Rattle.agv_world.specs.KeyOrders.{use_cmp-total}
 use Rattle.agv_world.specs.Keys.{leg_cmp, use_cmp}
-use Rattle.agv_trip_rows.specs.TripRows.{acts_of, journeys_of}
+use Rattle.agv_rows.specs.TripRows.{acts_of, journeys_of}
 use Rattle.agv_world.specs.Maps.{Maps, maps_of, vehicle_rows, trip_rows, leg_rows, hold_rows}
 use Rattle.agv_world.specs.Worlds.{empty_world}
 use Rattle.agv_world.specs.declared.key.LegKey.{LegKey}

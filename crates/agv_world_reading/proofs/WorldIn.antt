@@ -6,7 +6,7 @@ use Rattle.sqlite_value.specs.Order.{Row}
 use Rattle.sqlite_schema.specs.declared.schema.Schema.{Schema}
 use Rattle.sqlite.specs.Effect.{Database}
 use Rattle.agv_header.specs.Key.{key_cmp}
-use Rattle.agv_trip_rows.specs.TripRows.{acts_of, journeys_of}
+use Rattle.agv_rows.specs.TripRows.{acts_of, journeys_of}
 use Rattle.agv_world.specs.ConsistentTrips.{HasConsistentTrips}
 use Rattle.agv_world.specs.Kept.{Keeps}
 use Rattle.agv_world.specs.Lawful.{IsLawful}

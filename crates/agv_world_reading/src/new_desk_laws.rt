@@ -7,7 +7,7 @@ ghost use Rattle.agv_world_reading.specs.NewWorld.{KnowsNothing};
 ghost use Rattle.agv_creation.specs.NewDesk.{StandsNew};
 ghost use Rattle.agv_rows.specs.Rows.{rows_of};
 
-use agv_trip_rows::row_laws::rows_have_keys;
+use agv_rows::trip_row_laws::rows_have_keys;
 use agv_world::lawful_laws::begins_lawful;
 
 /// A desk with its first rows knows nothing yet: these are the rows of the world of a new desk, which is lawful. So the

@@ -3,7 +3,7 @@
 //!
 //! It answers as the other readings do (`TablesRead.antt` of agv_row_reading).
 ghost use Rattle.std.specs.Prelude.{◌≡◌, [], IsPermutation};
-ghost use Rattle.agv_trip_rows.specs.TripRows.{acts_of, journeys_of};
+ghost use Rattle.agv_rows.specs.TripRows.{acts_of, journeys_of};
 ghost use Rattle.agv_world.specs.Maps.{maps_of};
 ghost use Rattle.agv_rows.specs.Columns.{act_columns, job_columns, journey_columns};
 ghost use Rattle.agv_schema.specs.DeskRows.{place_of, table_at};
@@ -16,9 +16,9 @@ use agv_row_reading::OpenFault;
 use agv_row_reading::queried_rows::query_all_rows;
 use agv_row_reading::row_tables::{acts_in_rows, journeys_in_rows};
 use agv_rows::trip_laws::rows_tell_trips;
+use agv_rows::trips_told_laws::lawful_rows_tell_trips;
+use agv_rows::{ByAct, JourneyRow, trips_told};
 use agv_schema::table_name::TableName;
-use agv_trip_rows::trip_laws::lawful_rows_tell_trips;
-use agv_trip_rows::{ByAct, JourneyRow, trips_told};
 use agv_world::{ByName, JobRow, TripRow};
 use sqlite::{Alter, Connection};
 use std::alloc::Global;

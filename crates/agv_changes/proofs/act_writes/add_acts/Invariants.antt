@@ -1,5 +1,5 @@
 use Rattle.std.proofs.Common.{IsTrue, take}
-use Rattle.agv_trip_rows.specs.TripRows.{act_rows_from}
+use Rattle.agv_rows.specs.TripRows.{act_rows_from}
 use Rattle.agv_schema.specs.DeskRows.{Makes, with_rows}
 use Rattle.agv_rows.specs.Rows.{rows_of_acts}
 use Rattle.agv_schema.specs.declared.table_name.TableName.TheVariants as the

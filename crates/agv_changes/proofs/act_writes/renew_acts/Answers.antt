@@ -1,4 +1,4 @@
-use Rattle.agv_trip_rows.specs.TripRows.{act_rows_from}
+use Rattle.agv_rows.specs.TripRows.{act_rows_from}
 use Rattle.agv_schema.specs.DeskRows.{with_rows}
 use Rattle.agv_rows.specs.Rows.{rows_of_acts, without_acts}
 use Rattle.agv_schema.specs.declared.table_name.TableName.TheVariants as the

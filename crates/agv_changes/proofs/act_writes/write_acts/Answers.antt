@@ -1,6 +1,6 @@
 use Rattle.std.proofs.Common.{◌≡◌, ◌∙◌, IsTrue, sym, subst}
 use Rattle.sqlite.specs.Held.{state}
-use Rattle.agv_trip_rows.specs.TripRows.{act_rows_from}
+use Rattle.agv_rows.specs.TripRows.{act_rows_from}
 use Rattle.agv_changes.specs.ActRows.{AreOfOrder, acts_listed}
 use Rattle.agv_schema.specs.DeskRows.{Answers, with_rows}
 use Rattle.agv_rows.specs.Rows.{rows_of_acts, without_acts}

@@ -2,7 +2,7 @@ use Rattle.std.proofs.Common.{List, OnOk, subst}
 use Rattle.sqlite_value.specs.Order.{Row}
 use Rattle.sqlite.specs.Held.{state}
 use Rattle.agv_order.specs.declared.act.Act.{Act}
-use Rattle.agv_trip_rows.specs.TripRows.{act_rows_from, journey_of}
+use Rattle.agv_rows.specs.TripRows.{act_rows_from, journey_of}
 use Rattle.agv_rows.specs.Columns.{journey_columns}
 use Rattle.agv_schema.specs.DeskRows.{Makes, with_put, with_rows}
 use Rattle.agv_rows.specs.RowKeys.{name_key}

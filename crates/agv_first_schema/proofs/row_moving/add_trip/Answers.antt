@@ -1,6 +1,6 @@
 use Rattle.std.proofs.Common.{OnOk, subst}
 use Rattle.sqlite.specs.Held.{state}
-use Rattle.agv_trip_rows.specs.TripRows.{act_rows, act_rows_from, journey_of}
+use Rattle.agv_rows.specs.TripRows.{act_rows, act_rows_from, journey_of}
 use Rattle.agv_schema.specs.declared.table_name.TableName.TheVariants as the
 use Rattle.agv_rows.specs.Columns.{journey_columns}
 use Rattle.agv_schema.specs.DeskRows.{Makes, with_row, with_rows}

@@ -1,7 +1,7 @@
 use Rattle.std.proofs.Common.{[], ◌∷◌, ◌++◌, Err, Ok, ap, refl, sym, subst, ◌∙◌, arith}
 use Rattle.std.specs.FinMap as map
-use Rattle.agv_trip_rows.specs.ActKeys.{act_cmp}
-use Rattle.agv_trip_rows.specs.declared.act_row.ActRow.{ActRow}
+use Rattle.agv_rows.specs.ActKeys.{act_cmp}
+use Rattle.agv_rows.specs.declared.act_row.ActRow.{ActRow}
 use Rattle.agv_rows.specs.Columns.{act_in}
 use Rattle.agv_row_reading.specs.ReadTables.{Reads, read_rows}
 use Rattle.agv_statements.specs.RowQueries.{FitsColumns, columns_asked, table_asked}

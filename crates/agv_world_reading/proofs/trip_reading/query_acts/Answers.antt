@@ -1,6 +1,6 @@
 use Rattle.std.proofs.Common.{subst}
 use Rattle.std.specs.FinMap as map
-use Rattle.agv_trip_rows.specs.ActKeys.{act_cmp-IsAntisymmetric, act_cmp-total}
+use Rattle.agv_rows.specs.ActKeys.{act_cmp-IsAntisymmetric, act_cmp-total}
 use Rattle.agv_rows.specs.Columns.{act_columns, act_in}
 use Rattle.agv_row_reading.specs.ReadTables.{Reads, read_rows}
 use Rattle.agv_row_reading.proofs.AskingAll.{all_follows, all_passes, reads_no_storage}

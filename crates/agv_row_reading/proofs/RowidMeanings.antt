@@ -1,0 +1,88 @@
+-- What the texts that show rowids mean, wherever the desk's tables stand.
+use Rattle.std.proofs.Common.{◌≡◌, ◌^◌, ℕ, true, false, nat_le, nat_lt, List, [], ◌∷◌, codes, None, refl, sym, subst, lit≤, rules}
+use Rattle.sqlite_ast.specs.declared.Core.{out-Core}
+use Rattle.sqlite_ast.specs.declared.Expr.{Expr}
+use Rattle.sqlite_ast.specs.declared.Expr.TheOpen.{Shown-F}
+use Rattle.sqlite_ast.specs.declared.Select.{out-Select}
+use Rattle.sqlite_ast.specs.declared.Shown.{Shown, out-Shown}
+use Rattle.sqlite_ast.specs.Layer.{ShownLayer}
+use Rattle.sqlite_sql.specs.Term.{Term, col}
+use Rattle.sqlite_tied.specs.Compute.{everything}
+use Rattle.agv_row_reading.specs.Rowids.{rowids_text}
+use Rattle.agv_schema.specs.DeskRows.{table_for}
+use Rattle.agv_schema.specs.declared.table_name.TableName.{TableName}
+use Rattle.agv_schema.specs.declared.table_name.TableName.TheVariants as the
+use Rattle.agv_schema.proofs.OneTable.{IsPlainFrom, parsed, selection, head_of, sole}
+use Rattle.agv_statements.proofs.sql.OneTableReads.{ShowsRowid, rowids_named, select_means}
+use Rattle.agv_statements.proofs.QueryMeanings.{AsksFor}
+use Rattle.agv_statements.proofs.sql.ReadFailing.{IsTypedTo, IsWholeText}
+use Rattle.agv_statements.proofs.RowMeanings.{with_tree}
+use Rattle.agv_statements.proofs.sql.Selecting.{IsSelectText}
+
+abbrev IsFilled : List Shown → Type 0
+IsFilled [] = ⊥
+IsFilled (x ∷ xs) = Unit {0}
+
+abbrev first_of_all : (xs : List Shown) → IsFilled xs → Shown
+first_of_all [] is = absurd is
+first_of_all (x ∷ xs) is = x
+
+abbrev IsOne : ShownLayer → Type 0
+IsOne (Shown-F.One e alias text) = Unit {0}
+IsOne _ = ⊥
+
+abbrev shown_in : (x : ShownLayer) → IsOne x → Expr
+shown_in (Shown-F.One e alias text) is = e
+shown_in _ is = absurd is
+
+abbrev pub rowid_terms : List Term
+rowid_terms = col 1 0 ∷ []
+
+abbrev pub rowid_names : List (List ℕ)
+rowid_names = codes "rowid" ∷ []
+
+is_low : (tree : ℕ) → nat_le (2 ^ 31) tree ≡ false → nat_lt tree (2 ^ 31) ≡ true
+is_low tree low = search (rules, low)
+
+-- SQL takes the text for a query of the table that shows the rowid of each row
+pub rowids_asked : (name : TableName) → AsksFor name (rowids_text name) [] rowid_terms rowid_names
+unfolding everything
+rowids_asked the.Meta s at tree keys stands =
+    let p = parsed (rowids_text the.Meta) in
+    let sel = selection p.statement tt in
+    let core = (out-Select sel).first in
+    let all = (out-Core core).shown in
+    let low = is_low tree stands.low in
+    let plain : IsPlainFrom core (codes "meta") = record { source = head_of (out-Core core).from tt; from = refl; origin = refl; alias = refl; on = refl; using = refl; inner = refl; group = refl; having = refl; repeats = refl } in
+    let shows : ShowsRowid (with_tree the.Meta tree keys) all (shown_in (out-Shown (first_of_all all tt)) tt) = record { one = first_of_all all tt; text = _; word = _; all_is = refl; one_is = refl; expr_is = refl; names = record { unnamed = refl; rowid = refl; low = low } } in
+    select_means s (codes "meta") (with_tree the.Meta tree keys) at stands (rowids_text the.Meta) p refl refl sel refl
+    (record { with = refl; others = refl; order = refl; limit = refl; offset = refl }) plain [] rowid_terms rowid_names (None ∷ []) (rw low refl) refl refl
+    (rowids_named (with_tree the.Meta tree keys) (codes "meta") core plain _ shows refl (sole (with_tree the.Meta tree keys)) 0 refl refl) refl
+rowids_asked name s at tree keys stands =
+    let p = parsed (rowids_text name) in
+    let sel = selection p.statement tt in
+    let core = (out-Select sel).first in
+    let all = (out-Core core).shown in
+    let low = is_low tree stands.low in
+    let plain : IsPlainFrom core (table_for name).name = record { source = head_of (out-Core core).from tt; from = refl; origin = refl; alias = refl; on = refl; using = refl; inner = refl; group = refl; having = refl; repeats = refl } in
+    let shows : ShowsRowid (with_tree name tree keys) all (shown_in (out-Shown (first_of_all all tt)) tt) = record { one = first_of_all all tt; text = _; word = _; all_is = refl; one_is = refl; expr_is = refl; names = record { unnamed = refl; rowid = refl; low = low } } in
+    select_means s (table_for name).name (with_tree name tree keys) at stands (rowids_text name) p refl refl sel refl
+    (record { with = refl; others = refl; order = refl; limit = refl; offset = refl }) plain [] rowid_terms rowid_names (None ∷ []) (rw low refl) refl refl
+    (rowids_named (with_tree name tree keys) (table_for name).name core plain _ shows refl (sole (with_tree name tree keys)) 0 refl refl) refl
+
+pub rowids_typed : (name : TableName) → IsTypedTo name [] rowid_terms []
+rowids_typed the.Meta = refl
+rowids_typed _ = refl
+
+pub rowids_whole : (name : TableName) → IsWholeText (rowids_text name) 0
+unfolding everything
+rowids_whole the.Meta = (lit≤ tt, refl)
+rowids_whole _ = (lit≤ tt, refl)
+
+select_texts : (name : TableName) → IsSelectText (rowids_text name)
+unfolding everything
+select_texts the.Meta = tt
+select_texts _ = tt
+
+pub rowids_select : (name : TableName) (sql : List ℕ) → sql ≡ rowids_text name → IsSelectText sql
+rowids_select name sql text = subst IsSelectText (sym text) (select_texts name)

@@ -1,4 +1,0 @@
-pub mod RowidMeanings
-pub mod RowidsKeyed
-pub mod RowidsRead
-pub mod RowidsTold

@@ -1,9 +1,0 @@
-pub mod Elements
-pub mod KeyedRows
-pub mod RowKeys
-pub mod TripTables
-pub mod RowsAtKeys
-pub mod RowsTellActs
-pub mod TripsFrom
-pub mod LawfulTrips
-pub mod LawfulValues

@@ -1,4 +1,0 @@
-pub mod ActKeys
-pub mod TripRows
-pub mod TripsTold
-pub mod RowValues
