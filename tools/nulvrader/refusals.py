@@ -78,7 +78,7 @@ TABLE = '''
 37 SameStation 409 The load is at that station already
 38 Busy 409 The vehicle has an open order
 39 Astray 409 The vehicle stands between two nodes
-40 Loaded 409 The loads on the vehicle and the order's jobs are more than it has room for
+40 Loaded 409 The loads on the vehicle and the order's jobs are more than its capacity
 41 NotReady 409 The vehicle isn't ready
 42 InstantPending 409 An instant action is pending
 43 NotConfirmed 409 The vehicle hasn't confirmed the last update

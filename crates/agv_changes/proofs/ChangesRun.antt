@@ -101,4 +101,4 @@ all_made all i a b whole p =
     record { rows = q.made; others = q.others; listed = q.listed }
 
 pub worlds_changed : FollowAll → (changes : List Change) (old new : Database) → MakesChanges changes old new → ChangesWorlds changes old new
-worlds_changed follow changes old new all desk is rows = held_changed follow desk old new changes rows (all.rows desk is)
+worlds_changed follow changes old new all desk is maps = held_changed follow desk old new changes maps (all.rows desk is)

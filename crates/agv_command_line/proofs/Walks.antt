@@ -1,5 +1,5 @@
 -- What a parse that finds no fault keeps, word by word.
-use Rattle.std.proofs.Common.{◌≡◌, ◌&&◌, not, ℕ, zero, suc, Bool, cond, true, false, refl, List, [], ◌∷◌, length, drop, is_some, Option, Some, None, true≢false, is_some}
+use Rattle.std.proofs.Common.{◌≡◌, ◌&&◌, not, ℕ, zero, suc, Bool, cond, true, false, refl, List, [], ◌∷◌, length, drop, is_some, Option, Some, None, true≢false}
 use Rattle.std.specs.Prelude.{⊤, encode_utf8, slice_get, codes}
 use Rattle.std.specs.List.{find, fold}
 use Rattle.std.specs.Option.{option_map_or}

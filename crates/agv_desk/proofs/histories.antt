@@ -4,7 +4,7 @@ pub mod ActsCounted
 pub mod AllAlong
 pub mod FoundInTurn
 pub mod GoingAlong
-pub mod HeardStates
+pub mod AcceptedSince
 pub mod JudgedStates
 pub mod LawfulLists
 pub mod OrdersAlong

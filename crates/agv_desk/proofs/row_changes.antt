@@ -1,4 +1,4 @@
--- From a world in order the rows that a call changes lead to the rows of the world after it. Which rows change where a layout, a state, an act or a placed vehicle is written.
+-- From a world in order the rows that a call changes lead to the maps of the world after it. Which rows change where a layout, a state, an act or a placed vehicle is written.
 pub mod ActJobs
 pub mod AllSteps
 pub mod Effects

@@ -20,7 +20,7 @@ use Rattle.agv_desk.specs.declared.answer.Answer.TheVariants as answer
 abbrev pub none_sent : Sent
 none_sent = record { count = 0; at = 0 }
 
--- a vehicle that was not heard of yet
+-- a vehicle that is new
 abbrev pub new_vehicle : ℕ → List ℕ → Vehicle
 new_vehicle capacity node = record {
   row = record {
@@ -38,7 +38,7 @@ new_vehicle capacity node = record {
   trip = None;
 }
 
--- the vehicle is registered, and not heard of yet
+-- the vehicle is registered, and new
 abbrev pub vehicle_registered : VehicleKey → List ℕ → ℕ → Effect
 vehicle_registered key node capacity = record (answer_only answer.Done) { touched = Whole key None (new_vehicle capacity node) }
 

@@ -11,7 +11,7 @@ ghost use Rattle.agv_desk.specs.Step.{step};
 
 use crate::instants::{cancel, pause, resume};
 use crate::jobs::{add_job, stop_job};
-use crate::laws::calls::leads_to_the_rows;
+use crate::laws::calls::leads_to_the_maps;
 use crate::layouts::set_layout;
 use crate::loads::{correct_load, leave_load, register_load};
 use crate::orders::start_order;
@@ -27,8 +27,8 @@ use std::alloc::Global;
 
 /// What a call is answered at a moment in the world of a floor, and the rows that it changes.
 ///
-/// The answer is that of the table of calls (`specs/Step.antt`), and from a world in order the changes take the rows of
-/// the world to the rows of the world after the call; a call that is refused or only reads changes nothing. An update, a
+/// The answer is that of the table of calls (`specs/Step.antt`), and from a world in order the changes take the maps of
+/// the world to those of the world after the call; a call that is refused or only reads changes nothing. An update, a
 /// place, a state and the question for the last order message are answered so where the vehicle's trip has at most 200
 /// edges and eight acts, and no more updates than released edges, as every trip of a lawful world.
 ///
@@ -52,7 +52,7 @@ pub fn decide<F: Floor>(
     ensures seats { F.facts.seats floor.new ≡ F.facts.seats floor.old }
     ensures world { LeavesWorld F.facts floor.old floor.new result }
 {
-    leads_to_the_rows();
+    leads_to_the_maps();
     decide_each(alloc, floor, at, call)
 }
 

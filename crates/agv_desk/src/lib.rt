@@ -8,7 +8,7 @@
 //! - [`moves_of`] lists which loads a decision moves, and where to, in order.
 //! - [`station_of_place`] is the station that a place is.
 //! - [`counted_by`] is the count that a call has raised by one; the counts follow it ([`laws::counts`]).
-//! - [`laws::calls`] says that the rows which change take the rows of the world to those of the world after the call.
+//! - [`laws::calls`] says that the rows which change take the maps of the world to those of the world after the call.
 //! - From a lawful world each call leads to a lawful world ([`laws::lawful`], of the halves [`laws::vehicles`] and
 //!   [`laws::stock`]), and so does each list of calls; what else holds of lists is in [`laws::histories`].
 #![tactic(auto, unfolding(crate::specs::Outcomes::refuse_unless, crate::specs::Outcomes::refuse_if_none, crate::specs::Outcomes::checked, crate::specs::Outcomes::unheld, crate::specs::Outcomes::branch, crate::specs::Outcomes::decided, crate::specs::StateSteps::if_judged))]

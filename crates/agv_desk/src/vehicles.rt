@@ -53,7 +53,7 @@ fn may_carry(capacity: u32, seats: u32) -> bool
     0 < capacity && capacity <= seats
 }
 
-// A vehicle is registered that was not heard of yet: its row, and that it holds its node.
+// A vehicle is registered that is new: its row, and that it holds its node.
 #[tactic(auto, unfolding(agv_track::specs::Footprints::footprint_of, crate::specs::Outcomes::decided))]
 fn vehicle_registered(
     alloc: Global,
@@ -69,7 +69,7 @@ fn vehicle_registered(
     Ok(made_with(Answer::Done, changes))
 }
 
-// The row of a vehicle that was not heard of yet.
+// The row of a vehicle that is new.
 fn new_vehicle(capacity: u32, node: Name) -> VehicleRow
     ensures { result ≡ (new_vehicle capacity node).row }
 {
@@ -175,11 +175,11 @@ pub(crate) fn resync<F: Floor>(
     let Some(row) = floor.vehicle(*key)? else {
         return Ok(refused(alloc, Refusal::NoVehicle));
     };
-    Ok(row_update(alloc, Answer::Done, key, &row, unheard(&row))?)
+    Ok(row_update(alloc, Answer::Done, key, &row, without_last_state(&row))?)
 }
 
 // The row of a vehicle whose last state is forgotten.
-fn unheard(row: &VehicleRow) -> VehicleRow
+fn without_last_state(row: &VehicleRow) -> VehicleRow
     ensures { result ≡ record row.now { last_header = None } }
 {
     VehicleRow {

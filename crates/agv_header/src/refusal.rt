@@ -95,7 +95,7 @@ pub enum Refusal {
     Busy,
     /// The vehicle stands between two nodes.
     Astray,
-    /// The loads on the vehicle and the order's jobs are more than it has room for.
+    /// The loads on the vehicle and the order's jobs are more than its capacity.
     Loaded,
     /// The vehicle isn't ready.
     NotReady,

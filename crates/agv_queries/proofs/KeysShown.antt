@@ -1,4 +1,4 @@
--- The row of a key, in lists that tell the rows of a world.
+-- The row of a key, in lists that tell the maps of a world.
 use Rattle.std.proofs.Common.{◌≡◌, ℕ, Bool, true, false, cond, List, [], ◌∷◌, filter, Option, Some, None, Ordering, IsPermutation, refl, ap, subst, ◌∙◌}
 use Rattle.std.proofs.lemmas.List.Sorted.{IsPermutation-sym, length_permutation}
 use Rattle.std.specs.Cmp.{IsTotalOrder, nat_cmp_total}

@@ -1,4 +1,4 @@
--- What the look-ups and the counts by columns other than the key show, in lists that tell the rows of a world.
+-- What the look-ups and the counts by columns other than the key show, in lists that tell the maps of a world.
 use Rattle.std.specs.Prelude.{ℕ, ◌&&◌, nat_eq, Bool, List, [], ◌∷◌, filter, map, IsPermutation}
 use Rattle.std.specs.Cmp.Lexicographic.{pointwise}
 use Rattle.std.specs.FinMap as finite

@@ -18,7 +18,7 @@ ghost use Rattle.agv_rows.specs.TripRows.{acts_of, journeys_of};
 ghost use Rattle.agv_rows.specs.declared.act_key.ActKey.{ActKey};
 ghost use Rattle.agv_schema.specs.declared.table_name.TableName.TheVariants as the;
 
-/// In lists that tell the rows of a world, the rows of a key are the one that the world has at the key, or none.
+/// In lists that tell the maps of a world, the rows of a key are the one that the maps have at the key, or none.
 pub fn a_key_shows_its_row()
     ensures meta { (lists : List (List Row)) (maps : Maps) → TellRows lists maps → (id : ℕ)
         → rows_of_key the.Meta (number_cell id ∷ []) lists ≡ row_if (meta_columns id) (finite.get maps.meta id) }
@@ -48,13 +48,13 @@ pub fn a_key_shows_its_row()
         → rows_of_key the.Used (used_columns key) lists ≡ (if set.contains maps.used key then used_columns key ∷ [] else []) }
 {}
 
-/// In lists that tell the rows of a world, the rows of a table that pass a test are the columns of the entries of
+/// In lists that tell the maps of a world, the rows of a table that pass a test are the columns of the entries of
 /// the world's table that pass it.
 pub fn a_test_shows_its_rows()
     ensures { (lists : List (List Row)) (maps : Maps) → TellRows lists maps → ShowAll lists maps }
 {}
 
-/// In lists that tell the rows of a world, each look-up and each count by other columns than the key is of the rows
+/// In lists that tell the maps of a world, each look-up and each count by other columns than the key is of the rows
 /// of those entries of the world's table that are asked for: the journey of a vehicle, the acts and the edges of an
 /// order, the loads at a station or on a vehicle, and the jobs of a load or to a station that are in a phase.
 pub fn a_query_shows_its_rows()

@@ -58,4 +58,4 @@ table_read (Err why) = Err why
 
 -- each of the capacities is that of a vehicle
 abbrev pub are_of_vehicles : FinMap key_cmp VehicleRow → FinMap key_cmp CapacityRow → Bool
-are_of_vehicles vehicles capacities = list_all (λ (room : VehicleKey × CapacityRow). is_some (get vehicles room.0)) (entries capacities)
+are_of_vehicles vehicles capacities = list_all (λ (own : VehicleKey × CapacityRow). is_some (get vehicles own.0)) (entries capacities)

@@ -97,9 +97,9 @@ unfolding vehicle_in
 vehicle_kept key row named is =
     rw (key_kept key named, name_kept row.node is.node, rest_kept row.rest is.rest, maybe_number_kept row.last_header is.last_header, maybe_name_kept row.reported is.reported, flag_kept row.ready, flag_kept row.paused, sent_kept row.orders is.orders, sent_kept row.instants is.instants, maybe_instant_kept row.pending)
 
-pub capacity_kept : (key : VehicleKey) (room : CapacityRow) → IsKey key → IsNumber room.capacity → capacity_in (capacity_columns key room) ≡ Some (key, room)
+pub capacity_kept : (key : VehicleKey) (own : CapacityRow) → IsKey key → IsNumber own.capacity → capacity_in (capacity_columns key own) ≡ Some (key, own)
 unfolding capacity_in
-capacity_kept key room named is = rw (key_kept key named, number_kept room.capacity is)
+capacity_kept key own named is = rw (key_kept key named, number_kept own.capacity is)
 
 pub journey_kept : (order : List ℕ) (row : JourneyRow) → IsName order → IsJourneyRow row → journey_in (journey_columns order row) ≡ Some (order, row)
 unfolding journey_in

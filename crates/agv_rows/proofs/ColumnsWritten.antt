@@ -191,9 +191,9 @@ vehicle_written row key vehicle e =
     let pending = if_some_parts _ _ _ instants.2 in
     all_columns 14 row shape.0 ∙ next keyed_cells.0 (next keyed_cells.1 (next (name_written _ at.0 at.1) (next rest_cells.0 (next rest_cells.1 (next (maybe_number_written _ last.0 last.1) (next (maybe_name_written _ reported.0 reported.1) (next (flag_written _ ready.0 ready.1) (next (flag_written _ paused.0 paused.1) (next orders_cells.0 (next orders_cells.1 (next instants_cells.0 (next instants_cells.1 (next (maybe_instant_written _ pending.0 pending.1) refl))))))))))))) ∙ ap (λ (p : VehicleKey × VehicleRow). vehicle_columns p.0 p.1) (some_same pending.2)
 
-pub capacity_written : (row : Row) (key : VehicleKey) (room : CapacityRow) → capacity_in row ≡ Some (key, room) → row ≡ capacity_columns key room
+pub capacity_written : (row : Row) (key : VehicleKey) (own : CapacityRow) → capacity_in row ≡ Some (key, own) → row ≡ capacity_columns key own
 unfolding capacity_in
-capacity_written row key room e =
+capacity_written row key own e =
     let shape = in_columns 3 row _ _ e in
     let keyed = if_some_parts _ _ _ shape.1 in
     let keyed_cells = key_written _ _ keyed.0 keyed.1 in

@@ -74,7 +74,7 @@ one_lists desk other db lists others is too h g =
 
 -- ---- worlds
 
--- lists that tell the rows of a world tell, after changes of the lists, the rows after those changes
+-- lists that tell the maps of a world tell, after changes of the lists, the maps after those changes
 abbrev pub FollowAll : Type 0
 FollowAll = (changes : List Change) (lists : List (List Row)) (maps : Maps) → TellRows lists maps → TellRows (listed_all changes lists) (changed changes maps)
 
@@ -84,7 +84,7 @@ pub held_changed : FollowAll → (desk : Placing) (old new : Database) (changes 
 held_changed follow desk old new changes maps made h =
     held_alike desk new (listed_all changes (row_lists maps)) (row_lists (changed changes maps)) (follow changes (row_lists maps) maps (alike_itself (row_lists maps))) (made (row_lists maps) h)
 
--- lists tell the rows of one world
+-- lists tell the maps of one world
 abbrev pub TellOneWorld : Type 0
 TellOneWorld = (lists : List (List Row)) (maps others : Maps) → ActsAreOfJobs maps → ActsAreOfJobs others → TellRows lists maps → TellRows lists others → maps ≡ others
 

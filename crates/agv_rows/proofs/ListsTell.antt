@@ -1,4 +1,4 @@
--- Lists tell the rows of one world alone, where each act of a trip has the load and the station of its job.
+-- Lists tell the maps of one world alone, where each act of a trip has the load and the station of its job.
 use Rattle.std.proofs.Common.{◌≡◌, ℕ, zero, suc, Bool, List, [], ◌∷◌, filter, Some, Ordering, IsPermutation, refl, sym, subst}
 use Rattle.std.proofs.lemmas.List.Sorted.{IsPermutation-refl, IsPermutation-sym, IsPermutation-trans}
 use Rattle.std.specs.Cmp.{IsTotalOrder, nat_cmp_total}

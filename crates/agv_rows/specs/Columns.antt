@@ -118,7 +118,7 @@ vehicle_in row = if_columns 14 row (
 -- ---- capacity: manufacturer, serial, capacity
 
 abbrev pub capacity_columns : VehicleKey → CapacityRow → Row
-capacity_columns key room = Text key.manufacturer ∷ Text key.serial ∷ number_cell room.capacity ∷ []
+capacity_columns key own = Text key.manufacturer ∷ Text key.serial ∷ number_cell own.capacity ∷ []
 
 -- that of a vehicle
 abbrev pub vehicle_capacity_columns : VehicleKey → VehicleRow → Row

@@ -35,7 +35,7 @@ capacities_of vehicles = finite.from_entries (map (λ (entry : VehicleKey × Veh
 -- the vehicle that a row of SQL tells, where its capacity is one of these
 abbrev pub vehicle_with : finite.FinMap key_cmp CapacityRow → Row → Option (VehicleKey × VehicleRow)
 vehicle_with capacities row =
-    if_some (vehicle_in row) (λ vehicle. if_some (finite.get capacities vehicle.0) (λ (room : CapacityRow). Some (vehicle.0, record vehicle.1 { capacity = room.capacity })))
+    if_some (vehicle_in row) (λ vehicle. if_some (finite.get capacities vehicle.0) (λ (own : CapacityRow). Some (vehicle.0, record vehicle.1 { capacity = own.capacity })))
 
 -- ---- all trips
 

@@ -69,7 +69,7 @@ rows_of world = row_lists (maps_of world)
 abbrev pub AreAlike : List (List Row) → List (List Row) → Type 0
 AreAlike = AllZip IsPermutation
 
--- the lists tell these rows of a world
+-- the lists tell these maps of a world
 abbrev pub TellRows : List (List Row) → Maps → Type 0
 TellRows lists maps = AreAlike lists (row_lists maps)
 

@@ -24,7 +24,7 @@ pub fn rows_fit_their_tables()
     ensures edge { (id : List ℕ) (ends : EdgeEnds) → FitsTable the.Edge (edge_columns id ends) }
     ensures station { (id : List ℕ) (site : StationSite) → FitsTable the.Station (station_columns id site) }
     ensures vehicle { (key : VehicleKey) (row : VehicleRow) → FitsTable the.Vehicle (vehicle_columns key row) }
-    ensures capacity { (key : VehicleKey) (room : CapacityRow) → FitsTable the.Capacity (capacity_columns key room) }
+    ensures capacity { (key : VehicleKey) (own : CapacityRow) → FitsTable the.Capacity (capacity_columns key own) }
     ensures journey { (order : List ℕ) (row : JourneyRow) → FitsTable the.Journey (journey_columns order row) }
     ensures act { (key : ActKey) (row : ActRow) → FitsTable the.Act (act_columns key row) }
     ensures leg { (key : LegKey) (edge : List ℕ) → FitsTable the.Leg (leg_columns key edge) }

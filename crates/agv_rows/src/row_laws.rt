@@ -26,7 +26,7 @@ pub fn columns_tell_their_row()
     ensures edge { (id : List ℕ) (ends : EdgeEnds) → IsName id → AreEnds ends → edge_in (edge_columns id ends) ≡ Some (id, ends) }
     ensures station { (id : List ℕ) (site : StationSite) → IsName id → IsStationSite site → station_in (station_columns id site) ≡ Some (id, site) }
     ensures vehicle { (key : VehicleKey) (row : VehicleRow) → IsKey key → IsVehicleRow row → vehicle_in (vehicle_columns key row) ≡ Some (key, record row { capacity = 1 }) }
-    ensures capacity { (key : VehicleKey) (room : CapacityRow) → IsKey key → IsNumber room.capacity → capacity_in (capacity_columns key room) ≡ Some (key, room) }
+    ensures capacity { (key : VehicleKey) (own : CapacityRow) → IsKey key → IsNumber own.capacity → capacity_in (capacity_columns key own) ≡ Some (key, own) }
     ensures journey { (order : List ℕ) (row : JourneyRow) → IsName order → IsJourneyRow row → journey_in (journey_columns order row) ≡ Some (order, row) }
     ensures act { (key : ActKey) (row : ActRow) → IsActRowKey key → IsActRow row → act_in (act_columns key row) ≡ Some (key, row) }
     ensures leg { (key : LegKey) (edge : List ℕ) → IsLegKey key → IsName edge → leg_in (leg_columns key edge) ≡ Some (key, edge) }
@@ -43,7 +43,7 @@ pub fn a_row_told_writes_its_columns()
     ensures edge { (row : Row) (id : List ℕ) (ends : EdgeEnds) → edge_in row ≡ Some (id, ends) → row ≡ edge_columns id ends }
     ensures station { (row : Row) (id : List ℕ) (site : StationSite) → station_in row ≡ Some (id, site) → row ≡ station_columns id site }
     ensures vehicle { (row : Row) (key : VehicleKey) (vehicle : VehicleRow) → vehicle_in row ≡ Some (key, vehicle) → row ≡ vehicle_columns key vehicle }
-    ensures capacity { (row : Row) (key : VehicleKey) (room : CapacityRow) → capacity_in row ≡ Some (key, room) → row ≡ capacity_columns key room }
+    ensures capacity { (row : Row) (key : VehicleKey) (own : CapacityRow) → capacity_in row ≡ Some (key, own) → row ≡ capacity_columns key own }
     ensures journey { (row : Row) (order : List ℕ) (journey : JourneyRow) → journey_in row ≡ Some (order, journey) → row ≡ journey_columns order journey }
     ensures act { (row : Row) (key : ActKey) (act : ActRow) → act_in row ≡ Some (key, act) → row ≡ act_columns key act }
     ensures leg { (row : Row) (key : LegKey) (edge : List ℕ) → leg_in row ≡ Some (key, edge) → row ≡ leg_columns key edge }

@@ -18,7 +18,7 @@ use crate::trips_told_laws::{lawful_rows_tell_trips, rows_tell_one_table};
 use agv_world::lawful_laws::has_consistent_trips;
 use agv_world::laws::maps_tell_the_world;
 
-/// Lists that tell the rows of a world tell, after a change of the lists, the rows after that change; and so they
+/// Lists that tell the maps of a world tell, after a change of the lists, the maps after that change; and so they
 /// do after many, which are made in turn.
 pub fn lists_follow_changes()
     ensures one { (one : Change) (lists : List (List Row)) (maps : Maps) → TellRows lists maps → TellRows (listed one lists) (change maps one) }
@@ -29,7 +29,7 @@ pub fn lists_follow_changes()
     rows_follow_changes();
 }
 
-/// Lists encode the rows of only one world, where each act has the load and the station of its job.
+/// Lists encode the maps of only one world, where each act has the load and the station of its job.
 pub fn lists_tell_one_world()
     ensures { (lists : List (List Row)) (maps others : Maps) → ActsAreOfJobs maps → ActsAreOfJobs others
         → TellRows lists maps → TellRows lists others → maps ≡ others }

@@ -1,4 +1,4 @@
--- The open trips that are kept beside the connection, and that the rows have them once rows were written.
+-- The open trips that are kept beside the connection, and that the maps have them once rows were written.
 use Rattle.std.proofs.Common.{◌≡◌, ℕ, Bool, true, false, not, cond, nat_eq, List, [], ◌∷◌, filter, Option, None, Some, Result, Ok, Err, OnOk, OnErr, Ordering, Less, Equal, Greater, is_eq, refl, sym, ap, subst, ◌∙◌}
 use Rattle.std.specs.BTreeMap as tree
 use Rattle.std.specs.BTreeSet as trees
@@ -74,7 +74,7 @@ same_legs legs leg (Some edge) order other =
 
 -- ---- rows that are written
 
--- what is kept but for one order is as it was, where the change leaves the rows of trips of other orders
+-- what is kept but for one order is as it was, where the change leaves the trips of other orders
 pub others_stay : (trips new : OpenTrips) (order : List ℕ) (one : Change)
     → ((trip : Trip) (maps : Maps) → tree.is_at (name_cmp order) trip.order ≡ false → HasTripRows maps trip → HasTripRows (change maps one) trip)
     → ((other : List ℕ) → tree.get name_cmp new other ≡ cond (tree.is_at (name_cmp order) other) None (tree.get name_cmp trips other))
@@ -95,7 +95,7 @@ leg_of_another leg edge trip maps untied has = (
   has.1 ∙ ap (λ legs. filter_map (λ (leg : LegKey × List ℕ). edge_named maps.edges leg.1) legs) (sym (same_legs maps.legs leg edge trip.order (texts_ties leg.order trip.order ∙ untied))),
 )
 
--- where the trip of its order is forgotten, the rows have those that are kept
+-- where the trip of its order is forgotten, the maps have those that are kept
 pub leg_forgotten : (trips new : OpenTrips) (leg : LegKey) (edge : Option (List ℕ)) → ((other : List ℕ) → tree.get name_cmp new other ≡ cond (tree.is_at (name_cmp leg.order) other) None (tree.get name_cmp trips other))
     → (maps : Maps) → AreOpen trips maps → AreOpen new (change maps (row.Leg leg edge))
 leg_forgotten trips new leg edge = others_stay trips new leg.order (row.Leg leg edge) (leg_of_another leg edge)

@@ -35,7 +35,7 @@ abbrev pub ChangesInTurn : Type 0
 ChangesInTurn = (first later : List Change) (maps : Maps) → changed (first ++ later) maps ≡ changed later (changed first maps)
 
 module _ (all : List Change) (first : Known) where
-  -- so it is known of the rows that the changes lead to
+  -- so it is known of the maps that the changes lead to
   abbrev pub LeadsTo : List Change → Known → Type 0
   LeadsTo changes now = (count : Counted → ℕ) (maps : Maps) → IsKnown first count maps → IsKnown now count (changed changes maps)
 

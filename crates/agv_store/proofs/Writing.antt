@@ -84,8 +84,8 @@ module _ {S : Type 0} (g : Ghosts S) (law : DatabaseTells) where
 
     -- ---- after an answer
 
-    rows_next : IsClean g new → changed changes (maps_of (world_at g old)) ≡ maps_of next
-    rows_next clean = subst (λ cs. changed cs (maps_of (world_at g old)) ≡ maps_of next) (sym changes_are) (decides (clean_old clean)).changes
+    maps_next : IsClean g new → changed changes (maps_of (world_at g old)) ≡ maps_of next
+    maps_next clean = subst (λ cs. changed cs (maps_of (world_at g old)) ≡ maps_of next) (sym changes_are) (decides (clean_old clean)).changes
 
     pub knows_next : r ≡ Ok tt → IsClean g new → Knows g new next
     knows_next ok clean =
@@ -102,7 +102,7 @@ module _ {S : Type 0} (g : Ghosts S) (law : DatabaseTells) where
             stands = was.has.stands;
             lawful = (decides (clean_old clean)).lawful;
             rows = subst (λ (db : Database). Holds was.at db (rows_of next)) (sym same)
-                (subst (λ (maps : Maps). Holds was.at (state g new).committed (row_lists maps)) (rows_next clean)
+                (subst (λ (maps : Maps). Holds was.at (state g new).committed (row_lists maps)) (maps_next clean)
                 (writes.worlds changes (state g old).now (state g new).committed made was.at was.has.stands (maps_of (world_at g old)) was.has.rows));
           };
         }
@@ -128,7 +128,7 @@ module _ {S : Type 0} (g : Ghosts S) (law : DatabaseTells) where
           let outcome = outcome_in (world_at g old) at call in
           let was = knows (clean_old clean) in
           let added_is : (what : Counted) → one_more more what ≡ added call (answer_of outcome) what = λ what. ap (λ kind. one_more kind what) (more_is ∙ ap (counted_by call) (answer_is clean)) in
-          follows (world_at g old) next (rows_next clean)
+          follows (world_at g old) next (maps_next clean)
           (λ what some. below desk_seats (world_at g old) at call what (λ none. some (added_is what ∙ none)))
           (λ what. counts desk_seats (world_at g old) at call what (loads_of was.has.lawful) ∙ ap (λ n. count_of (world_at g old) what + n) (sym (added_is what)))
           (is_known (clean_old clean) was.is_open)
@@ -193,7 +193,7 @@ module _ {S : Type 0} (g : Ghosts S) (law : DatabaseTells) where
             record {
               stands = was.has.stands;
               lawful = (decides (clean_old clean)).lawful;
-              rows = subst (λ (maps : Maps). Holds was.at db (row_lists maps)) (rows_next clean)
+              rows = subst (λ (maps : Maps). Holds was.at db (row_lists maps)) (maps_next clean)
                   (writes.worlds changes (state g old).now db made was.at was.has.stands (maps_of (world_at g old)) was.has.rows);
             },
           );

@@ -1,4 +1,4 @@
--- The rows that change where a vehicle, a load, a job, a used name or the first layout is written are those of the world after it.
+-- The rows that change where a vehicle, a load, a job, a used name or the first layout is written lead to the maps of the world after it.
 pub mod ChangeRuns
 pub mod Edits
 pub mod Followed

@@ -1,4 +1,4 @@
--- Which rows a world has, under which keys, and that no two vehicles give a row of one key. The rows of a world with consistent trips tell which world it is.
+-- Which rows a world has, under which keys, and that no two vehicles give a row of one key. The maps of a world with consistent trips tell which world it is.
 pub mod Apart
 pub mod Empty
 pub mod Holders

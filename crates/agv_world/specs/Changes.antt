@@ -7,7 +7,7 @@ use Rattle.agv_header.specs.Spread.{edit}
 use Rattle.agv_world.specs.declared.change.Change.{Change}
 use Rattle.agv_world.specs.declared.change.Change.TheVariants as row
 
--- the maps with one entry written or removed
+-- the maps with one row written or removed
 abbrev pub change : Maps → Change → Maps
 change maps (row.Node id) = record maps { nodes = set.insert maps.nodes id }
 change maps (row.Edge id ends) = record maps { edges = finite.insert maps.edges id ends }

@@ -1,5 +1,5 @@
--- A world as eleven maps, each from a key to the rest of its row: what the rules write, one entry a change. (Its rows in the fourteen tables of a
--- database are `rows_of` of agv_rows.)
+-- A world as eleven maps, each from a key to the rest of its row: a change writes or removes one row. (What it has in the fourteen tables of a
+-- database are its `rows_of`, in agv_rows.)
 use Rattle.std.specs.Prelude.{ℕ, List, [], ◌∷◌, ◌++◌, map, Option, None, Some}
 use Rattle.std.specs.Ordering.{nat_cmp}
 use Rattle.std.specs.FinMap as finite
@@ -41,9 +41,9 @@ pub record Maps : Type 0 where
   pub holds : finite.FinMap thing_cmp VehicleKey
   pub used : set.FinSet use_cmp
 
--- ---- the entries that a vehicle gives to each map
+-- ---- the rows that a vehicle gives to each map
 
--- its own
+-- its own row
 abbrev pub vehicle_rows : VehicleKey → Vehicle → List (VehicleKey × VehicleRow)
 vehicle_rows key vehicle = (key, vehicle.row) ∷ []
 
@@ -88,7 +88,7 @@ standing_of vehicle = record { node = vehicle.row.node; rest = vehicle.row.rest;
 abbrev pub hold_rows : VehicleKey → Vehicle → List (Thing × VehicleKey)
 hold_rows key vehicle = map (λ thing. (thing, key)) (footprint_of (standing_of vehicle))
 
--- ---- all entries
+-- ---- all of them
 
 -- the names that were used, each in its kind
 abbrev pub used_names : World → List UseKey

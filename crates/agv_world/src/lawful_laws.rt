@@ -23,12 +23,12 @@ pub fn loads_meet_invariant()
     stops_twice();
 }
 
-/// A lawful world has consistent trips: its rows tell it, and so do its tables.
+/// A lawful world has consistent trips: its maps tell it, and so do its tables.
 pub fn has_consistent_trips()
     ensures { (seats : ℕ) (world : World) → IsLawful seats world → HasConsistentTrips world }
 {}
 
-/// The world of a desk that knows nothing yet is lawful, whatever number of places a vehicle may have.
+/// The world of a desk that knows nothing yet is lawful, whatever capacity a vehicle may have.
 pub fn begins_lawful()
     ensures { (seats : ℕ) → IsLawful seats empty_world }
 {}

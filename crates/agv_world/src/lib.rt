@@ -1,15 +1,15 @@
-//! What the desk knows: the world, and the rows that keep it.
+//! What the desk knows: the world, and the maps that keep it.
 //!
 //! - In a clause a world is a record of a layout, the vehicles with their open trips, the places of
 //!   loads, the jobs, and the names that were used (`specs/Worlds.antt`).
-//! - Its rows are eleven tables, each a finite map from a key to the rest of its row (`specs/Rows.antt`); in a database they
-//!   lie in fourteen (docs/TABLES.md). A [`Change`] is one row written or removed (`specs/Changes.antt`).
-//! - In memory a [`World`] is the tables of its rows, but for the holds, which follow from the others
+//! - Its maps are eleven, each from a key to the rest of its row (`specs/Maps.antt`); a database has its rows in fourteen
+//!   tables (docs/TABLES.md). A [`Change`] is one row written or removed (`specs/Changes.antt`).
+//! - In memory a [`World`] is these maps as tables, but for the holds, which follow from the others
 //!   (`specs/Kept.antt`). [`World::apply`] carries out changes: all of them, or none.
-//! - Rows tell the world, tables tell it, and the holds among the rows are the vehicles' footprints
+//! - Maps tell the world, tables tell it, and the holds among the maps are the vehicles' footprints
 //!   ([`laws`]).
 //! - The rows that change where a vehicle, loads, jobs, a name or the layout are written lead from the
-//!   rows of a world to the rows of the world with them ([`change_laws`]).
+//!   maps of a world to those of the world with them ([`change_laws`]).
 //! - A [`Floor`] answers questions to what the desk knows, however it is kept. One clause says of each
 //!   what it answers, what it leaves as it was, and what a fault leaves (`specs/Asks.antt`).
 //!   [`PlainFloor`] answers them from a world in memory, which it borrows (`specs/Told.antt`).

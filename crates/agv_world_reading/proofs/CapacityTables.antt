@@ -11,7 +11,7 @@ use Rattle.sqlite_value.specs.Order.{Row}
 use Rattle.agv_header.specs.Key.{key_cmp}
 use Rattle.agv_header.specs.KeyOrder.{key_cmp-IsAntisymmetric, key_cmp-total}
 use Rattle.agv_header.specs.declared.key.VehicleKey.{VehicleKey}
-use Rattle.agv_rows.proofs.RowKeys.{rise_from_sorted, sorted_from_rise}
+use Rattle.agv_rows.proofs.TripRowKeys.{rise_from_sorted, sorted_from_rise}
 use Rattle.agv_world.specs.declared.row.VehicleRow.{VehicleRow}
 use Rattle.agv_world.proofs.lists.EachEntry.{all-entries, each-entry}
 use Rattle.agv_world.proofs.lists.InOrder.{entries-shown}
@@ -61,11 +61,11 @@ pub capacity_known : (vehicles : Vehicles) (key : VehicleKey) (vehicle : Vehicle
 capacity_known vehicles key vehicle at = get-capacities_of vehicles key ∙ ap (option_map capacity_row_of) at
 
 -- and each capacity is that of a vehicle
-pub vehicle_of : (vehicles : Vehicles) (key : VehicleKey) (room : CapacityRow) → finite.get (capacities_of vehicles) key ≡ Some room → (vehicle : VehicleRow) × (finite.get vehicles key ≡ Some vehicle) × (capacity_row_of vehicle ≡ room)
-vehicle_of vehicles key room at =
-    elim (finite.get vehicles key) as (λ (o : Option VehicleRow). finite.get vehicles key ≡ o → option_map capacity_row_of o ≡ Some room → (vehicle : VehicleRow) × (finite.get vehicles key ≡ Some vehicle) × (capacity_row_of vehicle ≡ room)) [
+pub vehicle_of : (vehicles : Vehicles) (key : VehicleKey) (own : CapacityRow) → finite.get (capacities_of vehicles) key ≡ Some own → (vehicle : VehicleRow) × (finite.get vehicles key ≡ Some vehicle) × (capacity_row_of vehicle ≡ own)
+vehicle_of vehicles key own at =
+    elim (finite.get vehicles key) as (λ (o : Option VehicleRow). finite.get vehicles key ≡ o → option_map capacity_row_of o ≡ Some own → (vehicle : VehicleRow) × (finite.get vehicles key ≡ Some vehicle) × (capacity_row_of vehicle ≡ own)) [
       | None ↦ λ _ found. absurd (cc found)
-      | Some vehicle ↦ λ is found. (vehicle, is, same_Some (capacity_row_of vehicle) room found)
+      | Some vehicle ↦ λ is found. (vehicle, is, same_Some (capacity_row_of vehicle) own found)
     ] refl (sym (get-capacities_of vehicles key) ∙ at)
 
 -- their rows are those of the vehicles' capacities
@@ -78,15 +78,15 @@ capacity_rows vehicles =
 
 -- the vehicle with its capacity, where that is known
 abbrev with_its_capacity : Capacities → VehicleKey × VehicleRow → Option (VehicleKey × VehicleRow)
-with_its_capacity capacities vehicle = if_some (finite.get capacities vehicle.0) (λ (room : CapacityRow). Some (vehicle.0, record vehicle.1 { capacity = room.capacity }))
+with_its_capacity capacities vehicle = if_some (finite.get capacities vehicle.0) (λ (own : CapacityRow). Some (vehicle.0, record vehicle.1 { capacity = own.capacity }))
 
 module _ (capacities : Capacities) where
   -- where its capacity is known
-  pub told_with : (row : Row) (key : VehicleKey) (vehicle : VehicleRow) (room : CapacityRow) → vehicle_in row ≡ Some (key, vehicle) → finite.get capacities key ≡ Some room
-      → vehicle_with capacities row ≡ Some (key, record vehicle { capacity = room.capacity })
-  told_with row key vehicle room told at =
+  pub told_with : (row : Row) (key : VehicleKey) (vehicle : VehicleRow) (own : CapacityRow) → vehicle_in row ≡ Some (key, vehicle) → finite.get capacities key ≡ Some own
+      → vehicle_with capacities row ≡ Some (key, record vehicle { capacity = own.capacity })
+  told_with row key vehicle own told at =
       ap (λ (o : Option (VehicleKey × VehicleRow)). if_some o (with_its_capacity capacities)) told
-      ∙ ap (λ (o : Option CapacityRow). if_some o (λ (room : CapacityRow). Some (key, record vehicle { capacity = room.capacity }))) at
+      ∙ ap (λ (o : Option CapacityRow). if_some o (λ (own : CapacityRow). Some (key, record vehicle { capacity = own.capacity }))) at
 
   -- what a row has that tells one
   record IsWith (row : Row) (entry : VehicleKey × VehicleRow) : Type 0 where
@@ -99,10 +99,10 @@ module _ (capacities : Capacities) where
   is_with row entry is =
       elim (vehicle_in row) as (λ (o : Option (VehicleKey × VehicleRow)). vehicle_in row ≡ o → if_some o (with_its_capacity capacities) ≡ Some entry → IsWith row entry) [
         | None ↦ λ _ found. absurd (cc found)
-        | Some vehicle ↦ λ told. elim (finite.get capacities vehicle.0) as (λ (o : Option CapacityRow). finite.get capacities vehicle.0 ≡ o → if_some o (λ (room : CapacityRow). Some (vehicle.0, record vehicle.1 { capacity = room.capacity })) ≡ Some entry → IsWith row entry) [
+        | Some vehicle ↦ λ told. elim (finite.get capacities vehicle.0) as (λ (o : Option CapacityRow). finite.get capacities vehicle.0 ≡ o → if_some o (λ (own : CapacityRow). Some (vehicle.0, record vehicle.1 { capacity = own.capacity })) ≡ Some entry → IsWith row entry) [
           | None ↦ λ _ found. absurd (cc found)
-          | Some room ↦ λ at found.
-              let same : (vehicle.0, record vehicle.1 { capacity = room.capacity }) ≡ entry = same_Some _ entry found in
+          | Some own ↦ λ at found.
+              let same : (vehicle.0, record vehicle.1 { capacity = own.capacity }) ≡ entry = same_Some _ entry found in
               subst (IsWith row) same (record { vehicle = vehicle.1; told = told; at = at; is = refl })
         ] refl
       ] refl is
@@ -146,7 +146,7 @@ module _ (capacities : Capacities) where
             | Some vehicle ↦ λ at. have key vehicle at
             | None ↦ λ none. elim (finite.get capacities key) as (λ (o : Option CapacityRow). finite.get capacities key ≡ o → o ≡ None) [
               | None ↦ λ _. refl
-              | Some room ↦ λ at. absurd (let wrong = sym (ap is_some none) ∙ each-entry key_cmp-total key_cmp-IsAntisymmetric (λ (e : VehicleKey × CapacityRow). is_some (finite.get vehicles e.0)) capacities all key room at in cc wrong)
+              | Some own ↦ λ at. absurd (let wrong = sym (ap is_some none) ∙ each-entry key_cmp-total key_cmp-IsAntisymmetric (λ (e : VehicleKey × CapacityRow). is_some (finite.get vehicles e.0)) capacities all key own at in cc wrong)
             ] refl
           ] refl
 
@@ -161,7 +161,7 @@ module _ (capacities : Capacities) where
 -- the capacities of these vehicles are of vehicles
 all_of_vehicles : (vehicles : Vehicles) → are_of_vehicles vehicles (capacities_of vehicles) ≡ true
 all_of_vehicles vehicles =
-    all-entries key_cmp-total key_cmp-IsAntisymmetric (λ (e : VehicleKey × CapacityRow). is_some (finite.get vehicles e.0)) (capacities_of vehicles) (λ key room at. ap is_some (vehicle_of vehicles key room at).1)
+    all-entries key_cmp-total key_cmp-IsAntisymmetric (λ (e : VehicleKey × CapacityRow). is_some (finite.get vehicles e.0)) (capacities_of vehicles) (λ key own at. ap is_some (vehicle_of vehicles key own at).1)
 
 -- so none is left over, where both tables are those of the same vehicles
 pub none_left_over : (world : Vehicles) (vehicles : Vehicles) (capacities : Capacities) → vehicles ≡ world → capacities ≡ capacities_of world → ¬ (are_of_vehicles vehicles capacities ≡ false)

@@ -62,10 +62,10 @@ module _ (world : World) (lawful : IsLawful desk_seats world) (rows : List Row) 
   tells_capacities shown r read =
       let vehicles = (maps_of world).vehicles in
       reads_it (capacities_of vehicles) r (read_rows capacity_in finite.empty rows) read
-      (reads_all key_cmp-total key_cmp-IsAntisymmetric (capacities_of vehicles) capacity_columns capacity_in (λ key room at.
-      let its = vehicle_of vehicles key room at in
+      (reads_all key_cmp-total key_cmp-IsAntisymmetric (capacities_of vehicles) capacity_columns capacity_in (λ key own at.
+      let its = vehicle_of vehicles key own at in
       let value = vehicle_value world lawful key its.0 (sym (row_at world key) ∙ its.1) in
-      capacity_kept key room value.0 (subst (λ (x : CapacityRow). IsNumber x.capacity) its.2 value.1.capacity)) rows (subst (λ l. IsPermutation l rows) (capacity_rows vehicles) shown))
+      capacity_kept key own value.0 (subst (λ (x : CapacityRow). IsNumber x.capacity) its.2 value.1.capacity)) rows (subst (λ l. IsPermutation l rows) (capacity_rows vehicles) shown))
 
   -- the vehicles, where these are their capacities
   pub reads_vehicles : (capacities : finite.FinMap key_cmp CapacityRow) → capacities ≡ capacities_of (maps_of world).vehicles → IsPermutation (all_rows_of the.Vehicle (rows_of world)) rows

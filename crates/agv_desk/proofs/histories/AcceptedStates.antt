@@ -25,7 +25,7 @@ use Rattle.agv_desk.specs.Outcomes.{Effect, Outcome, Refused, Made, RowOnly, Who
 use Rattle.agv_desk.specs.StateSteps.{idle_state, pending_of, with_state, trip_left, trip_state, fresh_state, take_state}
 use Rattle.agv_desk.specs.declared.answer.Answer.TheVariants as answer
 use Rattle.agv_desk.proofs.outcomes.EffectParts.{effect_orders, effect_vehicles, written_vehicle}
-use Rattle.agv_desk.proofs.histories.HeardStates.{IsAsTold, IsHeard, IsTold}
+use Rattle.agv_desk.proofs.histories.AcceptedSince.{IsAsTold, IsAccepted, IsTold}
 use Rattle.agv_desk.proofs.histories.JudgedStates.{IsJudged, acts_are, judged_so, not_ended, status_at}
 use Rattle.agv_desk.proofs.outcomes.Known.{has_trip, none_some, same_some, vehicle_with}
 use Rattle.agv_desk.proofs.outcomes.Ladders.{IfMade, made_require, made_found, made_judged}
@@ -40,26 +40,26 @@ trip_told world key trip has = ap (option_and_then (λ (vehicle : Vehicle). vehi
 
 module _ (world : World) (key : VehicleKey) (state : StateMessage) where
   -- where the message is accepted, its number is that of the vehicle's last state; and where it speaks of the vehicle's trip, that trip is as it says
-  pub record LeavesHeard (effect : Effect) : Type 0 where
-    pub number : effect.answer ≡ answer.Accepted true → IsHeard key state.header_id (with_effect world effect)
+  pub record LeavesAccepted (effect : Effect) : Type 0 where
+    pub number : effect.answer ≡ answer.Accepted true → IsAccepted key state.header_id (with_effect world effect)
     pub trip : effect.answer ≡ answer.Accepted true → (row : VehicleRow) (trip : Trip) → row_of world key ≡ Some row → HasTrip world key trip → trip.order ≡ state.order_id
         → IsTold state trip.order (pending_of row) (with_effect world effect)
 
   abbrev P : Effect → Type 0
-  P = LeavesHeard
+  P = LeavesAccepted
 
   -- the row of the vehicle that was written
   row_written : (effect : Effect) (new : Vehicle) → (with_effect world effect).vehicles ≡ finite.insert world.vehicles key new → row_of (with_effect world effect) key ≡ Some new.row
   row_written effect new is =
       ap (λ vehicles. option_map (λ (vehicle : Vehicle). vehicle.row) (finite.get vehicles key)) is ∙ ap (option_map (λ (vehicle : Vehicle). vehicle.row)) (written_vehicle world.vehicles key new)
 
-  number_heard : (effect : Effect) (new : Vehicle) → (with_touched world effect.touched).vehicles ≡ finite.insert world.vehicles key new → new.row.last_header ≡ Some state.header_id
-      → IsHeard key state.header_id (with_effect world effect)
-  number_heard effect new written is = (new.row, state.header_id, row_written effect new (effect_vehicles world effect ∙ written), is, omega arith)
+  number_accepted : (effect : Effect) (new : Vehicle) → (with_touched world effect.touched).vehicles ≡ finite.insert world.vehicles key new → new.row.last_header ≡ Some state.header_id
+      → IsAccepted key state.header_id (with_effect world effect)
+  number_accepted effect new written is = (new.row, state.header_id, row_written effect new (effect_vehicles world effect ∙ written), is, omega arith)
 
   idle_leaves : (effect : Effect) (row next : VehicleRow) → effect.touched ≡ RowOnly key row next → next.last_header ≡ Some state.header_id → ((trip : Trip) → HasTrip world key trip → trip.order ≡ state.order_id → ⊥) → P effect
   idle_leaves effect row next noted number apart = record {
-    number = λ accepted. number_heard effect (vehicle_with next (trip_of world key)) (ap (λ touched. (with_touched world touched).vehicles) noted) number;
+    number = λ accepted. number_accepted effect (vehicle_with next (trip_of world key)) (ap (λ touched. (with_touched world touched).vehicles) noted) number;
     trip = λ accepted row trip there has same. absurd (apart trip has same);
   }
 
@@ -98,7 +98,7 @@ module _ (world : World) (key : VehicleKey) (state : StateMessage) where
     trip_leaves : (effect : Effect) (old : Option Vehicle) (new : Vehicle) (row : VehicleRow) (trip : Trip) (progress : Progress) → row_of world key ≡ Some row → trip_of world key ≡ Some trip
         → IsJudged trip (pending_of row) state progress → effect.touched ≡ Whole key old new → new.row.last_header ≡ Some state.header_id → new.trip ≡ trip_left trip progress → P effect
     trip_leaves effect old new row trip progress there open_trip is put number left = record {
-      number = λ accepted. number_heard effect new (ap (λ touched. (with_touched world touched).vehicles) put) number;
+      number = λ accepted. number_accepted effect new (ap (λ touched. (with_touched world touched).vehicles) put) number;
       trip = λ accepted other more there_too has same.
           let rows : row ≡ other = same_some (sym there ∙ there_too) in
           let trips : trip ≡ more = same_some (sym open_trip ∙ trip_told world key more has) in
@@ -119,14 +119,14 @@ module _ (world : World) (key : VehicleKey) (state : StateMessage) where
         let trips : trip ≡ more = same_some (sym same ∙ trip_told world key more has) in
         false≢true (sym apart ∙ ap (λ (one : Trip). pointwise nat_eq one.order state.order_id) trips ∙ ap (λ order. pointwise nat_eq order state.order_id) ours ∙ name_itself state.order_id))))
 
-    pub leaves_heard : IfMade P (take_state world key state)
-    leaves_heard =
+    pub leaves_accepted : IfMade P (take_state world key state)
+    leaves_accepted =
         made_found P _ _ _ (λ row there. made_either P _ _ _ (λ fresh. hears_fresh row there (trip_of world key) refl)
         (λ old. record { number = λ accepted. cc; trip = λ accepted. cc }))
 
   -- ---- of the world after the message
 
-  pub number_after : (outcome : Outcome) → IfMade P outcome → answer_of outcome ≡ answer.Accepted true → IsHeard key state.header_id (after world outcome)
+  pub number_after : (outcome : Outcome) → IfMade P outcome → answer_of outcome ≡ answer.Accepted true → IsAccepted key state.header_id (after world outcome)
   unfolding after answer_of
   number_after (Refused why) leaves accepted = cc
   number_after (Made effect) leaves accepted = leaves.number accepted

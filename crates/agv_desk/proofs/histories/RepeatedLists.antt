@@ -19,9 +19,9 @@ use Rattle.agv_desk.specs.WellTyped.{AreWellTyped}
 use Rattle.agv_desk.specs.declared.answer.Answer.TheVariants as answer
 use Rattle.agv_desk.specs.declared.call.Call.{Call}
 use Rattle.agv_desk.specs.declared.call.Call.TheVariants as call
-use Rattle.agv_desk.proofs.histories.AcceptedStates.{leaves_heard, number_after, trip_after}
+use Rattle.agv_desk.proofs.histories.AcceptedStates.{leaves_accepted, number_after, trip_after}
 use Rattle.agv_desk.proofs.row_changes.Given.{AdvancesTrips}
-use Rattle.agv_desk.proofs.histories.HeardStates.{IsInstructedSince, heard_since, instructed_since, told_on}
+use Rattle.agv_desk.proofs.histories.AcceptedSince.{IsInstructedSince, accepted_since, instructed_since, told_on}
 use Rattle.agv_desk.proofs.lists.InTurn.{world_in_turn}
 use Rattle.agv_desk.proofs.outcomes.Known.{none_some}
 use Rattle.agv_desk.proofs.outcomes.Ladders.{IfMade}
@@ -59,21 +59,21 @@ module _ (advances : AdvancesTrips) (fits : FitsAsSaid) (footprints : HoldsAreFo
     -- without a resync since, the message is old
     old_quiet : (exception : Type 0) → HasNoResync key since → IfMade (IsQuiet now exception) (take_state now key state)
     old_quiet exception none =
-        let is_heard = number_after first key state (take_state first key state) (leaves_heard first key state seats (vehicles_of first_lawful)) accepted in
+        let is_accepted = number_after first key state (take_state first key state) (leaves_accepted first key state seats (vehicles_of first_lawful)) accepted in
         quiet_old advances footprints seats now (vehicles_of now_lawful) key state exception state.header_id (omega arith)
-        (heard_since advances fits seats keeps second since second_lawful rest_typed.2 key state.header_id none is_heard)
+        (accepted_since advances fits seats keeps second since second_lawful rest_typed.2 key state.header_id none is_accepted)
 
     old_unchanged : HasNoResync key since → after now (take_state now key state) ≡ now
     old_unchanged none =
-        let is_heard = number_after first key state (take_state first key state) (leaves_heard first key state seats (vehicles_of first_lawful)) accepted in
+        let is_accepted = number_after first key state (take_state first key state) (leaves_accepted first key state seats (vehicles_of first_lawful)) accepted in
         world_unchanged now (take_state now key state) (unchanged_old now key state state.header_id (omega arith)
-        (heard_since advances fits seats keeps second since second_lawful rest_typed.2 key state.header_id none is_heard))
+        (accepted_since advances fits seats keeps second since second_lawful rest_typed.2 key state.header_id none is_accepted))
 
     -- a message that was judged against a trip
     told_quiet : (there : Option VehicleRow) → row_of first key ≡ there → (trip : Trip) → HasTrip first key trip → trip.order ≡ state.order_id → IfMade (IsQuiet now (CancelsSince first now key state)) (take_state now key state)
     told_quiet None none trip has ours = none_some (sym none ∙ ap (option_map (λ (vehicle : Vehicle). vehicle.row)) has.1)
     told_quiet (Some before) was trip has ours =
-        let told_then = trip_after first key state (take_state first key state) (leaves_heard first key state seats (vehicles_of first_lawful)) accepted before trip was has ours in
+        let told_then = trip_after first key state (take_state first key state) (leaves_accepted first key state seats (vehicles_of first_lawful)) accepted before trip was has ours in
         let told_now = told_on state trip.order (pending_of before) second now (follows_steps advances fits seats keeps second since second_lawful rest_typed.2) told_then in
         let instructed : IsInstructedSince key before now =
         instructed_since advances fits seats keeps first ((at, call.State key state) ∷ since) first_lawful rest_typed key before (before, was, omega arith, λ same kind is. is) in

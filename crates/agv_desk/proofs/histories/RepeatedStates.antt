@@ -33,7 +33,7 @@ use Rattle.agv_desk.specs.Outcomes.{Effect, Outcome, Refused, Made, Nothing, Row
 use Rattle.agv_desk.specs.StateSteps.{idle_state, pending_of, with_state, row_after, trip_left, trip_state, fresh_state, take_state}
 use Rattle.agv_desk.proofs.outcomes.EffectParts.{effect_vehicles}
 use Rattle.agv_desk.proofs.row_changes.Given.{AdvancesTrips}
-use Rattle.agv_desk.proofs.histories.HeardStates.{IsAsTold, IsHeard, IsInstructedSince, IsTold}
+use Rattle.agv_desk.proofs.histories.AcceptedSince.{IsAsTold, IsAccepted, IsInstructedSince, IsTold}
 use Rattle.agv_desk.proofs.histories.JudgedStates.{IsJudged, acts_are, judged_so, still_open}
 use Rattle.agv_desk.proofs.outcomes.Known.{has_trip, known, same_some, vehicle_with}
 use Rattle.agv_desk.proofs.outcomes.Ladders.{IfMade, made_require, made_found, made_judged}
@@ -58,11 +58,11 @@ quiet_nothing world exception effect none moves = record {
 -- ---- a state that is old
 
 -- where the last state has this number or a greater one, the state is not fresh
-not_fresh : (world : World) (key : VehicleKey) (state : StateMessage) (number : ℕ) (row : VehicleRow) → state.header_id ≤ number → IsHeard key number world → row_of world key ≡ Some row
+not_fresh : (world : World) (key : VehicleKey) (state : StateMessage) (number : ℕ) (row : VehicleRow) → state.header_id ≤ number → IsAccepted key number world → row_of world key ≡ Some row
     → is_fresh row.last_header state.header_id ≡ true → ⊥
-not_fresh world key state number row less is_heard there fresh =
-    let same : is_heard.0 ≡ row = same_some (sym is_heard.2 ∙ there) in
-    too_great _ _ _ less is_heard.4 (fresh_greater row.last_header state.header_id is_heard.1 fresh (ap (λ (one : VehicleRow). one.last_header) (sym same) ∙ is_heard.3))
+not_fresh world key state number row less is_accepted there fresh =
+    let same : is_accepted.0 ≡ row = same_some (sym is_accepted.2 ∙ there) in
+    too_great _ _ _ less is_accepted.4 (fresh_greater row.last_header state.header_id is_accepted.1 fresh (ap (λ (one : VehicleRow). one.last_header) (sym same) ∙ is_accepted.3))
   where
     too_great : (a b c : ℕ) → a ≤ b → b ≤ c → c < a → ⊥
     too_great a b c first second third = omega (arith, first, second, third)
@@ -71,9 +71,9 @@ not_fresh world key state number row less is_heard there fresh =
 pub record ChangesNothing (world : World) (effect : Effect) : Type 0 where
   pub same : with_effect world effect ≡ world
 
-pub unchanged_old : (world : World) (key : VehicleKey) (state : StateMessage) (number : ℕ) → state.header_id ≤ number → IsHeard key number world → IfMade (ChangesNothing world) (take_state world key state)
-unchanged_old world key state number less is_heard =
-    made_found (ChangesNothing world) _ _ _ (λ row there. made_either (ChangesNothing world) _ _ _ (λ fresh. absurd (not_fresh world key state number row less is_heard there fresh))
+pub unchanged_old : (world : World) (key : VehicleKey) (state : StateMessage) (number : ℕ) → state.header_id ≤ number → IsAccepted key number world → IfMade (ChangesNothing world) (take_state world key state)
+unchanged_old world key state number less is_accepted =
+    made_found (ChangesNothing world) _ _ _ (λ row there. made_either (ChangesNothing world) _ _ _ (λ fresh. absurd (not_fresh world key state number row less is_accepted there fresh))
     (λ old. record { same = refl }))
 
 pub world_unchanged : (world : World) (outcome : Outcome) → IfMade (ChangesNothing world) outcome → after world outcome ≡ world
@@ -164,9 +164,9 @@ module _ (advances : AdvancesTrips) (footprints : HoldsAreFootprints) (seats : �
     quiet_idle row there = made_judged P _ _ (λ over is. quiet_noted _ row (with_state row state over) there refl refl refl refl)
 
     -- a state that is not fresh moves nothing
-    pub quiet_old : (number : ℕ) → state.header_id ≤ number → IsHeard key number world → IfMade P (take_state world key state)
-    quiet_old number less is_heard =
-        made_found P _ _ _ (λ row there. made_either P _ _ _ (λ fresh. absurd (not_fresh world key state number row less is_heard there fresh))
+    pub quiet_old : (number : ℕ) → state.header_id ≤ number → IsAccepted key number world → IfMade P (take_state world key state)
+    quiet_old number less is_accepted =
+        made_found P _ _ _ (λ row there. made_either P _ _ _ (λ fresh. absurd (not_fresh world key state number row less is_accepted there fresh))
         (λ old. quiet_nothing world exception _ refl refl))
 
   -- ---- a state that was judged against a trip before

@@ -47,8 +47,8 @@ still_pending : (over : Bool) (there : Option InstantKind) (kind : InstantKind) 
 still_pending true there kind is = none_some is
 still_pending false there kind is = is
 
-heard_goes_on : (forgotten : Type 0) (row : VehicleRow) (state : StateMessage) (over : Bool) → is_fresh row.last_header state.header_id ≡ true → RowGoesOn forgotten row (with_state row state over)
-heard_goes_on forgotten row state over fresh = record {
+accepted_goes_on : (forgotten : Type 0) (row : VehicleRow) (state : StateMessage) (over : Bool) → is_fresh row.last_header state.header_id ≡ true → RowGoesOn forgotten row (with_state row state over)
+accepted_goes_on forgotten row state over fresh = record {
   count = omega arith;
   pending = λ same kind is. still_pending over row.pending kind is;
   header = λ last is. let less : last < state.header_id = fresh_greater row.last_header state.header_id last fresh is in inl (state.header_id, refl, omega (arith, less));
@@ -56,7 +56,7 @@ heard_goes_on forgotten row state over fresh = record {
 
 row_goes_on : (forgotten : Type 0) (row : VehicleRow) (trip : Trip) (state : StateMessage) (progress : Progress) → is_fresh row.last_header state.header_id ≡ true → RowGoesOn forgotten row (row_after row trip state progress)
 row_goes_on forgotten row trip state progress fresh =
-    let goes = heard_goes_on forgotten row state progress.pending_over fresh in
+    let goes = accepted_goes_on forgotten row state progress.pending_over fresh in
     record { count = goes.count; pending = goes.pending; header = goes.header }
 
 -- an act that becomes finished was not finished, and is
@@ -71,7 +71,7 @@ module _ (advances : AdvancesTrips) (fits : FitsAsSaid) (seats : ℕ) (world : W
 
   hears_idle : (key : VehicleKey) (row : VehicleRow) (state : StateMessage) → row_of world key ≡ Some row → is_fresh row.last_header state.header_id ≡ true → IfMade P (idle_state key row state)
   hears_idle key row state there fresh =
-      made_judged P _ _ (λ over is. notes_row world forgets _ key row _ refl (λ kind order job. refl) there (heard_goes_on (forgets key) row state over fresh))
+      made_judged P _ _ (λ over is. notes_row world forgets _ key row _ refl (λ kind order job. refl) there (accepted_goes_on (forgets key) row state over fresh))
 
   -- the acts of a trip after a state, where they are carried out
   module _ (effect : Effect) (key : VehicleKey) (old : Option Vehicle) (new : Vehicle) (trip : Trip) (progress : Progress) (has : HasTrip world key trip)

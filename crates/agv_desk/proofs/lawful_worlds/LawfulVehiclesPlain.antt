@@ -34,7 +34,7 @@ use Rattle.agv_desk.proofs.outcomes.Keeping.{KeepsVehicles}
 use Rattle.agv_desk.proofs.outcomes.Known.{none_some, vehicle_with, known, unknown}
 use Rattle.agv_desk.proofs.outcomes.Ladders.{IfMade, made_require, made_found, made_checked, made_unheld, made_judged}
 use Rattle.agv_desk.proofs.lawful_worlds.LawfulVehiclesGiven.{GivenMore}
-use Rattle.agv_desk.proofs.lawful_worlds.LawfulVehiclesRows.{forgotten_row, heard_row, instructed_row, new_row, placed_row, same_trip}
+use Rattle.agv_desk.proofs.lawful_worlds.LawfulVehiclesRows.{forgotten_row, accepted_row, instructed_row, new_row, placed_row, same_trip}
 use Rattle.agv_desk.proofs.lawful_worlds.LawfulVehiclesWritten.{as_many_vehicles, is_in_order, lays, moves_loads, one_more_vehicle, uses_reference, writes}
 use Rattle.agv_desk.proofs.row_changes.LayoutRows.{is_empty, made_given}
 use Rattle.agv_desk.proofs.row_changes.Steps.{missing}
@@ -134,7 +134,7 @@ module _ (given : Given) (more : GivenMore) (seats : ℕ) (world : World) (lawfu
 
   pub hears_idle : (key : VehicleKey) (row : VehicleRow) (state : StateMessage) → state.header_id ≤ 4294967295 → row_of world key ≡ Some row → IfMade P (idle_state key row state)
   hears_idle key row state numbered there =
-      made_judged P _ _ (λ over is. record { vehicles = notes key row _ there refl refl refl refl (λ vehicle. heard_row seats world.layout row vehicle state over numbered) })
+      made_judged P _ _ (λ over is. record { vehicles = notes key row _ there refl refl refl refl (λ vehicle. accepted_row seats world.layout row vehicle state over numbered) })
 
   -- ---- a vehicle that stands without a trip
   pub registers_vehicle : (key : VehicleKey) (node : List ℕ) (capacity : ℕ) → IsKey key → IfMade P (register_vehicle seats world key node capacity)

@@ -1,4 +1,4 @@
--- The row of a vehicle after a call is as it has to be: where a message was sent, a state was heard, or the vehicle is somewhere else.
+-- The row of a vehicle after a call is as it has to be: where a message was sent, a state was accepted, or the vehicle is somewhere else.
 use Rattle.std.proofs.Common.{arith, ◌≡◌, ◌+◌, ◌<◌, ◌≤◌, ◌&&◌, ℕ, Bool, true, false, cond, count_by, nat_lt, nat_le, List, Option, None, Some, refl, sym, ap, subst, ltb-true, leb-true, ◌∙◌}
 use Rattle.std.proofs.lemmas.Bool.{and_parts}
 use Rattle.agv_header.specs.Count.{next_number}
@@ -38,7 +38,7 @@ is_sent sent number at next moment = record {
   none = λ zero. absurd (omega (arith, zero, (next_of sent number next).0));
 }
 
--- ---- what was heard
+-- ---- what was accepted
 
 spelled : (bytes name : List ℕ) (spells : Bool) → is_name bytes ≡ spells → cond spells (Some bytes) None ≡ Some name → IsName name
 spelled bytes name true is e = subst IsName (same_some e) is
@@ -54,8 +54,8 @@ pends true pending kind e = none_some e
 pends false pending kind e = e
 
 module _ (seats : ℕ) (layout : Layout) (row : VehicleRow) (lawful : IsVehicleOf seats layout row) where
-  pub heard_row : (state : StateMessage) (over : Bool) → state.header_id ≤ 4294967295 → IsVehicleOf seats layout (with_state row state over)
-  heard_row state over numbered = record {
+  pub accepted_row : (state : StateMessage) (over : Bool) → state.header_id ≤ 4294967295 → IsVehicleOf seats layout (with_state row state over)
+  accepted_row state over numbered = record {
     carries = lawful.carries;
     seated = lawful.seated;
     node = lawful.node;

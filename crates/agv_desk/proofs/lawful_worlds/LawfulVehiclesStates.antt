@@ -27,7 +27,7 @@ use Rattle.agv_desk.proofs.outcomes.Known.{none_some, same_some, vehicle_with, k
 use Rattle.agv_desk.proofs.outcomes.Ladders.{IfMade, made_require, made_found, made_branch, made_judged}
 use Rattle.agv_desk.proofs.lawful_worlds.LawfulVehiclesGiven.{GivenMore}
 use Rattle.agv_desk.proofs.lawful_worlds.LawfulVehiclesPlain.{hears_idle}
-use Rattle.agv_desk.proofs.lawful_worlds.LawfulVehiclesRows.{heard_row, moved_row}
+use Rattle.agv_desk.proofs.lawful_worlds.LawfulVehiclesRows.{accepted_row, moved_row}
 use Rattle.agv_desk.proofs.lawful_worlds.LawfulVehiclesTrips.{next_is_rest, same_picks, way_nodes}
 use Rattle.agv_desk.proofs.lawful_worlds.LawfulVehiclesWritten.{as_many_vehicles, is_in_order, keeps_rules, moves_loads, writes}
 use Rattle.agv_desk.proofs.row_changes.StateRows.{holds_less, one_trip, vehicle_after}
@@ -59,7 +59,7 @@ module _ (more : GivenMore) (seats : ℕ) (layout : Layout) (key : VehicleKey) (
 
   pub lawful_after : KeepsRules layout → state.header_id ≤ 4294967295 → IsVehicleOf seats layout row → IsVehicleOf seats layout (row_after row trip state progress)
   lawful_after keeps numbered vehicle =
-      moved_row seats layout (with_state row state progress.pending_over) (heard_row seats layout row vehicle state progress.pending_over numbered) (unwrap_or (node_at trip progress.seen) row.node) progress.rest
+      moved_row seats layout (with_state row state progress.pending_over) (accepted_row seats layout row vehicle state progress.pending_over numbered) (unwrap_or (node_at trip progress.seen) row.node) progress.rest
       (subst (IsNode layout) (sym reached) (reached_node keeps))
       (subst (λ node. IsRestAt layout node progress.rest) (sym reached) (rest_there progress.rest refl))
 

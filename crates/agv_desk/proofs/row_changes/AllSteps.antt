@@ -1,4 +1,4 @@
--- Every call leads to the rows of the world after it.
+-- Every call leads to the maps of the world after it.
 use Rattle.std.proofs.Common.{◌≡◌, ℕ}
 use Rattle.agv_world.specs.Changes.{changed}
 use Rattle.agv_world.specs.Maps.{maps_of}
@@ -43,6 +43,6 @@ module _ (given : Given) (world : World) (in_order : IsInOrder world) where
   each seats at call.HoldReport = leads given world in_order _ (lays_none world) (touches_none world)
   each seats at call.LoadsExport = leads given world in_order _ (lays_none world) (touches_none world)
 
-  -- the rows that a call changes lead from the rows of the world to those of the world after it
+  -- the rows that a call changes lead from the maps of the world to those of the world after it
   pub leads_all : (seats at : ℕ) (made : Call) → changed (decided (step seats world at made)).changes (maps_of world) ≡ maps_of (after world (step seats world at made))
   leads_all seats at made = decides world (step seats world at made) (each seats at made)

@@ -1,4 +1,4 @@
--- The rows that an effect changes lead to the rows of the world after it, part by part.
+-- The rows that an effect changes lead to the maps of the world after it, part by part.
 use Rattle.std.proofs.Common.{◌≡◌, ℕ, List, [], ◌∷◌, ◌++◌, map, Option, None, refl, ap, ◌∙◌}
 use Rattle.agv_layout.specs.Layout.{Layout}
 use Rattle.agv_world.specs.Changes.{change, changed}
@@ -37,14 +37,14 @@ module _ (uses : UsesARow) where
   uses_rows [] world = refl
   uses_rows (key ∷ keys) world = ap (changed (map (λ (key : UseKey). row.Used key) keys)) (uses world key) ∙ uses_rows keys (with_use world key.kind key.name)
 
--- the changes of the layout, and those of the vehicle, lead to the rows of the world with it
+-- the changes of the layout, and those of the vehicle, lead to the maps of the world with it
 abbrev pub LaysRows : World → Option Layout → Type 0
 LaysRows world layout = changed (laid_changes layout) (maps_of world) ≡ maps_of (with_layout world layout)
 
 abbrev pub TouchesRows : World → VehicleChange → Type 0
 TouchesRows world touched = changed (touched_changes touched) (maps_of world) ≡ maps_of (with_touched world touched)
 
--- all changes lead to the rows of the world after the effect
+-- all changes lead to the maps of the world after the effect
 pub record LeadsTo (world : World) (effect : Effect) : Type 0 where
   pub rows : changed (changes_of effect) (maps_of world) ≡ maps_of (with_effect world effect)
 

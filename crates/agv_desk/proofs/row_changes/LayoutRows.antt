@@ -1,4 +1,4 @@
--- A layout that is set leads to the rows of the world with it.
+-- A layout that is set leads to the maps of the world with it.
 use Rattle.std.proofs.Common.{◌≡◌, ◌⊎◌, inl, inr, List, None, Some, Result, Ok, Err, refl, sym, ap, ◌∙◌}
 use Rattle.agv_layout.specs.Layout.{Layout, KeepsRules}
 use Rattle.agv_layout.specs.declared.fault.LayoutFault.{LayoutFault}

@@ -1,4 +1,4 @@
--- The calls of orders lead to the rows of the world after them.
+-- The calls of orders lead to the maps of the world after them.
 use Rattle.std.proofs.Common.{◌≡◌, ◌≢◌, ℕ, Bool, true, false, cond, List, Option, None, Some, Result, Ok, Err, nat_eq, nat_lt, length, refl, sym, ap, subst, ◌∙◌}
 use Rattle.std.specs.Cmp.Lexicographic.{pointwise}
 use Rattle.std.specs.FinSet as set

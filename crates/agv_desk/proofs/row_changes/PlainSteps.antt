@@ -1,4 +1,4 @@
--- The calls that touch no trip lead to the rows of the world after them.
+-- The calls that touch no trip lead to the maps of the world after them.
 use Rattle.std.proofs.Common.{◌≡◌, ℕ, List, Option, None, Some, refl}
 use Rattle.agv_header.specs.declared.key.VehicleKey.{VehicleKey}
 use Rattle.agv_message.specs.declared.instant.InstantKind.{InstantKind}

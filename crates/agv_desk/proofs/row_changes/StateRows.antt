@@ -1,4 +1,4 @@
--- A state leads to the rows of the world after it: what a vehicle holds after a state is of what it held before.
+-- A state leads to the maps of the world after it: what a vehicle holds after a state is of what it held before.
 use Rattle.std.proofs.Common.{◌≡◌, ◌≤◌, ℕ, zero, suc, Bool, true, false, cond, List, [], ◌∷◌, map, Option, None, Some, is_some, Contains, refl, sym, ap, ◌∙◌, subst, arith, inl, inr}
 use Rattle.std.specs.List.{slice_get}
 use Rattle.std.specs.Option.{unwrap_or}

@@ -1,4 +1,4 @@
--- From a world in order the rows that a call changes lead to the rows of the world after it: what each call touches.
+-- From a world in order the rows that a call changes lead to the maps of the world after it: what each call touches.
 use Rattle.std.proofs.Common.{◌≡◌, Bool, true, false, not, Option, None, Some, is_none, refl, subst}
 use Rattle.std.specs.FinMap as finite
 use Rattle.agv_header.specs.declared.key.VehicleKey.{VehicleKey}

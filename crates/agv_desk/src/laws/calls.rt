@@ -33,8 +33,8 @@ use agv_world::change_laws::{
 };
 use agv_world::{Floor, PlainFloor};
 
-/// From a world in order, the rows that a call changes lead to the rows of the world after it.
-pub fn leads_to_the_rows()
+/// From a world in order, the rows that a call changes lead to the maps of the world after it.
+pub fn leads_to_the_maps()
     ensures { (seats : ℕ) (world : World) (at : ℕ) (call : Call) → IsInOrder world
         → changed (decided (step seats world at call)).changes (maps_of world) ≡ maps_of (after world (step seats world at call)) }
 {

@@ -1,4 +1,4 @@
--- The rows of a world in which there is nothing.
+-- The maps of a world in which there is nothing.
 use Rattle.std.proofs.Common.{◌≡◌, ◌||◌, true, false, List, [], ◌∷◌, Ordering, refl, sym, ap, ◌∙◌}
 use Rattle.std.specs.Cmp.{IsTotalOrder}
 use Rattle.std.specs.FinMap as finite

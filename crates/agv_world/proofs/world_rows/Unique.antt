@@ -1,4 +1,4 @@
--- The rows of a world with consistent trips tell which world it is.
+-- The maps of a world with consistent trips tell which world it is.
 use Rattle.std.proofs.Common.{◌≡◌, ℕ, ◌+◌, List, [], ◌∷◌, Some, refl, sym, ap, subst, ◌∙◌}
 use Rattle.std.specs.FinMap.{FinMap, get, find, same_map}
 use Rattle.std.specs.FinSet as set

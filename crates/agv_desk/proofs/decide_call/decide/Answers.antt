@@ -14,7 +14,7 @@ returns-clause-changes g c =
     asked_as g.F.Floor.facts c.args.floor.now c.decide_each.new.floor c.decide_each.result _ _
     (λ decision says in_order.
     ap (λ (d : Decision). changed d.changes (maps_of world)) (says (of_size world in_order c.args.call.now))
-    ∙ c.leads_to_the_rows.ensures seats world c.args.at c.args.call.now in_order)
+    ∙ c.leads_to_the_maps.ensures seats world c.args.at c.args.call.now in_order)
     c.decide_each.ensures
 
 pub returns-clause-failed : goal.returns-clause-failed

@@ -12,10 +12,10 @@ pub returns-in_default-row : goal.returns-in_default-row
 returns-in_default-row c = trip_forgotten c.args.trips.now c.remove.new.self c.args.order c.args.row.now c.remove.ensures.updates.0
 
 pub returns-in-Ok : goal.returns-in-Ok
-returns-in-Ok c rows =
-    subst (λ its. AreOpen c.args.trips.now rows → AreOpen c.insert-kept.new.self (change rows (row.Trip c.args.order its))) (sym c.in-Some-row.is)
+returns-in-Ok c maps =
+    subst (λ its. AreOpen c.args.trips.now maps → AreOpen c.insert-kept.new.self (change maps (row.Trip c.args.order its))) (sym c.in-Some-row.is)
     (trip_put c.args.trips.now c.remove.new.self c.insert-kept.new.self c.args.order c.in-Some.trip c.in-Ok.trip c.in-Some-row.row (sym c.remove.ensures.value ∙ c.in-Some.is) c.in-Ok.ensures
-    c.remove.ensures.updates.0 c.insert-kept.result c.insert-kept.ensures.updates c.insert-kept.ensures.err rows)
+    c.remove.ensures.updates.0 c.insert-kept.result c.insert-kept.ensures.updates c.insert-kept.ensures.err maps)
 
 pub returns-in_default-with_row : goal.returns-in_default-with_row
 returns-in_default-with_row c = trip_forgotten c.args.trips.now c.remove.new.self c.args.order c.args.row.now c.remove.ensures.updates.0

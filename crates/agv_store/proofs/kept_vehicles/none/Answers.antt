@@ -4,4 +4,4 @@ use Rattle.agv_store.proofs.KeptVehicles.{none_kept}
 use Rattle.agv_store.proofs.kept_vehicles.none.Goals as goal
 
 pub returns : goal.returns
-returns c rows = subst (λ kept. AreVehicles kept rows) (sym c.new.ensures) (none_kept rows)
+returns c maps = subst (λ kept. AreVehicles kept maps) (sym c.new.ensures) (none_kept maps)

@@ -14,6 +14,6 @@ returns-then-is_empty-clause-applied c world next keeps leads =
 
 pub returns-then-is_empty-clause-agrees : goal.returns-then-is_empty-clause-agrees
 unfolding changed
-returns-then-is_empty-clause-agrees c rows agrees =
+returns-then-is_empty-clause-agrees c maps agrees =
     let none = nil_from_length c.args.changes.now (eqb-true (length c.args.changes.now) 0 (sym c.is_empty.ensures ∙ c.if-is_empty.true)) in
-    subst (λ changes. Agrees c.args.self.now (changed changes rows)) (sym none) agrees
+    subst (λ changes. Agrees c.args.self.now (changed changes maps)) (sym none) agrees

@@ -6,8 +6,8 @@ use Rattle.agv_world.proofs.world.World.put_all.Goals as goal
 
 pub loop-written-preserved : goal.loop-written-preserved
 unfolding changed
-loop-written-preserved c rows agrees =
-    let so_far = c.loop-written.invariant rows agrees in
+loop-written-preserved c maps agrees =
+    let so_far = c.loop-written.invariant maps agrees in
     let more : c.loop-written.written-index < length c.args.changes.now = search rules in (
       change so_far.0 _,
       c.in_ok-put.ensures so_far.0 so_far.1,
@@ -18,7 +18,7 @@ loop-written-preserved c rows agrees =
 
 pub returns : goal.returns
 unfolding changed
-returns c rows agrees =
-    let all = c.loop-written.invariant rows agrees in
+returns c maps agrees =
+    let all = c.loop-written.invariant maps agrees in
     let none : length c.args.changes.now ≤ c.loop-written.written-index = search rules in
     subst (Agrees c.loop-written.self) (sym (at_drop_all (λ changes. changed changes all.0) c.args.changes.now c.loop-written.written-index none) ∙ all.2) all.1

@@ -37,8 +37,8 @@ use Rattle.agv_desk.proofs.histories.TripsFollow.{status_through}
 -- ---- numbers
 
 -- the last state of the vehicle has this number or a greater one
-abbrev pub IsHeard : VehicleKey → ℕ → World → Type 0
-IsHeard key number world = (row : VehicleRow) × (last : ℕ) × (row_of world key ≡ Some row) × (row.last_header ≡ Some last) × (number ≤ last)
+abbrev pub IsAccepted : VehicleKey → ℕ → World → Type 0
+IsAccepted key number world = (row : VehicleRow) × (last : ℕ) × (row_of world key ≡ Some row) × (row.last_header ≡ Some last) × (number ≤ last)
 
 -- since this row the number of the vehicle's instantActions messages has not fallen, and what is pending under the same number was pending
 abbrev pub IsInstructedSince : VehicleKey → VehicleRow → World → Type 0
@@ -52,12 +52,12 @@ unfolding after
 row_made world forgets (Refused why) goes key row there = (row, there, row_itself (forgets key) row)
 row_made world forgets (Made effect) goes key row there = row_after world forgets effect goes.rows key row there
 
-heard_on : (world next : World) (forgotten : Type 0) (key : VehicleKey) (number : ℕ) → ((row : VehicleRow) → row_of world key ≡ Some row → (after : VehicleRow) × (row_of next key ≡ Some after) × RowGoesOn forgotten row after)
-    → (forgotten → ⊥) → IsHeard key number world → IsHeard key number next
-heard_on world next forgotten key number goes kept heard =
-    let now = goes heard.0 heard.2 in
-    elim (now.2.header heard.1 heard.3) [
-      | inl last ↦ (now.0, last.0, now.1, last.1, greater number heard.1 last.0 heard.4 last.2)
+accepted_on : (world next : World) (forgotten : Type 0) (key : VehicleKey) (number : ℕ) → ((row : VehicleRow) → row_of world key ≡ Some row → (after : VehicleRow) × (row_of next key ≡ Some after) × RowGoesOn forgotten row after)
+    → (forgotten → ⊥) → IsAccepted key number world → IsAccepted key number next
+accepted_on world next forgotten key number goes kept accepted =
+    let now = goes accepted.0 accepted.2 in
+    elim (now.2.header accepted.1 accepted.3) [
+      | inl last ↦ (now.0, last.0, now.1, last.1, greater number accepted.1 last.0 accepted.4 last.2)
       | inr lost ↦ absurd (kept lost)
     ]
   where
@@ -116,15 +116,15 @@ told_on state order pending before after follows is = record {
 -- ---- over a list of calls
 
 module _ (advances : AdvancesTrips) (fits : FitsAsSaid) (seats : ℕ) (keeps : KeepsLawful seats) where
-  pub heard_since : (world : World) (calls : List (ℕ × Call)) → IsLawful seats world → AreWellTyped calls → (key : VehicleKey) (number : ℕ) → HasNoResync key calls
-      → IsHeard key number world → IsHeard key number (steps seats world calls)
-  heard_since world [] lawful typed key number none heard = heard
-  heard_since world (made ∷ calls) lawful typed key number none heard =
+  pub accepted_since : (world : World) (calls : List (ℕ × Call)) → IsLawful seats world → AreWellTyped calls → (key : VehicleKey) (number : ℕ) → HasNoResync key calls
+      → IsAccepted key number world → IsAccepted key number (steps seats world calls)
+  accepted_since world [] lawful typed key number none accepted = accepted
+  accepted_since world (made ∷ calls) lawful typed key number none accepted =
       let outcome = step seats world made.0 made.1 in
       let next = after world outcome in
-      heard_since next calls (keeps world made.0 made.1 lawful typed.0 typed.1) typed.2 key number none.1
-      (heard_on world next (Forgets made.1 key) key number (row_made world (Forgets made.1) outcome (goes_along advances fits seats world (vehicles_of lawful) made.0 made.1) key)
-      (not_forgotten made.1 key none.0) heard)
+      accepted_since next calls (keeps world made.0 made.1 lawful typed.0 typed.1) typed.2 key number none.1
+      (accepted_on world next (Forgets made.1 key) key number (row_made world (Forgets made.1) outcome (goes_along advances fits seats world (vehicles_of lawful) made.0 made.1) key)
+      (not_forgotten made.1 key none.0) accepted)
 
   pub instructed_since : (world : World) (calls : List (ℕ × Call)) → IsLawful seats world → AreWellTyped calls → (key : VehicleKey) (earlier : VehicleRow)
       → IsInstructedSince key earlier world → IsInstructedSince key earlier (steps seats world calls)

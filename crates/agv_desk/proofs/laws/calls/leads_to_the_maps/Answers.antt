@@ -1,6 +1,6 @@
 use Rattle.agv_desk.proofs.row_changes.AllSteps.{leads_all}
 use Rattle.agv_desk.proofs.row_changes.Given.{Given}
-use Rattle.agv_desk.proofs.laws.calls.leads_to_the_rows.Goals as goal
+use Rattle.agv_desk.proofs.laws.calls.leads_to_the_maps.Goals as goal
 
 -- src/laws/calls.rt:20:1
 pub returns : goal.returns
