@@ -124,6 +124,22 @@ class AVehicle(unittest.TestCase):
         self.run_all()
         self.assertEqual(self.failed, {'o.0', 'o.1'})
 
+    def test_a_load_that_it_does_not_carry(self):
+        """That its drop fails is right where its pick has failed, in the same order."""
+        nodes = [{**self.message['nodes'][0], 'actions': []}, self.message['nodes'][1]]
+        self.vehicle.nature = Nature(failing=1000)
+        self.goods.add('L', 'station N00s')
+        self.run_all()
+        self.assertEqual(self.failed, {'o.0', 'o.1'})
+        self.vehicle.clear()
+        self.vehicle.node, self.vehicle.nature = 'N00', Nature(failing=0)
+        self.vehicle.track.put('KIT/a', 'N00')
+        message = {**self.message, 'headerId': 1, 'orderId': 'p', 'nodes': nodes}
+        self.given.note('KIT/a', message)
+        self.vehicle.take_order(message)
+        with self.assertRaisesRegex(Wrong, '^KIT/a is to put down L at N01s, and does not carry it$'):
+            self.run_all()
+
     def test_a_restart(self):
         """It comes where the vehicle does nothing and the desk knows all, as here in a pause behind the pick. With it the order is lost."""
         self.goods.add('L', 'station N00s')
