@@ -5,6 +5,7 @@ import dataclasses
 import os
 import random
 import sys
+import tempfile
 import unittest
 
 from programs import ROOT, TOOLS
@@ -17,6 +18,7 @@ from nulvrader.client import NoAnswer, Refused, Stop  # noqa: E402
 from nulvrader.names import VehicleKey  # noqa: E402
 from nulvrader.questions import Wait  # noqa: E402
 from simulation.clock import Clock  # noqa: E402
+from simulation.desks import Served  # noqa: E402
 from simulation.floors import FLOORS  # noqa: E402
 from simulation.plan import Nature  # noqa: E402
 from simulation.reasons import BY_PERSON, Killed, Reasons  # noqa: E402
@@ -228,6 +230,40 @@ class WhyAJobIsStopped(unittest.TestCase):
         for job, load, target in (('j1', 'L1', 'B'), ('j1', 'L2', 'A'), ('j2', 'L1', 'A'), ('j4', 'L1', 'A')):
             with self.assertRaisesRegex(Wrong, '^%s is done, and no vehicle has put %s down at %s for it$' % (job, load, target)):
                 self.reasons.check_done(job, load, target, goods)
+
+
+class AProgram(unittest.TestCase):
+    """Shell scripts stand for the desk's program."""
+
+    def setUp(self):
+        folder = tempfile.TemporaryDirectory()
+        self.addCleanup(folder.cleanup)
+        self.program, self.db = (os.path.join(folder.name, name) for name in ('desk', 'plant.db'))
+
+    def served(self, *lines):
+        with open(self.program, 'w') as file:
+            file.write('#!/bin/sh\n' + '\n'.join(lines) + '\n')
+        os.chmod(self.program, 0o755)
+        return Served(self.program, self.db, 1)
+
+    def test_one_that_ends_by_itself(self):
+        served = self.served('echo listening on 127.0.0.1:1', 'echo fault: Storage >&2', 'exit 3')
+        served.start()
+        self.addCleanup(served.stop)
+        served.process.wait(120)
+        with self.assertRaisesRegex(Wrong, '^the desk ended by itself: status 3, and it said: fault: Storage$'):
+            served.supervise()
+        self.assertEqual(served.starts, 1)
+
+    def test_one_that_is_killed(self):
+        served = self.served('echo listening on 127.0.0.1:1', 'exec sleep 600')
+        served.start()
+        self.addCleanup(served.stop)
+        served.supervise()
+        self.assertEqual(served.starts, 1)
+        served.kill_soon(random.Random(1))
+        served.settle()
+        self.assertEqual(served.starts, 2)
 
 
 class WaitsInCircles(unittest.TestCase):
