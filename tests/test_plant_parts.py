@@ -4,6 +4,7 @@ import contextlib
 import dataclasses
 import os
 import random
+import sqlite3
 import sys
 import tempfile
 import unittest
@@ -17,11 +18,13 @@ assert TOOLS in sys.path
 from nulvrader.client import NoAnswer, Refused, Stop  # noqa: E402
 from nulvrader.names import VehicleKey  # noqa: E402
 from nulvrader.questions import Wait  # noqa: E402
+from nulvrader.reports import read_stock  # noqa: E402
 from simulation.clock import Clock  # noqa: E402
 from simulation.desks import Served  # noqa: E402
 from simulation.floors import FLOORS  # noqa: E402
-from simulation.plan import Nature  # noqa: E402
-from simulation.reasons import BY_PERSON, Killed, Reasons  # noqa: E402
+from simulation.plan import Nature, Plan  # noqa: E402
+from simulation.plant import Plant  # noqa: E402
+from simulation.reasons import BY_PERSON, TAKEN_BACK, Killed, Reasons  # noqa: E402
 from simulation.truth import Given, Goods, Track, Wrong  # noqa: E402
 from simulation.vehicles import Vehicle  # noqa: E402
 from simulation.watch import Circles, circles  # noqa: E402
@@ -232,8 +235,8 @@ class WhyAJobIsStopped(unittest.TestCase):
                 self.reasons.check_done(job, load, target, goods)
 
 
-class AProgram(unittest.TestCase):
-    """Shell scripts stand for the desk's program."""
+class OverAScript(unittest.TestCase):
+    """A shell script stands for the desk's program."""
 
     def setUp(self):
         folder = tempfile.TemporaryDirectory()
@@ -246,6 +249,8 @@ class AProgram(unittest.TestCase):
         os.chmod(self.program, 0o755)
         return Served(self.program, self.db, 1)
 
+
+class AProgram(OverAScript):
     def test_one_that_ends_by_itself(self):
         served = self.served('echo listening on 127.0.0.1:1', 'echo fault: Storage >&2', 'exit 3')
         served.start()
@@ -264,6 +269,47 @@ class AProgram(unittest.TestCase):
         served.kill_soon(random.Random(1))
         served.settle()
         self.assertEqual(served.starts, 2)
+
+
+class WhatTheDeskHas(OverAScript):
+    """The load L1 is at the station A, and L2 on KIT/0001."""
+
+    REPORT = b'station A at N1: %d of 3, reserved 0\n%schecking: 0\n%svehicle KIT/0001: 1\n  L2\nleft: 0\n'
+
+    def setUp(self):
+        super().setUp()
+        self.plant = Plant(Plan('small', 1), self.served('exit 0'), lambda *_: None)
+        self.plant.goods.add('L1', 'station A')
+        self.plant.goods.add('L2', 'vehicle KIT/0001')
+
+    def compare(self, at_station, checking=b''):
+        self.plant.compare_places(read_stock(self.REPORT % (at_station.count(b'L'), at_station, checking)))
+
+    def test_each_load_once(self):
+        self.compare(b'  L1\n')
+
+    def test_a_load_twice(self):
+        """Though one of its places is the true one, and no load is missing."""
+        for lists in ((b'  L1\n  L2\n',), (b'  L1\n', b'  L2\n'), (b'  L1\n', b'  L1\n'), (b'  L1\n  L1\n',)):
+            with self.subTest(lists), self.assertRaisesRegex(Wrong, r'^the desk has L[12] in more than one place$'):
+                self.compare(*lists)
+
+    def test_a_load_that_is_nowhere(self):
+        with self.assertRaisesRegex(Wrong, '^the desk has L3, which is nowhere$'):
+            self.compare(b'  L1\n  L3\n')
+
+    def test_a_job_that_has_not_ended(self):
+        """Where all have, as the plant saw. One that only stands, or whose time is over, has such jobs."""
+        with contextlib.closing(sqlite3.connect(self.db)) as base:
+            base.execute('CREATE TABLE job (id TEXT, load TEXT, target TEXT, phase TEXT)')
+            base.executemany('INSERT INTO job VALUES (?, ?, ?, ?)', [('J1', 'L1', 'A', 'stopped'), ('J2', 'L2', 'A', 'waiting')])
+            base.commit()
+        self.plant.reasons.jobs['J1'] = TAKEN_BACK
+        with self.assertRaisesRegex(Wrong, '^all jobs had ended, and J2 is waiting$'):
+            self.plant.close()
+        self.plant.day.stands = 'nothing moves'
+        self.plant.close()
+        self.assertEqual((self.plant.day.done, self.plant.day.stopped), (0, {'J1': TAKEN_BACK}))
 
 
 class WaitsInCircles(unittest.TestCase):
