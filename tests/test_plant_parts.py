@@ -20,6 +20,7 @@ from nulvrader.names import VehicleKey  # noqa: E402
 from nulvrader.questions import Wait  # noqa: E402
 from nulvrader.reports import read_stock  # noqa: E402
 from simulation.clock import Clock  # noqa: E402
+from simulation.day import Day  # noqa: E402
 from simulation.desks import Served  # noqa: E402
 from simulation.floors import FLOORS  # noqa: E402
 from simulation.plan import Nature, Plan  # noqa: E402
@@ -357,6 +358,20 @@ class WaitsInCircles(unittest.TestCase):
         d, e = (VehicleKey('KIT', name) for name in 'de')
         others = [Wait(e, 'o5', 'N5', 'node N4', d, True), Wait(d, 'o4', 'N4', 'node N5', e, True)]
         self.assertEqual(circles([*self.waits, *others]), [(self.b, self.c), tuple(others[::-1])])
+
+
+class LongWaits(unittest.TestCase):
+    def test_why(self):
+        """The longest has its reason, and so has each of more than 300 s."""
+        day = Day()
+        lines = []
+        for vehicle, since, seconds in (('a', 0.0, 40), ('b', 10.0, 60), ('c', 20.0, 50), ('d', 30.0, 310), ('a', 90.0, 301), ('b', 99.0, 299)):
+            for n in range(seconds + 1):
+                day.has_waited(vehicle, since, since + n, 'for %d s' % n)
+            lines.append(day.longest_waits())
+        b, d = ['b waited for 60 s from 10 s on: for 60 s'], ['d waited for 310 s from 30 s on: for 310 s']
+        a = ['a waited for 301 s from 90 s on: for 301 s']
+        self.assertEqual(lines, [['a waited for 40 s from 0 s on: for 40 s'], b, b, d, d + a, d + a])
 
 
 class TheFloors(unittest.TestCase):
