@@ -35,8 +35,8 @@ CIRCLE = r'^a circle from \d+ s on, for 1[23]\d s: (KIT/\d+ waits at \S+ for (no
 @over_sockets
 class APartOfADay(unittest.TestCase):
     def test_all_goes_wrong_that_can(self):
-        """Each job is done, or stopped for a reason; the file is lawful; nothing collided, and nothing stands: else the run itself
-        ends with a fault."""
+        """Each job is done, or stopped for a reason; the file is lawful; nothing collided: else the run itself ends with a fault. And
+        nothing stands."""
         quick = Nature(speed=2.5, action=(3.0, 8.0), failing=20, battery=3000.0)
         plan = Plan('large', 12, 100, JOBS, 66, nature=quick, habits=Habits(backlog=16, chance=60.0), every=2.0)
         day = run(DESK, plan, 'look')
