@@ -9,15 +9,17 @@ import sys
 import unittest
 from unittest import mock
 
-from programs import ROOT, TOOLS
+from programs import ROOT, TOOLS, module, within
 from test_program import DESK, over_sockets
 
 if os.path.join(ROOT, 'examples') not in sys.path:
     sys.path.insert(0, os.path.join(ROOT, 'examples'))
 assert TOOLS in sys.path
 
+from simulation.day import TIME_OVER, Day  # noqa: E402
 from simulation.plan import CALM, Habits, Line, Nature, Plan, Trouble  # noqa: E402
 from simulation.plant import Plant  # noqa: E402
+from simulation.reasons import BY_DISPATCHER, BY_PERSON  # noqa: E402
 from simulation.truth import Wrong  # noqa: E402
 from simulation.vehicles import Vehicle  # noqa: E402
 from simulation.words import run, told  # noqa: E402
@@ -131,6 +133,32 @@ class Demo(unittest.TestCase):
         self.assertEqual(done.returncode, 0, done.stdout + done.stderr)
         self.assertRegex(done.stdout, r'(?m)^\d\d:\d\d:\d\d KIT/\d+: takes job-1 ')
         self.assertRegex(done.stdout, r'(?m)^[12] jobs done and [01] stopped, in ')
+
+
+class TheBench(unittest.TestCase):
+    """`bench/day` over runs of an hour that are made up: in two days 9 jobs are done, and in the calm runs as many as are named."""
+
+    def bench(self, ours, theirs, second=None):
+        def run(_, plan, kind, say):
+            if plan.limit == 7200.0:
+                return Day(3600.0, done=ours if kind == 'look' else theirs, stands=TIME_OVER)
+            if plan.seed == 2 and isinstance(second, Wrong):
+                raise second
+            return Day(3600.0, done=9, stopped={'a': BY_DISPATCHER, 'b': BY_PERSON}, stands=second if plan.seed == 2 else None)
+
+        program = module('day', 'bench')
+        with mock.patch.multiple(program, run=run, end_by_signal=lambda: None):
+            return within(program, '--program', sys.executable, '--seeds', '1', '2')[:2]
+
+    def test_its_status(self):
+        for ours, theirs, second, status in ((5, 4, None, 0), (5, 5, None, 1), (4, 5, None, 1), (5, 4, TIME_OVER, 1), (5, 4, Wrong('so'), 1)):
+            with self.subTest((ours, theirs, second)):
+                self.assertEqual(self.bench(ours, theirs, second)[0], status)
+
+    def test_its_rows(self):
+        """Each is printed when its run ends, and all at the end."""
+        row = '| day, seed 1 | 9 | 2 | 1 | 9 | 0 % | 0 s | 1.0 | 0 s |\n'
+        self.assertEqual([self.bench(5, 4, second)[1].count(row) for second in (None, Wrong('so'))], [2, 1])
 
 
 if __name__ == '__main__':
