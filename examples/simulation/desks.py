@@ -20,7 +20,7 @@ from .truth import Wrong
 # How many seconds the desk of a plant has for an answer: a busy machine is no fault.
 PATIENCE = 120.0
 
-# How the desk of a plant may end before the plant does: by the signals that a supervisor and a kill send.
+# A desk that was sent a signal ends with one of these. With any other status it has ended by itself.
 SENT = -signal.SIGKILL, -signal.SIGTERM
 
 LENGTH = re.compile(rb'\r\nContent-Length: (\d+)')
