@@ -385,8 +385,8 @@ class Dispatcher:
     def _why_none_free(self, seen: Snapshot, now: float) -> str:
         """Why each vehicle without an order is of no use."""
         vehicles = sorted(seen.vehicles.values(), key=lambda one: natural(one.name))
-        free = [one for one in vehicles if one.order is None and self._memory[one.name].order is None]
-        found = ['%s %s' % (one.name, self._out_of_use(one, now) or 'was refused its order') for one in free]
+        without = [one for one in vehicles if one.order is None and self._memory[one.name].order is None]
+        found = ['%s %s' % (one.name, self._out_of_use(one, now) or 'was refused its order') for one in without]
         return '; '.join(found) or 'each has an order'
 
 
