@@ -1,13 +1,16 @@
 """What the dispatcher says, over the built program: how orders end, who does not go on and why, faults; and its words."""
 import os
+import re
+import shlex
 import signal
 import subprocess
 import sys
+import tempfile
 import unittest
 from unittest import mock
 
 from dispatching import LAYOUT, ONE, TWO, OverADesk
-from programs import TOOLS, module, ran, within
+from programs import ROOT, TOOLS, module, ran, within
 from test_program import over_sockets
 
 from nulvrader.client import Answer, Desk, Refused
@@ -301,6 +304,52 @@ class Lines(OverADesk):
         status, _, said = ran('dispatch', '--desk', self.address, '--layout', layout)
         self.assertEqual(status, 2)
         self.assertIn('is not the layout of the desk: station A', said)
+
+
+def text_of(*path):
+    with open(os.path.join(ROOT, *path)) as file:
+        return file.read()
+
+
+class Unit(unittest.TestCase):
+    """The service of systemd, as docs/OPERATE.md installs it."""
+
+    def setUp(self):
+        self.unit, self.page = text_of('examples', 'systemd', 'dispatch.service'), text_of('docs', 'OPERATE.md')
+        program, *words = shlex.split(self.said('ExecStart'))
+        self.assertEqual(program, '/opt/desk/tools/dispatch')
+        self.options = dict(zip(words[::2], words[1::2], strict=True))
+
+    def said(self, name):
+        return re.search('^%s=(.*)$' % name, self.unit, re.M).group(1)
+
+    def test_its_files(self):
+        """The desk is that of the other unit, the layout is where the page installs it, and the notes are in the unit's own folder."""
+        port = re.search(r' --port (\d+) ', text_of('examples', 'systemd', 'desk.service')).group(1)
+        folder, file = os.path.split(self.options['--layout'])
+        self.assertEqual(self.options['--desk'], '127.0.0.1:' + port)
+        self.assertIn('\ninstall -d %s && install -m 644 %s %s/%s\n' % (folder, file, folder, file), self.page)
+        self.assertEqual(os.path.dirname(self.options['--notes']), '/var/lib/' + self.said('StateDirectory'))
+        for line in ('install -m 644 examples/systemd/dispatch.service /etc/systemd/system/', 'systemctl enable --now dispatch.service'):
+            self.assertIn('\n%s\n' % line, self.page)
+
+    def test_its_line(self):
+        """It is taken, over files here, and waits for a desk where none listens. Without a layout it ends as the unit is not to restart."""
+        with tempfile.TemporaryDirectory() as folder:
+            layout = os.path.join(folder, 'layout.csv')
+            here = {'--desk': '127.0.0.1:1', '--layout': layout, '--notes': os.path.join(folder, 'notes')}
+            self.assertEqual(here.keys(), self.options.keys())
+            words = [word for option in self.options for word in (option, here[option])]
+            self.assertEqual(ran('dispatch', *words)[0], int(self.said('RestartPreventExitStatus')))
+            with open(layout, 'wb') as file:
+                file.write(LAYOUT)
+            with subprocess.Popen([sys.executable, os.path.join(TOOLS, 'dispatch'), *words], stdout=subprocess.PIPE, text=True) as process:
+                try:
+                    line = process.stdout.readline()
+                finally:
+                    process.terminate()
+                self.assertEqual(process.wait(300), 0)
+        self.assertRegex(line, r'^\d\d:\d\d:\d\d waits for the desk: ')
 
 
 if __name__ == '__main__':

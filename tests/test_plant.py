@@ -1,33 +1,27 @@
 """The simulated plant over the built program: a part of a day, in which the desk, the dispatcher and gateways are killed and people
 cancel, count and carry; a small one with a dispatcher that does not look, in which vehicles come to wait for each other; and one that
-releases whole ways, which does less. And what the plant calls wrong. PLANT_JOBS sets the jobs of the part of a day."""
-import contextlib
+releases whole ways, which does less. And runs that end since something is wrong in them; test_plant_parts has the plant's parts
+without a desk. PLANT_JOBS sets the jobs of the part of a day."""
 import dataclasses
 import os
-import random
 import subprocess
 import sys
 import unittest
 from unittest import mock
 
-from programs import ROOT, TOOLS
+from programs import ROOT, TOOLS, module, within
 from test_program import DESK, over_sockets
 
 if os.path.join(ROOT, 'examples') not in sys.path:
     sys.path.insert(0, os.path.join(ROOT, 'examples'))
 assert TOOLS in sys.path
 
-from nulvrader.client import NoAnswer, Refused, Stop  # noqa: E402
-from nulvrader.names import VehicleKey  # noqa: E402
-from nulvrader.questions import Wait  # noqa: E402
-from simulation.clock import Clock  # noqa: E402
-from simulation.floors import FLOORS  # noqa: E402
+from simulation.day import TIME_OVER, Day  # noqa: E402
 from simulation.plan import CALM, Habits, Line, Nature, Plan, Trouble  # noqa: E402
 from simulation.plant import Plant  # noqa: E402
-from simulation.reasons import BY_PERSON, Killed, Reasons  # noqa: E402
-from simulation.truth import Given, Goods, Track, Wrong  # noqa: E402
+from simulation.reasons import BY_DISPATCHER, BY_PERSON  # noqa: E402
+from simulation.truth import Wrong  # noqa: E402
 from simulation.vehicles import Vehicle  # noqa: E402
-from simulation.watch import Circles, circles  # noqa: E402
 from simulation.words import run, told  # noqa: E402
 
 JOBS = int(os.environ.get('PLANT_JOBS', '200'))
@@ -43,8 +37,8 @@ CIRCLE = r'^a circle from \d+ s on, for 1[23]\d s: (KIT/\d+ waits at \S+ for (no
 @over_sockets
 class APartOfADay(unittest.TestCase):
     def test_all_goes_wrong_that_can(self):
-        """Each job is done, or stopped for a reason; the file is lawful; nothing collided, and nothing stands: else the run itself
-        ends with a fault."""
+        """Each job is done, or stopped for a reason; the file is lawful; nothing collided: else the run itself ends with a fault. And
+        nothing stands."""
         quick = Nature(speed=2.5, action=(3.0, 8.0), failing=20, battery=3000.0)
         plan = Plan('large', 12, 100, JOBS, 66, nature=quick, habits=Habits(backlog=16, chance=60.0), every=2.0)
         day = run(DESK, plan, 'look')
@@ -141,249 +135,30 @@ class Demo(unittest.TestCase):
         self.assertRegex(done.stdout, r'(?m)^[12] jobs done and [01] stopped, in ')
 
 
-class WhatIsWrong(unittest.TestCase):
-    """What the plant ends at. On the small floor N00 and N01 follow one another, and a siding leads from N00 to the bay N00b."""
+class TheBench(unittest.TestCase):
+    """`bench/day` over runs of an hour that are made up: in two days 9 jobs are done, and in the calm runs as many as are named."""
 
-    def setUp(self):
-        self.track = Track(FLOORS['small']().layout().edges)
-        self.track.put('a', 'N00')
+    def bench(self, ours, theirs, second=None):
+        def run(_, plan, kind, say):
+            if plan.limit == 7200.0:
+                return Day(3600.0, done=ours if kind == 'look' else theirs, stands=TIME_OVER)
+            if plan.seed == 2 and isinstance(second, Wrong):
+                raise second
+            return Day(3600.0, done=9, stopped={'a': BY_DISPATCHER, 'b': BY_PERSON}, stands=second if plan.seed == 2 else None)
 
-    def wrong(self, text, call, *words):
-        with self.assertRaisesRegex(Wrong, text):
-            call(*words)
+        program = module('day', 'bench')
+        with mock.patch.multiple(program, run=run, end_by_signal=lambda: None):
+            return within(program, '--program', sys.executable, '--seeds', '1', '2')[:2]
 
-    def test_two_on_a_node(self):
-        self.wrong('a and b are on the node N00', self.track.put, 'b', 'N00')
-        self.track.put('b', 'N01')
-        self.track.leave('a', 'N00.N01')
-        self.wrong('b and a are on the node N01', self.track.arrive, 'a')
+    def test_its_status(self):
+        for ours, theirs, second, status in ((5, 4, None, 0), (5, 5, None, 1), (4, 5, None, 1), (5, 4, TIME_OVER, 1), (5, 4, Wrong('so'), 1)):
+            with self.subTest((ours, theirs, second)):
+                self.assertEqual(self.bench(ours, theirs, second)[0], status)
 
-    def test_two_on_an_edge(self):
-        """From both of its ends; and the node behind a vehicle is taken until it has arrived."""
-        self.track.put('b', 'N00b')
-        self.track.leave('a', 'N00.N00b')
-        self.wrong('a and b are on the edge', self.track.leave, 'b', 'N00b.N00')
-        self.wrong('a and c are on the node N00', self.track.put, 'c', 'N00')
-
-    def test_an_edge_from_elsewhere(self):
-        self.wrong('a drives along N01.N02, and is at N00', self.track.leave, 'a', 'N01.N02')
-
-    def test_what_may_be(self):
-        self.track.put('b', 'N01')
-        self.track.leave('b', 'N01.N02')
-        self.track.arrive('b')
-        self.track.leave('a', 'N00.N01')
-        self.assertEqual(self.track.arrive('a'), 'N01')
-        self.track.put('c', 'N00')
-        self.assertEqual(self.track.nodes, {'N02': 'b', 'N01': 'a', 'N00': 'c'})
-
-    def test_loads(self):
-        goods = Goods()
-        goods.add('load', 'station A')
-        self.wrong('load is taken from station B', goods.move, 'load', 'station B', 'vehicle KIT/0001')
-        goods.move('load', 'station A', 'vehicle KIT/0001')
-        self.assertEqual(goods.places(), {'load': 'vehicle KIT/0001'})
-        goods.room['station B'] = 1
-        goods.move('load', 'vehicle KIT/0001', 'station B')
-        self.wrong('other is put to station B, which has 2 loads then and room for 1', goods.add, 'other', 'station B')
-        goods.here['station B'].remove('other')
-        goods.move('load', 'station B', 'vehicle KIT/0001')
-        goods.add('load', 'station A')
-        self.wrong('load is at (vehicle KIT/0001 and at station A|station A and at vehicle KIT/0001)', goods.places)
-
-    def test_track_that_was_not_given(self):
-        given = Given()
-        edges = [{'edgeId': 'N00.N01', 'sequenceId': 1, 'released': True}, {'edgeId': 'N01.N02', 'sequenceId': 3, 'released': False}]
-        given.note('a', {'orderId': 'one', 'edges': edges, 'nodes': []})
-        given.check('a', 'one', 1, 'N00.N01')
-        self.wrong('was not given', given.check, 'a', 'one', 3, 'N01.N02')
-        self.wrong('was not given', given.check, 'a', 'one', 1, 'N01.N02')
-        self.wrong('was not given', given.check, 'a', 'two', 1, 'N00.N01')
-        self.wrong('was not given', given.check, 'b', 'one', 1, 'N00.N01')
-        given.take_back('a', 'two')
-        given.check('a', 'one', 1, 'N00.N01')
-        given.take_back('a', 'one')
-        given.note('a', {'orderId': 'one', 'edges': edges, 'nodes': []})
-        self.wrong('was not given', given.check, 'a', 'one', 1, 'N00.N01')
-
-
-class AVehicle(unittest.TestCase):
-    """One at N00, which has an order to pick L there and to put it down at the end of an edge."""
-
-    def setUp(self):
-        floor = FLOORS['small']()
-        self.clock, self.goods, self.given, self.failed = Clock(), Goods(), Given(), set()
-        key = VehicleKey('KIT', 'a')
-        self.vehicle = Vehicle(
-            key, 'N00', self.clock, Track(floor.layout().edges), self.goods, self.given, self.failed, floor.metres, Nature(failing=0),
-            random.Random(1), lambda: None,
-        )
-        nodes = [
-            {'nodeId': node, 'sequenceId': 2 * n, 'released': True, 'actions': [action('o.%d' % n, kind, 'L', node + 's')]}
-            for n, (node, kind) in enumerate((('N00', 'pick'), ('N01', 'drop')))
-        ]
-        edges = [{'edgeId': 'N00.N01', 'sequenceId': 1, 'released': True}]
-        self.message = message = {'headerId': 0, 'orderId': 'o', 'orderUpdateId': 0, 'nodes': nodes, 'edges': edges}
-        self.given.note('KIT/a', message)
-        self.vehicle.take_order(message)
-
-    def run_all(self):
-        self.clock.run(lambda: False)
-
-    def test_a_load_that_is_not_there(self):
-        with self.assertRaisesRegex(Wrong, '^KIT/a is to pick L at N00s, which is not there$'):
-            self.run_all()
-
-    def test_a_load_that_others_have_moved(self):
-        """Where others tell the desk of loads too it is a pick that fails."""
-        self.goods.alone = False
-        self.run_all()
-        self.assertEqual(self.failed, {'o.0', 'o.1'})
-
-    def test_a_restart(self):
-        """It comes where the vehicle does nothing and the desk knows all, as here in a pause behind the pick. With it the order is lost."""
-        self.goods.add('L', 'station N00s')
-        self.vehicle.take_instant({'headerId': 0, 'actions': [{'actionId': 'p', 'actionType': 'startPause'}]})
-        self.assertFalse(self.vehicle.may_restart())
-        self.run_all()
-        self.assertFalse(self.vehicle.may_restart())
-        self.vehicle.posted = self.vehicle.state()['headerId']
-        self.assertTrue(self.vehicle.may_restart())
-        self.vehicle.restart()
-        self.vehicle.take_order({**self.message, 'headerId': 1})
-        state = self.vehicle.state()
-        self.assertEqual((state['headerId'], state['orderId'], state['lastNodeId'], state['actionStates']), (1, '', 'N00', []))
-        self.assertFalse(self.vehicle.goes_on())
-
-    def test_a_load_that_is(self):
-        """Its track is its own until the order has ended. What it does is told by a state of after that."""
-        self.goods.add('L', 'station N00s')
-        self.given.check('KIT/a', 'o', 1, 'N00.N01')
-        self.assertEqual(self.vehicle.open_loads(), {'L'})
-        self.vehicle.posted = self.vehicle.state()['headerId']
-        self.assertTrue(self.vehicle.has_told('L'))
-        self.run_all()
-        self.assertEqual(self.goods.places(), {'L': 'station N01s'})
-        self.assertEqual((self.goods.drops, self.failed, self.vehicle.open_loads()), ({'o.1': ('L', 'N01s')}, set(), set()))
-        with self.assertRaisesRegex(Wrong, 'was not given'):
-            self.given.check('KIT/a', 'o', 1, 'N00.N01')
-        self.assertFalse(self.vehicle.has_told('L'))
-        self.vehicle.posted = self.vehicle.state()['headerId']
-        self.assertTrue(self.vehicle.has_told('L'))
-
-    def test_an_order_that_is_cancelled(self):
-        self.vehicle.take_instant({'headerId': 0, 'actions': [{'actionId': 'c', 'actionType': 'cancelOrder'}]})
-        with self.assertRaisesRegex(Wrong, 'was not given'):
-            self.given.check('KIT/a', 'o', 1, 'N00.N01')
-        self.assertEqual(self.vehicle.open_loads(), set())
-
-
-def action(name, kind, load, station):
-    said = {'loadId': load, 'stationName': station}
-    return {'actionId': name, 'actionType': kind, 'actionParameters': [{'key': key, 'value': value} for key, value in said.items()]}
-
-
-class WhyAJobIsStopped(unittest.TestCase):
-    """The order o1 has two jobs, and o2 one of them again."""
-
-    def setUp(self):
-        self.reasons = Reasons()
-        self.reasons.give('o1', [Stop('pick', 'j1'), Stop('pick', 'j2'), Stop('drop', 'j2'), Stop('drop', 'j1')])
-        self.reasons.give('o2', [Stop('pick', 'j3'), Stop('drop', 'j3')])
-
-    def none(self, job):
-        with self.assertRaisesRegex(Wrong, '^%s is stopped, and nobody has a reason$' % job):
-            self.reasons.why_stopped(job)
-
-    def test_its_own_action(self):
-        self.reasons.failed.add('o1.2')
-        self.assertEqual(self.reasons.why_stopped('j2'), 'an action of it failed')
-        self.none('j1')
-
-    def test_its_order(self):
-        """A call whose answer is lost may have been carried out; one that is refused was not."""
-        refused = Refused('NoOrder', 1, 409, {}, '', '')
-        for fault, is_kept in ((None, True), (NoAnswer('', True), True), (Killed(True), True), (NoAnswer('', False), False),
-                               (Killed(False), False), (refused, False)):
-            self.setUp()
-            self.cancel(fault)
-            for job in ('j1', 'j2'):
-                if is_kept:
-                    self.assertEqual(self.reasons.why_stopped(job), BY_PERSON)
-                else:
-                    self.none(job)
-            self.none('j3')
-            self.cancel(refused)
-            self.assertEqual('o1' in self.reasons.orders, is_kept)
-
-    def cancel(self, fault):
-        with contextlib.suppress(Refused, NoAnswer, Killed), self.reasons.noted(self.reasons.orders, 'o1', BY_PERSON):
-            if fault is not None:
-                raise fault
-
-    def test_done(self):
-        goods = Goods()
-        goods.drops['o1.3'] = 'L1', 'A'
-        self.reasons.check_done('j1', 'L1', 'A', goods)
-        for job, load, target in (('j1', 'L1', 'B'), ('j1', 'L2', 'A'), ('j2', 'L1', 'A'), ('j4', 'L1', 'A')):
-            with self.assertRaisesRegex(Wrong, '^%s is done, and no vehicle has put %s down at %s for it$' % (job, load, target)):
-                self.reasons.check_done(job, load, target, goods)
-
-
-class WaitsInCircles(unittest.TestCase):
-    """At first a waits for b, b for c and c for b."""
-
-    A, B, C = (VehicleKey('KIT', name) for name in 'abc')
-
-    def setUp(self):
-        self.circles = Circles(120.0)
-        self.b, self.c = Wait(self.B, 'o2', 'N2', 'node N3', self.C, True), Wait(self.C, 'o3', 'N3', 'edge E', self.B, True)
-        self.waits = [Wait(self.A, 'o1', 'N1', 'node N2', self.B, False), self.b, self.c]
-
-    def look(self, now, excused=()):
-        self.circles.look(self.waits, excused, now)
-
-    def test_one_that_lasts(self):
-        """KIT/a is not in it."""
-        self.look(10.0, ['KIT/a'])
-        self.look(130.0)
-        told = 'KIT/b waits at N2 for node N3, which KIT/c holds; KIT/c waits at N3 for edge E, which KIT/b holds'
-        with self.assertRaisesRegex(Wrong, '^a circle from 10 s on, for 121 s: %s$' % told):
-            self.look(131.0)
-
-    def test_one_that_is_excused(self):
-        """As long as one in it is paused; then its time begins."""
-        self.look(0.0)
-        self.look(100.0, ['KIT/c'])
-        self.look(110.0)
-        self.look(230.0)
-        self.assertEqual(self.circles.longest, 120.0)
-        with self.assertRaises(Wrong):
-            self.look(231.0)
-
-    def test_one_that_ends(self):
-        """Between the two c does not wait, so b does not wait for itself."""
-        self.look(0.0)
-        self.waits = [self.waits[0], dataclasses.replace(self.b, in_circle=False)]
-        self.look(100.0)
-        self.waits = [self.b, self.c]
-        self.look(110.0)
-        self.look(230.0)
-        self.assertEqual(self.circles.longest, 120.0)
-
-    def test_two(self):
-        d, e = (VehicleKey('KIT', name) for name in 'de')
-        others = [Wait(e, 'o5', 'N5', 'node N4', d, True), Wait(d, 'o4', 'N4', 'node N5', e, True)]
-        self.assertEqual(circles([*self.waits, *others]), [(self.b, self.c), tuple(others[::-1])])
-
-
-class TheFloors(unittest.TestCase):
-    def test_each_node_leads_to_each(self):
-        for name, make in FLOORS.items():
-            layout = make().layout()
-            for target in layout.nodes:
-                self.assertEqual(len(layout.distances(target)), len(layout.nodes), (name, target))
-            self.assertLess(len(layout.csv()), 65536)
+    def test_its_rows(self):
+        """Each is printed when its run ends, and all at the end."""
+        row = '| day, seed 1 | 9 | 2 | 1 | 9 | 0 % | 0 s | 1.0 | 0 s |\n'
+        self.assertEqual([self.bench(5, 4, second)[1].count(row) for second in (None, Wrong('so'))], [2, 1])
 
 
 if __name__ == '__main__':

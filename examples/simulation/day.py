@@ -5,7 +5,7 @@ from collections import Counter
 from dataclasses import dataclass, field
 
 LONG = 300.0
-"""A wait of more seconds is kept with its reason."""
+"""A wait of more seconds is kept with its reason; so is the longest, however long it is."""
 
 TIME_OVER = 'the time was over'
 """Why a plant stands that has only run as long as it was to."""
@@ -27,6 +27,10 @@ class Day:
     circle: float = 0.0  # how long vehicles waited for each other at most
     counts: Counter[str] = field(default_factory=Counter)
 
+    def stopped_for(self, why: str) -> int:
+        """How many jobs were stopped for this reason."""
+        return sum(1 for told in self.stopped.values() if told == why)
+
     def per_hour(self) -> float:
         return self.done * 3600 / self.seconds
 
@@ -36,11 +40,12 @@ class Day:
 
     def has_waited(self, vehicle: str, since: float, now: float, why: str) -> None:
         """A vehicle with an order still waits, and that is why."""
-        self.longest = max(self.longest, now - since)
-        if now - since > LONG:
+        if now - since > min(LONG, self.longest):
             self.long[vehicle, since] = now - since, why
+        self.longest = max(self.longest, now - since)
 
     def longest_waits(self, count: int = 5) -> list[str]:
-        """The longest of the waits that were kept, in lines."""
+        """The longest wait and why it was, in lines, and the next of those that were long."""
         rows = sorted(self.long.items(), key=lambda row: -row[1][0])[:count]
+        rows = [row for row in rows if row[1][0] >= min(LONG, self.longest)]
         return ['%s waited for %.0f s from %.0f s on: %s' % (vehicle, seconds, since, why) for (vehicle, since), (seconds, why) in rows]

@@ -6,6 +6,7 @@ import contextlib
 import os
 import random
 import re
+import signal
 import socket
 import subprocess
 import threading
@@ -18,6 +19,9 @@ from .truth import Wrong
 
 # How many seconds the desk of a plant has for an answer: a busy machine is no fault.
 PATIENCE = 120.0
+
+# A desk that was sent a signal ends with one of these. With any other status it has ended by itself.
+SENT = -signal.SIGKILL, -signal.SIGTERM
 
 LENGTH = re.compile(rb'\r\nContent-Length: (\d+)')
 
@@ -110,10 +114,15 @@ class Served:
         self.starts += 1
 
     def supervise(self) -> None:
-        """Starts it again where it has ended."""
-        if self.process is not None and self.process.poll() is not None:
-            self._close()
-            self.start()
+        """Starts it again where it was killed. That it has ended by itself is wrong."""
+        status = self.process.poll() if self.process is not None else None
+        if self.process is None or status is None:
+            return
+        assert self.process.stderr is not None
+        if status not in SENT:
+            raise Wrong('the desk ended by itself: status %d, and it said: %s' % (status, self.process.stderr.read().strip()))
+        self._close()
+        self.start()
 
     def kill_soon(self, chance: random.Random) -> None:
         """Kills it within some milliseconds, whatever it does then."""

@@ -1,5 +1,6 @@
 """The people of a simulated plant. They add jobs, and now and then cancel an order, take a job back, count, and move a load by hand.
-They also put right what needs hands: a vehicle that left its order, a load on a vehicle without an order, a vehicle in the way."""
+They also put right what needs hands: a vehicle that left its order, a load on a vehicle without an order, a vehicle in the way. They
+drive a vehicle to where no order leads, as people look first."""
 from __future__ import annotations
 
 import functools
@@ -250,7 +251,7 @@ class People:
             self.counts['loads taken off vehicles'] += 1
 
     def take_over(self, vehicle: Vehicle, elsewhere: bool) -> None:
-        """Takes a vehicle into a person's hands, and places it, where it stands or at a free node."""
+        """Takes a vehicle into a person's hands, and places it, where it stands or at a free node where no order leads."""
         vehicle.by_hand = True
         vehicle.tell()
         self.clock.after(12, lambda: self.place(vehicle, elsewhere, self.reference()))
@@ -301,7 +302,8 @@ class People:
         self.clock.after(15, lambda: self.give_back(vehicle))
 
     def free_node(self) -> str | None:
-        """The node of a station which nobody holds, and where no vehicle is; one that no order leads to, if there is one."""
+        """The node of a station which nobody holds, where no vehicle is, and where no order leads, as people look first. Only if there
+        is no such node it is one where an order leads."""
         held = read_holds(self.desk.hold_report()).nodes
         nodes = {station.node for station in self.layout.stations.values()}
         free = sorted(node for node in nodes if node not in held and node not in self.track.nodes)

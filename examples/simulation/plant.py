@@ -6,13 +6,14 @@ import random
 import re
 import sqlite3
 import time
+from collections import Counter
 from collections.abc import Callable, Mapping
 from typing import Protocol
 
 from nulvrader.client import Desk, NoAnswer
 from nulvrader.names import VehicleKey
 from nulvrader.questions import who_waits
-from nulvrader.reports import read_holds, read_loads, read_stock
+from nulvrader.reports import Stock, read_holds, read_loads, read_stock
 
 from .clock import Clock
 from .day import TIME_OVER, Day
@@ -235,7 +236,7 @@ class Plant:
         self.look_for_shared_loads()
         try:
             holds = read_holds(self.desk.hold_report())
-            self.compare_places(read_stock(self.desk.stock_report()).places())
+            self.compare_places(read_stock(self.desk.stock_report()))
         except NoAnswer:
             return
         for name, node in self.track.at.items():
@@ -256,9 +257,16 @@ class Plant:
                     raise Wrong('%s is in an order of %s and in one of %s' % (load, found[load], name))
                 found[load] = name
 
-    def compare_places(self, told: Mapping[str, str]) -> None:
-        """The desk has each load where it is, but for those whose last move it has not been told."""
-        for load, place in self.goods.places().items():
+    def compare_places(self, stock: Stock) -> None:
+        """The desk has each load once, and where it is, but for those whose last move it has not been told."""
+        told, true, count = stock.places(), self.goods.places(), Counter(stock.loads())
+        twice = sorted(load for load, times in count.items() if times > 1)
+        if twice:
+            raise Wrong('the desk has %s in more than one place' % ', '.join(twice))
+        strange = sorted(told.keys() - true.keys())
+        if strange and self.goods.alone:
+            raise Wrong('the desk has %s, which is nowhere' % ', '.join(strange))
+        for load, place in true.items():
             is_told = self.goods.alone and load not in self.people.carried and all(vehicle.has_told(load) for vehicle in self.vehicles.values())
             if is_told and told.get(load) != place:
                 raise Wrong('%s is at %s, and the desk has it at %s' % (load, place, told.get(load)))
@@ -303,6 +311,7 @@ class Plant:
         if told != true:
             differ = sorted(load for load in told.keys() | true.keys() if told.get(load) != true.get(load))
             raise Wrong('; '.join('%s is at %s, and the desk has it at %s' % (load, true.get(load), told.get(load)) for load in differ[:5]))
+        self.compare_places(read_stock(self.desk.stock_report()))
         for name, vehicle in self.vehicles.items():
             if name in self.track.at and self.desk.vehicle(vehicle.key).node != vehicle.node:
                 raise Wrong('%s is at %s, and the desk has it at %s' % (name, vehicle.node, self.desk.vehicle(vehicle.key).node))
@@ -323,6 +332,8 @@ class Plant:
                 self.day.stopped[job] = self.reasons.why_stopped(job)
             elif phase == 'done':
                 self.reasons.check_done(job, load, target, self.goods)
+            elif self.day.stands is None:
+                raise Wrong('all jobs had ended, and %s is %s' % (job, phase))
         self.day.circle = self.circles.longest
         self.day.counts.update(self.people.counts)
         self.day.counts['starts of the desk'] = self.served.starts

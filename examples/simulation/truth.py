@@ -1,5 +1,5 @@
 """What is truly where: each vehicle on a node or an edge, each load at a place. What may not be is a `Wrong`, at the moment at which
-it is so."""
+it is so; a load in two places is one when the places of all loads are asked for next."""
 from __future__ import annotations
 
 from collections.abc import Mapping

@@ -41,6 +41,7 @@ class Vehicle:
         self.nodes: dict[int, dict[str, Any]] = {}  # of its order, by sequenceId
         self.edges: dict[int, dict[str, Any]] = {}
         self.statuses: dict[str, str] = {}
+        self.missed: set[str] = set()  # the loads whose pick in its order has failed
         self.instant: tuple[str, str] | None = None  # the last instant action and its status
         self.order_header = self.instant_header = -1  # of the last messages that it took
         self.header = 0
@@ -71,7 +72,7 @@ class Vehicle:
         if message['orderId'] != self.order:
             if not self.is_done() or self.cancelling is not None or message['nodes'][0]['nodeId'] != self.node or self.node_is_left():
                 return
-            self.nodes, self.edges, self.statuses, self.sequence = {}, {}, {}, 0
+            self.nodes, self.edges, self.statuses, self.missed, self.sequence = {}, {}, {}, set(), 0
         self.order_header = message['headerId']
         self.order, self.update = message['orderId'], message['orderUpdateId']
         for node in message['nodes']:
@@ -130,7 +131,7 @@ class Vehicle:
         return all(at <= self.sequence for at in self.nodes) and all(status in OVER for status in self.statuses.values())
 
     def goes_on(self) -> bool:
-        """Whether it is ready, is not paused, and the desk hears its states."""
+        """Whether it is ready and is not paused; whether the desk hears its states is not looked at here."""
         return not (self.paused or self.in_service or self.by_hand or self.restarted is not None)
 
     def is_acting(self) -> bool:
@@ -210,19 +211,22 @@ class Vehicle:
         self.later(self.chance.uniform(*self.nature.action), lambda: self.finish(action))
 
     def finish(self, action: dict[str, Any]) -> None:
-        """Ends a pick or a drop, which fails at times, and a drop where the pick has failed. That a load is not where it is to be picked
-        is wrong."""
+        """Ends a pick or a drop, each of which fails at times. A load that is not where it is to be picked is wrong. So is one that is to
+        be put down and is not on the vehicle, but where its pick in this order has failed: then the drop fails too."""
         name, said = action['actionId'], _said(action)
         load, station = said['loadId'], said['stationName']
         places = ['station ' + station, 'vehicle ' + self.name]
         is_pick = action['actionType'] == 'pick'
         start, finish = places if is_pick else places[::-1]
         is_there = self.goods.has(load, start)
-        if is_pick and self.goods.alone and not is_there:
-            raise Wrong('%s is to pick %s at %s, which is not there' % (self.name, load, station))
+        if self.goods.alone and not is_there and (is_pick or load not in self.missed):
+            told = '%s is to pick %s at %s, which is not there' if is_pick else '%s is to put down %s at %s, and does not carry it'
+            raise Wrong(told % (self.name, load, station))
         if self.chance.randrange(1000) < self.nature.failing or not is_there:
             self.statuses[name] = 'FAILED'
             self.failed.add(name)
+            if is_pick:
+                self.missed.add(load)
         else:
             self.goods.move(load, start, finish)
             self.moved[load] = self.header
@@ -250,7 +254,7 @@ class Vehicle:
         """A person clears the order on it."""
         self.stop()
         self.drop_order()
-        self.nodes, self.edges, self.statuses, self.sequence = {}, {}, {}, 0
+        self.nodes, self.edges, self.statuses, self.missed, self.sequence = {}, {}, {}, set(), 0
         self.order, self.update, self.cancelling = '', 0, None
         self.instant = None
 

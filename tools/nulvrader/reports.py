@@ -41,6 +41,11 @@ class Stock:
         found |= {load: 'checking' for load in self.checking}
         return found | {load: 'vehicle %s' % key for key, loads in self.vehicles.items() for load in loads}
 
+    def loads(self) -> list[str]:
+        """Each load that has not left, as often as the report has it."""
+        lists = [*(station.loads for station in self.stations.values()), self.checking, *self.vehicles.values()]
+        return [load for loads in lists for load in loads]
+
     def live_jobs(self) -> int:
         """How many live jobs there are: each keeps a place at its target."""
         return sum(station.reserved for station in self.stations.values())

@@ -1,7 +1,7 @@
 """The dispatcher: in each turn it looks at the desk, releases what may be released, and gives orders for jobs that wait.
 
-All that it needs is in the desk. What it remembers from turn to turn, how long a vehicle has waited or when it was last heard, is for its
-lines and for the turn in which vehicles are served; after a start it begins anew. Its notes have what the desk does not tell of jobs."""
+The desk tells it what it needs, but not which waiting job leads where, nor since when each waits: its notes do, and after a start without
+notes it may not know that. What it remembers of vehicles, as how long one has waited or when it was last heard, begins anew with a start."""
 from __future__ import annotations
 
 import re
@@ -316,8 +316,8 @@ class Dispatcher:
 
     def _untangle(self, seen: Snapshot, traffic: Traffic, now: float) -> None:
         """Where vehicles with orders shut one another in, cancels an order of these that has not left its first node: at once where
-        nothing moves, else where it has been so for a while. It comes to that by orders alone whose targets were not known when they
-        were given."""
+        nothing moves, else where it has been so for a while. It comes to that by orders whose targets were not known when they were
+        given, and by people who place a vehicle in a dead end."""
         shut_in = traffic.ways.keys() - self.judge.finish_later(traffic)
         for name, memory in self._memory.items():
             memory.shut_in = None if name not in shut_in else now if memory.shut_in is None else memory.shut_in
@@ -385,11 +385,8 @@ class Dispatcher:
     def _why_none_free(self, seen: Snapshot, now: float) -> str:
         """Why each vehicle without an order is of no use."""
         vehicles = sorted(seen.vehicles.values(), key=lambda one: natural(one.name))
-        found = [
-            '%s %s' % (one.name, self._out_of_use(one, now) or 'was refused its order')
-            for one in vehicles
-            if one.order is None and self._memory[one.name].order is None
-        ]
+        without = [one for one in vehicles if one.order is None and self._memory[one.name].order is None]
+        found = ['%s %s' % (one.name, self._out_of_use(one, now) or 'was refused its order') for one in without]
         return '; '.join(found) or 'each has an order'
 
 

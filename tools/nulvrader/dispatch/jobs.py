@@ -40,8 +40,8 @@ class Waiting:
 
 
 class JobBook:
-    """The jobs that wait, the one that was seen first in front. What it knows it has from the desk, and finds again after a start; only
-    since when they wait is in the notes alone."""
+    """The jobs that wait, the one that was seen first in front. What it knows it has from the desk. After a start it finds the jobs
+    again; without notes it may not know then which of them leads where, and it does not know since when they wait."""
 
     def __init__(self, notes: str | None = None) -> None:
         self.notes = notes

@@ -17,7 +17,7 @@ Whether all can finish is NP-hard in general, so the look goes in three parts:
 
 So a yes is always right, since moves were found. A no may be wrong only where the budget was used up.
 
-Sets of nodes are whole numbers here, with a bit for each node, so that a look takes some tenths of a millisecond.
+Sets of nodes are whole numbers here, with a bit for each node, so that a look is quick.
 """
 from __future__ import annotations
 
