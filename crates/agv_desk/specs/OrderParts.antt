@@ -5,7 +5,7 @@ use Rattle.agv_header.specs.Count.{next_number}
 use Rattle.agv_header.specs.Limits.{most_records}
 use Rattle.agv_header.specs.declared.refusal.Refusal.TheVariants as refusal
 use Rattle.agv_order.specs.Plans.{planned}
-use Rattle.agv_order.specs.StopPlaces.{is_pick}
+use Rattle.agv_order.specs.StopPlaces.{stop_picks}
 use Rattle.agv_order.specs.declared.trip.Trip.{Trip}
 use Rattle.agv_stock.specs.declared.job.Job.{Job}
 use Rattle.agv_track.specs.Footprints.{footprint_of}
@@ -39,7 +39,7 @@ take_order world asked row jobs =
     (refuse_unless (list_all waits jobs) refusal.JobState
     (refuse_unless (is_none (trip_of world asked.key)) refusal.Busy
     (refuse_unless (is_none row.rest) refusal.Astray
-    (refuse_unless (nat_le (loads_on world asked.key + count_by is_pick asked.stops) row.capacity) refusal.Loaded
+    (refuse_unless (nat_le (loads_on world asked.key + count_by stop_picks asked.stops) row.capacity) refusal.Loaded
     (refuse_unless row.ready refusal.NotReady
     (refuse_unless (not (is_cancelling row.pending)) refusal.InstantPending
     (send_order world asked row jobs)))))))

@@ -13,7 +13,7 @@ use Rattle.agv_header.specs.declared.refusal.Refusal.TheVariants as refusal
 use Rattle.agv_message.specs.declared.instant.InstantKind.{InstantKind}
 use Rattle.agv_order.specs.Plans.{planned}
 use Rattle.agv_order.specs.Releases.{released}
-use Rattle.agv_order.specs.StopPlaces.{is_pick}
+use Rattle.agv_order.specs.StopPlaces.{stop_picks}
 use Rattle.agv_order.specs.Stops.{stops_fit}
 use Rattle.agv_order.specs.declared.fault.PlanFault.{PlanFault}
 use Rattle.agv_order.specs.declared.fault.PlanFault.TheVariants as fault
@@ -77,7 +77,7 @@ if_planned (Err why) rest = Refused (plan_refusal why)
 -- the job of a stop rides; each job is picked once
 abbrev pub riding_by : Stop × Job → Option (List ℕ × JobRow)
 riding_by served =
-    if is_pick served.0 then Some (served.1.name, record { load = served.1.load; origin = served.1.origin; target = served.1.target; phase = phase.Riding }) else None
+    if stop_picks served.0 then Some (served.1.name, record { load = served.1.load; origin = served.1.origin; target = served.1.target; phase = phase.Riding }) else None
 
 -- the jobs of an order ride
 abbrev pub riding : List Stop → List Job → List (List ℕ × JobRow)
@@ -116,7 +116,7 @@ start_order world asked =
     (refuse_unless (list_all waits jobs) refusal.JobState
     (refuse_unless (is_none (trip_of world asked.key)) refusal.Busy
     (refuse_unless (is_none row.rest) refusal.Astray
-    (refuse_unless (nat_le (loads_on world asked.key + count_by is_pick asked.stops) row.capacity) refusal.Loaded
+    (refuse_unless (nat_le (loads_on world asked.key + count_by stop_picks asked.stops) row.capacity) refusal.Loaded
     (refuse_unless row.ready refusal.NotReady
     (refuse_unless (not (is_cancelling row.pending)) refusal.InstantPending
     (refuse_if_none (layout_set world) refusal.NoWalk (λ layout.

@@ -1,6 +1,6 @@
 //! The jobs of an order.
 ghost use Rattle.std.specs.Prelude.{◌≡◌, ◌++◌, count_by, IfOk, OnOk, List, ℕ, map};
-ghost use Rattle.agv_order.specs.StopPlaces.{is_pick};
+ghost use Rattle.agv_order.specs.StopPlaces.{stop_picks};
 ghost use Rattle.agv_world.specs.Asks.{Asks};
 ghost use Rattle.agv_world.specs.declared.change.Change.TheVariants as row;
 ghost use Rattle.agv_world.specs.declared.row.JobRow.{JobRow as RowOf};
@@ -68,9 +68,9 @@ pub(crate) fn waits(job: &Job) -> bool
 
 /// How many loads are picked.
 pub(crate) fn count_picks(stops: &[Stop]) -> usize
-    ensures { result ≡ count_by is_pick stops.now }
+    ensures { result ≡ count_by stop_picks stops.now }
 {
-    stops.iter().filter(|stop| is_pick(stop)).count()
+    stops.iter().filter(|stop| stop_picks(stop)).count()
 }
 
 /// The jobs of an order, which ride.
@@ -93,7 +93,7 @@ pub(crate) fn riding(
 fn riding_by(stop: &Stop, job: &Job) -> Option<(Name, JobRow)>
     ensures { result ≡ riding_by (stop.now, job.now) }
 {
-    if !is_pick(stop) {
+    if !stop_picks(stop) {
         return None;
     }
     let row = JobRow {
@@ -106,8 +106,8 @@ fn riding_by(stop: &Stop, job: &Job) -> Option<(Name, JobRow)>
 }
 
 // Whether the load is picked at the stop.
-fn is_pick(stop: &Stop) -> bool
-    ensures { result ≡ is_pick stop.now }
+fn stop_picks(stop: &Stop) -> bool
+    ensures { result ≡ stop_picks stop.now }
 {
     !is_drop(stop.kind)
 }

@@ -12,7 +12,7 @@ use Rattle.agv_header.specs.Key.{key_cmp}
 use Rattle.agv_header.specs.KeyOrder.{key_cmp-total}
 use Rattle.agv_header.specs.Name.{name_cmp}
 use Rattle.agv_header.specs.declared.key.VehicleKey.{VehicleKey}
-use Rattle.agv_order.specs.StopPlaces.{is_pick}
+use Rattle.agv_order.specs.StopPlaces.{stop_picks}
 use Rattle.agv_order.specs.Stops.{is_drop, is_of, is_pick_then_drop, stops_fit}
 use Rattle.agv_order.specs.Trips.{stop_of, task_of}
 use Rattle.agv_order.specs.declared.act.Act.{Act}
@@ -45,18 +45,18 @@ pub record CarriesOneEach (maps : Maps) : Type 0 where
 
 -- stops that fit are twice as many as the picks
 abbrev pub StopsTwice : Type 0
-StopsTwice = (stops : List Stop) → IsTrue (stops_fit stops) → length stops ≡ 2 * length (filter is_pick stops)
+StopsTwice = (stops : List Stop) → IsTrue (stops_fit stops) → length stops ≡ 2 * length (filter stop_picks stops)
 
 -- ---- two stops that fit
 
 abbrev stops_of : List Act → List Stop
 stops_of acts = map stop_of (map task_of acts)
 
-picks_as_stops : (acts : List Act) → length (filter is_pick (stops_of acts)) ≡ length (filter picks acts)
+picks_as_stops : (acts : List Act) → length (filter stop_picks (stops_of acts)) ≡ length (filter picks acts)
 picks_as_stops [] = refl
 picks_as_stops (act ∷ acts) =
     let more = picks_as_stops acts in
-    elim (not (is_drop act.kind)) as (λ b. length (cond b (stop_of (task_of act) ∷ filter is_pick (stops_of acts)) (filter is_pick (stops_of acts))) ≡ length (cond b (act ∷ filter picks acts) (filter picks acts))) [
+    elim (not (is_drop act.kind)) as (λ b. length (cond b (stop_of (task_of act) ∷ filter stop_picks (stops_of acts)) (filter stop_picks (stops_of acts))) ≡ length (cond b (act ∷ filter picks acts) (filter picks acts))) [
       | true ↦ ap suc more
       | false ↦ more
     ]

@@ -13,7 +13,7 @@ use Rattle.agv_layout.specs.declared.station.Station.{Station}
 abbrev pub Name : Type 0
 Name = List ℕ
 
--- the set of the nodes, what each edge leads from and to, and where each station is and how much room it has
+-- the set of the nodes, what each edge leads from and to, where each station is, and its capacity
 pub record Layout : Type 0 where
   pub nodes : set.FinSet name_cmp
   pub edges : map.FinMap name_cmp EdgeEnds
@@ -35,12 +35,12 @@ IsStation layout id site = map.get layout.stations id ≡ Some site
 abbrev pub Leads : Layout → EdgeEnds → Type 0
 Leads layout ends = IsNode layout ends.start × IsNode layout ends.finish × (ends.start ≢ ends.finish)
 
--- a station is at a node, and has room for 1 to 999 loads
+-- a station is at a node, and its capacity is 1 to 999 loads
 abbrev pub StationFits : Layout → StationSite → Type 0
 StationFits layout site = IsNode layout site.node × (1 ≤ site.capacity) × (site.capacity ≤ 999)
 
 -- what holds of every layout: there is a node, there are at most 500 nodes, 1,500 edges and 500 stations, and each has a name;
--- edges lead from a node to another, and stations are at nodes and have room for 1 to 999 loads
+-- edges lead from a node to another, and stations are at nodes and have a capacity of 1 to 999 loads
 pub record KeepsRules (layout : Layout) : Type 0 where
   pub some : 1 ≤ set.len layout.nodes
   pub few_nodes : set.len layout.nodes ≤ 500

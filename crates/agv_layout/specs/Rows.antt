@@ -21,7 +21,7 @@ edge_in (row.Node id) = None
 edge_in (row.Edge id start finish) = Some (id, record { start = start; finish = finish })
 edge_in (row.Station id node capacity) = None
 
--- what a row says of a station: its id, and where it is with how much room
+-- what a row says of a station: its id, where it is, and its capacity
 abbrev pub station_in : LayoutRow → Option (Name × StationSite)
 station_in (row.Node id) = None
 station_in (row.Edge id start finish) = None
@@ -67,7 +67,7 @@ pub record IsEachOnce (rows : List LayoutRow) : Type 0 where
 abbrev pub LeadsAmong : List Name → EdgeEnds → Type 0
 LeadsAmong nodes ends = Contains nodes ends.start × Contains nodes ends.finish × (ends.start ≢ ends.finish)
 
--- it is at one of these nodes, and has room for 1 to 999 loads
+-- it is at one of these nodes, and its capacity is 1 to 999 loads
 abbrev pub StandsAmong : List Name → StationSite → Type 0
 StandsAmong nodes site = Contains nodes site.node × (1 ≤ site.capacity) × (site.capacity ≤ 999)
 

@@ -129,7 +129,7 @@ fn is_no_loop(ends: EdgeEnds) -> bool
     ends.start != ends.finish
 }
 
-/// Whether a station may have room for this many loads.
+/// Whether a station may have this capacity.
 fn is_capacity(capacity: u32) -> bool
     ensures { result ≡ (nat_le 1 capacity && nat_le capacity 999) }
 {

@@ -105,7 +105,7 @@ impl Layout {
         self.edges.iter()
     }
 
-    /// The stations, in the order of their names: the name of each, and where it is with how much room.
+    /// The stations, in the order of their names: the name of each, where it is, and its capacity.
     pub fn stations(&self) -> btree_map::Iter<'_, Name, StationSite>
         ensures stations { result ≡ map.entries self.now.stations }
     {

@@ -17,7 +17,7 @@ use Rattle.agv_message.specs.declared.order.OrderAct.{OrderAct}
 use Rattle.agv_message.specs.declared.order.OrderEdge.{OrderEdge}
 use Rattle.agv_message.specs.declared.order.OrderMessage.{OrderMessage}
 use Rattle.agv_message.specs.declared.order.OrderNode.{OrderNode}
-use Rattle.agv_message.specs.Pieces.{more_values, node_front, node_rest, order_front, order_middle, order_rest}
+use Rattle.agv_message.specs.Pieces.{more_values, node_front, node_end, order_front, order_middle, order_end}
 
 -- ---- arrays
 
@@ -122,18 +122,18 @@ edge_text before edge n is =
     ++ (codes ",\"startNodeId\":" ++ (compact_text (text edge.start) ++ codes "}"))))))))))) is
 
 pub node_text : (before order : List ℕ) (node : OrderNode)
-    → node_front before ++ (compact_text (list (map (act_data order) node.acts)) ++ node_rest node) ≡ before ++ compact_text (node_data order node)
+    → node_front before ++ (compact_text (list (map (act_data order) node.acts)) ++ node_end node) ≡ before ++ compact_text (node_data order node)
 unfolding escape_byte node_data
-node_text before order node = append_assoc before (codes "{\"actions\":") (compact_text (list (map (act_data order) node.acts)) ++ node_rest node)
+node_text before order node = append_assoc before (codes "{\"actions\":") (compact_text (list (map (act_data order) node.acts)) ++ node_end node)
 
 -- ---- an order
 
 pub order_text : (header : Header) (order : OrderMessage)
-    → order_front order.edges ++ (order_middle header ++ (compact_text (list (map (node_data order.order) order.nodes)) ++ order_rest header order))
+    → order_front order.edges ++ (order_middle header ++ (compact_text (list (map (node_data order.order) order.nodes)) ++ order_end header order))
     ≡ compact_text (order_data header order)
 unfolding escape_byte order_data
 order_text header order =
-    let nodes : List ℕ = compact_text (list (map (node_data order.order) order.nodes)) ++ order_rest header order in
+    let nodes : List ℕ = compact_text (list (map (node_data order.order) order.nodes)) ++ order_end header order in
     let number : List ℕ = compact_text (whole header.number) in
     let name : List ℕ = compact_text (text header.key.manufacturer) in
     let edges : List ℕ = compact_text (list (map edge_data order.edges)) in

@@ -34,8 +34,8 @@ abbrev pub node_front : List ℕ → List ℕ
 node_front before = before ++ codes "{\"actions\":"
 
 -- what follows them
-abbrev pub node_rest : OrderNode → List ℕ
-node_rest node =
+abbrev pub node_end : OrderNode → List ℕ
+node_end node =
     codes ",\"nodeId\":" ++ (compact_text (text node.id)
     ++ (codes ",\"released\":" ++ (compact_text (truth node.released)
     ++ (codes ",\"sequenceId\":" ++ (compact_text (whole node.seq) ++ codes "}")))))
@@ -51,8 +51,8 @@ order_middle header =
     ++ (codes ",\"manufacturer\":" ++ (compact_text (text header.key.manufacturer) ++ codes ",\"nodes\":")))
 
 -- what follows the nodes
-abbrev pub order_rest : Header → OrderMessage → List ℕ
-order_rest header order =
+abbrev pub order_end : Header → OrderMessage → List ℕ
+order_end header order =
     codes ",\"orderId\":" ++ (compact_text (text order.order)
     ++ (codes ",\"orderUpdateId\":" ++ (compact_text (whole order.update)
     ++ (codes ",\"serialNumber\":" ++ (compact_text (text header.key.serial)

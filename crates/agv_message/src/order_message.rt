@@ -4,7 +4,7 @@ ghost use Rattle.serde_json.specs.Written.{compact_text};
 ghost use Rattle.agv_header.specs.Stamp.{stamp_of};
 ghost use Rattle.agv_message.specs.Order.{order_data, edge_data};
 ghost use Rattle.agv_message.specs.Appending.{Appended};
-ghost use Rattle.agv_message.specs.Pieces.{order_front, order_middle, order_rest};
+ghost use Rattle.agv_message.specs.Pieces.{order_front, order_middle, order_end};
 ghost use Rattle.agv_message.specs.Json.{list, text, whole};
 ghost use Rattle.agv_message.specs.Readable.{IsReadable};
 ghost use Rattle.agv_message.specs.Body.{body_of};
@@ -28,7 +28,7 @@ pub fn put_order(out: &mut Vec<u8>, header: &Header, order: &OrderMessage) -> Re
     put_front(out, order.edges.as_slice())?;
     put_middle(out, header)?;
     put_nodes(out, &order.order, order.nodes.as_slice())?;
-    put_rest(out, header, order)
+    put_end(out, header, order)
 }
 
 /// Appends what the message begins with, with its edges.
@@ -56,12 +56,8 @@ fn put_middle<'a>(out: &mut Vec<u8>, header: &'a Header) -> Result<(), Memory>
 }
 
 /// Appends what follows the nodes.
-fn put_rest<'a>(
-    out: &mut Vec<u8>,
-    header: &'a Header,
-    order: &'a OrderMessage,
-) -> Result<(), Memory>
-    ensures appended { Appended result out.old out.new (order_rest header.now order.now) }
+fn put_end<'a>(out: &mut Vec<u8>, header: &'a Header, order: &'a OrderMessage) -> Result<(), Memory>
+    ensures appended { Appended result out.old out.new (order_end header.now order.now) }
     ensures readable { OnOk result (IsReadable (text order.now.order) × IsReadable (whole order.now.update) × IsReadable (text header.now.key.serial) × IsReadable (text (stamp_of header.now.at))) }
 {
     let pieces = [

@@ -4,7 +4,7 @@ ghost use Rattle.serde_json.specs.Written.{compact_text};
 ghost use Rattle.agv_message.specs.Json.{list, text, whole};
 ghost use Rattle.agv_message.specs.Order.{node_data};
 ghost use Rattle.agv_message.specs.Appending.{Appended};
-ghost use Rattle.agv_message.specs.Pieces.{more_values, node_front, node_rest};
+ghost use Rattle.agv_message.specs.Pieces.{more_values, node_front, node_end};
 ghost use Rattle.agv_message.specs.Readable.{IsReadable};
 
 use crate::OrderNode;
@@ -35,7 +35,7 @@ fn put_node(out: &mut Vec<u8>, before: &str, order: &Name, node: &OrderNode) -> 
 {
     put_front(out, before)?;
     put_acts(out, order, node.acts.as_slice())?;
-    put_rest(out, node)
+    put_end(out, node)
 }
 
 /// Appends what a node begins with, with something before it.
@@ -47,8 +47,8 @@ fn put_front<'a>(out: &mut Vec<u8>, before: &'a str) -> Result<(), Memory>
 }
 
 /// Appends what follows the actions of a node.
-fn put_rest<'a>(out: &mut Vec<u8>, node: &'a OrderNode) -> Result<(), Memory>
-    ensures appended { Appended result out.old out.new (node_rest node.now) }
+fn put_end<'a>(out: &mut Vec<u8>, node: &'a OrderNode) -> Result<(), Memory>
+    ensures appended { Appended result out.old out.new (node_end node.now) }
     ensures readable { OnOk result (IsReadable (text node.now.id) × IsReadable (whole node.now.seq)) }
 {
     let pieces = [

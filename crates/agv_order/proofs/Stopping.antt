@@ -11,7 +11,7 @@ use Rattle.std.specs.Cmp.Lexicographic.{pointwise, same_text}
 use Rattle.agv_message.specs.declared.order.ActKind.{ActKind}
 use Rattle.agv_message.specs.declared.order.ActKind.TheVariants.{Pick, Drop}
 use Rattle.agv_order.specs.declared.stop.Stop.{Stop}
-use Rattle.agv_order.specs.StopPlaces.{IsAt, IsPickedThenDropped, CanBeDone, is_pick}
+use Rattle.agv_order.specs.StopPlaces.{IsAt, IsPickedThenDropped, CanBeDone, stop_picks}
 use Rattle.agv_order.specs.Stops.{is_drop, is_of, kinds_of, is_pick_then_drop, stops_fit}
 
 -- ---- the stops of one job
@@ -257,7 +257,7 @@ all_kept test other q same (x ∷ xs) all =
       | inr out ↦ ap (λ b. list_all other (cond b (x ∷ filter q xs) (filter q xs))) out ∙ rest
     ]
 
-one_pick : (xs : List Stop) → map (λ (stop : Stop). stop.kind) xs ≡ Pick ∷ (Drop ∷ []) → (length xs ≡ 2) × (length (filter is_pick xs) ≡ 1)
+one_pick : (xs : List Stop) → map (λ (stop : Stop). stop.kind) xs ≡ Pick ∷ (Drop ∷ []) → (length xs ≡ 2) × (length (filter stop_picks xs) ≡ 1)
 one_pick [] two = absurd (cc)
 one_pick (x ∷ []) two = absurd (cc)
 one_pick (x ∷ (y ∷ [])) two =
@@ -267,13 +267,13 @@ one_pick (x ∷ (y ∷ [])) two =
     (refl, ap (λ k. length (cond (not (is_drop k)) (x ∷ after y.kind) (after y.kind))) first ∙ ap (λ k. length (x ∷ after k)) second)
 one_pick (x ∷ (y ∷ (z ∷ zs))) two = absurd (cc)
 
-picks_split : (job : List ℕ) (xs : List Stop) → length (filter is_pick (filter (is_of job) xs)) + length (filter is_pick (filter (keeps job) xs)) ≡ length (filter is_pick xs)
+picks_split : (job : List ℕ) (xs : List Stop) → length (filter stop_picks (filter (is_of job) xs)) + length (filter stop_picks (filter (keeps job) xs)) ≡ length (filter stop_picks xs)
 unfolding keeps
 picks_split job xs =
-    let one : Stop → ℕ = λ x. cond (is_pick x) 1 0 in
-    omega (arith, sum_by-filter_both (is_of job) (keeps job) (λ _. refl) one xs, length-filter is_pick xs, length-filter is_pick (filter (is_of job) xs), length-filter is_pick (filter (keeps job) xs))
+    let one : Stop → ℕ = λ x. cond (stop_picks x) 1 0 in
+    omega (arith, sum_by-filter_both (is_of job) (keeps job) (λ _. refl) one xs, length-filter stop_picks xs, length-filter stop_picks (filter (is_of job) xs), length-filter stop_picks (filter (keeps job) xs))
 
-twice_within : (n : ℕ) (xs : List Stop) → length xs ≤ n → list_all (is_served xs) xs ≡ true → length xs ≡ 2 * length (filter is_pick xs)
+twice_within : (n : ℕ) (xs : List Stop) → length xs ≤ n → list_all (is_served xs) xs ≡ true → length xs ≡ 2 * length (filter stop_picks xs)
 unfolding keeps
 twice_within n [] short all = refl
 twice_within zero (x ∷ xs) short all = omega arith
@@ -287,11 +287,11 @@ twice_within (suc n) (x ∷ xs) short all =
     λ y kept.
     ap (λ mine. is_pick_then_drop (map (λ (stop : Stop). stop.kind) mine))
     (sym (filter_twice (is_of y.job) (keeps job) (λ z mine. ap (λ (j : List ℕ). not (pointwise nat_eq j job)) (same_text z.job y.job (sym mine)) ∙ kept) stops)) in
-    let others : length rest ≡ 2 * length (filter is_pick rest) =
+    let others : length rest ≡ 2 * length (filter stop_picks rest) =
     twice_within n rest (omega (arith, own.0)) (all_kept (is_served stops) (is_served rest) (keeps job) same stops all) in
     omega (arith, own.0, own.1, picks_split job stops)
 
-pub stops_twice : (stops : List Stop) → IsTrue (stops_fit stops) → length stops ≡ 2 * length (filter is_pick stops)
+pub stops_twice : (stops : List Stop) → IsTrue (stops_fit stops) → length stops ≡ 2 * length (filter stop_picks stops)
 unfolding stops_fit
 stops_twice [] fits = absurd (cc)
 stops_twice (x ∷ xs) fits = twice_within (length (x ∷ xs)) (x ∷ xs) (omega arith) fits

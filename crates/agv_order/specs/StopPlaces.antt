@@ -1,10 +1,10 @@
 -- Stops that can be carried out, place by place (this project's profile).
-use Rattle.std.specs.Prelude.{◌≡◌, ◌≢◌, ℕ, ◌<◌, Bool, not, List, [], Some}
+use Rattle.std.specs.Prelude.{◌≡◌, ◌≢◌, ℕ, ◌<◌, Bool, List, [], Some}
 use Rattle.std.specs.List.{slice_get}
 use Rattle.agv_message.specs.declared.order.ActKind.{ActKind}
 use Rattle.agv_message.specs.declared.order.ActKind.TheVariants.{Pick, Drop}
 use Rattle.agv_order.specs.declared.stop.Stop.{Stop}
-use Rattle.agv_order.specs.Stops.{is_drop}
+use Rattle.agv_order.specs.Stops.{is_pick}
 
 -- at this place of the list the load of the job is picked, or dropped
 abbrev pub IsAt : List Stop → List ℕ → ActKind → ℕ → Type 0
@@ -23,6 +23,6 @@ pub record CanBeDone (stops : List Stop) : Type 0 where
   pub some : stops ≢ []
   pub each : (k : ℕ) (stop : Stop) → slice_get stops k ≡ Some stop → IsPickedThenDropped stops stop.job
 
--- the load is picked
-abbrev pub is_pick : Stop → Bool
-is_pick stop = not (is_drop stop.kind)
+-- the load is picked there
+abbrev pub stop_picks : Stop → Bool
+stop_picks stop = is_pick stop.kind

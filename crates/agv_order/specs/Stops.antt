@@ -11,6 +11,10 @@ abbrev pub is_drop : ActKind → Bool
 is_drop Pick = false
 is_drop Drop = true
 
+-- the load is picked
+abbrev pub is_pick : ActKind → Bool
+is_pick kind = not (is_drop kind)
+
 -- the stop is one of this job
 abbrev pub is_of : List ℕ → Stop → Bool
 is_of job stop = pointwise nat_eq stop.job job
@@ -23,7 +27,7 @@ kinds_of stops job = map (λ (stop : Stop). stop.kind) (filter (is_of job) stops
 abbrev pub is_pick_then_drop : List ActKind → Bool
 is_pick_then_drop [] = false
 is_pick_then_drop (first ∷ []) = false
-is_pick_then_drop (first ∷ (second ∷ [])) = not (is_drop first) && is_drop second
+is_pick_then_drop (first ∷ (second ∷ [])) = is_pick first && is_drop second
 is_pick_then_drop (first ∷ (second ∷ (third ∷ rest))) = false
 
 -- there is a stop, and each job of the list is picked once and, later in the list, dropped once

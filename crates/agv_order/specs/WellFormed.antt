@@ -7,7 +7,7 @@ use Rattle.agv_layout.specs.Walk.{IsWalk}
 use Rattle.agv_layout.specs.declared.edge.Edge.{Edge}
 use Rattle.agv_layout.specs.declared.station.StationSite.{StationSite}
 use Rattle.agv_order.specs.Statuses.{is_waiting, is_finished, is_final}
-use Rattle.agv_order.specs.Stops.{is_drop, stops_fit}
+use Rattle.agv_order.specs.Stops.{is_drop, is_pick, stops_fit}
 use Rattle.agv_order.specs.Trips.{Task, stop_of, Plan, plan_of, nodes_on}
 use Rattle.agv_order.specs.declared.act.Act.{Act}
 use Rattle.agv_order.specs.declared.trip.Trip.{Trip}
@@ -50,7 +50,7 @@ is_reached seen act = not (is_finished act.status) || nat_le act.place_at seen
 
 -- the load of this job was picked
 abbrev pub is_picked : List Act → List ℕ → Bool
-is_picked acts job = list_any (λ (act : Act). not (is_drop act.kind) && is_finished act.status && pointwise nat_eq act.job job) acts
+is_picked acts job = list_any (λ (act : Act). is_pick act.kind && is_finished act.status && pointwise nat_eq act.job job) acts
 
 -- the act is a finished drop only where its job's load was picked
 abbrev pub is_in_turn : List Act → Act → Bool

@@ -18,7 +18,7 @@ ghost use Rattle.agv_order.specs.declared.trip.Trip.{Trip as TripOf};
 ghost use Rattle.agv_order.specs.Joins.{join_of};
 ghost use Rattle.agv_order.specs.Messages.{whole_of, message_of};
 ghost use Rattle.agv_order.specs.Releases.{CanRelease, released};
-ghost use Rattle.agv_order.specs.StopPlaces.{CanBeDone, is_pick};
+ghost use Rattle.agv_order.specs.StopPlaces.{CanBeDone, stop_picks};
 ghost use Rattle.agv_order.specs.Stops.{stops_fit};
 
 /// A vehicle that holds the whole order of a trip, and takes the update that releases more of it, holds
@@ -57,7 +57,7 @@ pub fn fits_as_said()
 
 /// Stops that can be carried out are twice as many as the jobs, which are as many as the picks.
 pub fn stops_twice()
-    ensures { (stops : List StopOf) → IsTrue (stops_fit stops) → length stops ≡ 2 * length (filter is_pick stops) }
+    ensures { (stops : List StopOf) → IsTrue (stops_fit stops) → length stops ≡ 2 * length (filter stop_picks stops) }
 {}
 
 /// What a plan is, in terms of routes: from the vehicle's node to the node of each stop in turn, each time by

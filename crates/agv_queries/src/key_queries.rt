@@ -41,11 +41,11 @@ pub fn query_vehicle<S: Alter>(
     match vehicle {
         None => Ok(None),
         Some(vehicle) => {
-            let room = query_capacity(conn, key)?;
-            match room {
+            let capacity = query_capacity(conn, key)?;
+            match capacity {
                 None => Err(OpenFault::Damaged),
-                Some(room) => Ok(Some(VehicleRow {
-                    capacity: room.capacity,
+                Some(capacity) => Ok(Some(VehicleRow {
+                    capacity: capacity.capacity,
                     ..vehicle
                 })),
             }
@@ -82,7 +82,7 @@ fn query_capacity<S: Alter>(
     conn: &mut Connection<S>,
     key: &VehicleKey,
 ) -> Result<Option<CapacityRow>, OpenFault>
-    ensures { AnswersQuery S.Store conn.old conn.new result (λ world room. room ≡ option_map (λ (vehicle : RowOfVehicle). record { capacity = vehicle.capacity }) (row_of world key.now)) }
+    ensures { AnswersQuery S.Store conn.old conn.new result (λ world row. row ≡ option_map (λ (vehicle : RowOfVehicle). record { capacity = vehicle.capacity }) (row_of world key.now)) }
 {
     let rows = query_rows(conn, TableName::Capacity, &vehicle_key_values(key))?;
     capacity_in_rows(rows.as_slice())

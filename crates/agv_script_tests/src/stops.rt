@@ -9,7 +9,7 @@ use crate::tables::{rows_text, told_text};
 use agv_store::{Desk, OpenFault};
 use agv_world::Fault;
 use sqlite::{Alter, Connection, Files, Options};
-use sqlite_disk::{Crash, Fuse, Memory};
+use sqlite_disk::{Crash, Disk, Memory};
 use std::alloc::Global;
 use std::process::Abort;
 
@@ -166,14 +166,30 @@ fn stop<D: Crash + Drop>(rt: &impl Abort, alloc: Global, files: Files<D>, work: 
     }
 }
 
-/// Files in which these statements were carried out; without any, empty ones.
-fn written(rt: &impl Abort, alloc: Global, texts: &str) -> Files<Fuse<Memory>> {
+/// A file with these bytes.
+fn disk_of(rt: &impl Abort, alloc: Global, bytes: &[u8]) -> Memory {
+    let mut disk = Memory::new(alloc);
+    disk.write_at(0, bytes).expect(rt, "memory");
+    disk.sync().expect(rt, "memory");
+    disk
+}
+
+/// Files in which these statements were carried out; without any, empty ones. They are behind no fuses yet, so that a desk
+/// over them has the type of one on the files of `blank`.
+fn written(rt: &impl Abort, alloc: Global, texts: &str) -> Files<Memory> {
     if texts.is_empty() {
-        return blank(alloc);
+        return Files {
+            log: Memory::new(alloc),
+            db: Memory::new(alloc),
+        };
     }
     let mut conn = open(rt, alloc, blank(alloc));
     conn.execute_batch(texts).expect(rt, texts);
-    copied_out(conn).0
+    let files = copied_out(conn).0;
+    Files {
+        log: disk_of(rt, alloc, files.log.inner().bytes()),
+        db: disk_of(rt, alloc, files.db.inner().bytes()),
+    }
 }
 
 /// The most calls of a file.

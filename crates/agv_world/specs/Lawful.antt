@@ -15,7 +15,7 @@ use Rattle.agv_message.specs.declared.instant.InstantKind.{InstantKind}
 use Rattle.agv_message.specs.declared.order.ActKind.{ActKind}
 use Rattle.agv_message.specs.declared.order.ActKind.TheVariants.{Pick, Drop}
 use Rattle.agv_order.specs.Statuses.{is_finished}
-use Rattle.agv_order.specs.Stops.{is_drop}
+use Rattle.agv_order.specs.Stops.{is_drop, is_pick}
 use Rattle.agv_order.specs.Trips.{node_at}
 use Rattle.agv_order.specs.WellFormed.{IsWellFormed}
 use Rattle.agv_order.specs.declared.act.Act.{Act}
@@ -112,7 +112,7 @@ pub record KeepsRoom (world : World) : Type 0 where
 
 -- the act picks a load up
 abbrev pub picks : Act → Bool
-picks act = not (is_drop act.kind)
+picks act = is_pick act.kind
 
 -- the act is a drop that is not finished
 abbrev pub is_to_drop : Act → Bool

@@ -10,7 +10,7 @@ use Rattle.agv_layout.specs.declared.station.StationSite.{StationSite}
 use Rattle.agv_message.specs.declared.order.ActKind.{ActKind}
 use Rattle.agv_message.specs.declared.order.ActKind.TheVariants.{Pick, Drop}
 use Rattle.agv_order.specs.Statuses.{is_finished}
-use Rattle.agv_order.specs.Stops.{is_drop}
+use Rattle.agv_order.specs.Stops.{is_pick}
 use Rattle.agv_order.specs.declared.act.Act.{Act}
 use Rattle.agv_order.specs.declared.trip.Trip.{Trip}
 use Rattle.agv_stock.specs.Phase.{is_live}
@@ -62,7 +62,7 @@ capacity_of world key = capacity_for (finite.get world.vehicles key)
 
 -- a pick that is not finished
 abbrev pub is_to_pick : ActionView → Bool
-is_to_pick action_view = not (is_drop action_view.kind) && not action_view.finished
+is_to_pick action_view = is_pick action_view.kind && not action_view.finished
 
 -- how many loads are still to be picked
 abbrev pub to_pick : List ActionView → ℕ

@@ -63,8 +63,8 @@ module _ (world : World) (key : VehicleKey) (state : StateMessage) where
     trip = λ accepted row trip there has same. absurd (apart trip has same);
   }
 
-  hears_idle : (row : VehicleRow) → ((trip : Trip) → HasTrip world key trip → trip.order ≡ state.order_id → ⊥) → IfMade P (idle_state key row state)
-  hears_idle row apart = made_judged P _ _ (λ over is. idle_leaves _ row (with_state row state over) refl refl apart)
+  takes_idle : (row : VehicleRow) → ((trip : Trip) → HasTrip world key trip → trip.order ≡ state.order_id → ⊥) → IfMade P (idle_state key row state)
+  takes_idle row apart = made_judged P _ _ (λ over is. idle_leaves _ row (with_state row state over) refl refl apart)
 
   module _ (seats : ℕ) (lawful : HasLawfulVehicles seats world) where
     module _ (row : VehicleRow) (trip : Trip) (has : HasTrip world key trip) (progress : Progress) (is : IsJudged trip (pending_of row) state progress) where
@@ -107,21 +107,21 @@ module _ (world : World) (key : VehicleKey) (state : StateMessage) where
           (now_told row trip (has_trip world key trip open_trip) progress is effect old new put left));
     }
 
-    hears_trip : (row : VehicleRow) (trip : Trip) → row_of world key ≡ Some row → trip_of world key ≡ Some trip → IfMade P (trip_state world key row trip state)
-    hears_trip row trip there open_trip =
+    takes_trip : (row : VehicleRow) (trip : Trip) → row_of world key ≡ Some row → trip_of world key ≡ Some trip → IfMade P (trip_state world key row trip state)
+    takes_trip row trip there open_trip =
         made_judged P _ _ (λ progress judged. trip_leaves _ _ _ row trip progress there open_trip (judged_so trip (pending_of row) state progress judged) refl refl refl)
 
-    hears_fresh : (row : VehicleRow) → row_of world key ≡ Some row → (trip : Option Trip) → trip_of world key ≡ trip → IfMade P (fresh_state world key row trip state)
-    hears_fresh row there None same = hears_idle row (λ trip has ours. none_some (sym same ∙ trip_told world key trip has))
-    hears_fresh row there (Some trip) same =
-        made_either P _ _ _ (λ ours. hears_trip row trip there same)
-        (λ apart. made_require P _ _ _ (λ unconfirmed. hears_idle row (λ more has ours.
+    takes_fresh : (row : VehicleRow) → row_of world key ≡ Some row → (trip : Option Trip) → trip_of world key ≡ trip → IfMade P (fresh_state world key row trip state)
+    takes_fresh row there None same = takes_idle row (λ trip has ours. none_some (sym same ∙ trip_told world key trip has))
+    takes_fresh row there (Some trip) same =
+        made_either P _ _ _ (λ ours. takes_trip row trip there same)
+        (λ apart. made_require P _ _ _ (λ unconfirmed. takes_idle row (λ more has ours.
         let trips : trip ≡ more = same_some (sym same ∙ trip_told world key more has) in
         false≢true (sym apart ∙ ap (λ (one : Trip). pointwise nat_eq one.order state.order_id) trips ∙ ap (λ order. pointwise nat_eq order state.order_id) ours ∙ name_itself state.order_id))))
 
     pub leaves_accepted : IfMade P (take_state world key state)
     leaves_accepted =
-        made_found P _ _ _ (λ row there. made_either P _ _ _ (λ fresh. hears_fresh row there (trip_of world key) refl)
+        made_found P _ _ _ (λ row there. made_either P _ _ _ (λ fresh. takes_fresh row there (trip_of world key) refl)
         (λ old. record { number = λ accepted. cc; trip = λ accepted. cc }))
 
   -- ---- of the world after the message

@@ -69,8 +69,8 @@ module _ (advances : AdvancesTrips) (fits : FitsAsSaid) (seats : ℕ) (world : W
   abbrev P : Effect → Type 0
   P = GoesAlong world forgets
 
-  hears_idle : (key : VehicleKey) (row : VehicleRow) (state : StateMessage) → row_of world key ≡ Some row → is_fresh row.last_header state.header_id ≡ true → IfMade P (idle_state key row state)
-  hears_idle key row state there fresh =
+  takes_idle : (key : VehicleKey) (row : VehicleRow) (state : StateMessage) → row_of world key ≡ Some row → is_fresh row.last_header state.header_id ≡ true → IfMade P (idle_state key row state)
+  takes_idle key row state there fresh =
       made_judged P _ _ (λ over is. notes_row world forgets _ key row _ refl (λ kind order job. refl) there (accepted_goes_on (forgets key) row state over fresh))
 
   -- the acts of a trip after a state, where they are carried out
@@ -121,13 +121,13 @@ module _ (advances : AdvancesTrips) (fits : FitsAsSaid) (seats : ℕ) (world : W
       puts_known world forgets _ key _ _ row refl (acts_once _ key _ _ trip progress has refl refl refl) there (row_goes_on (forgets key) row trip state progress fresh)
       (λ left is. inl (trip, has, subst (Continues trip) (left_is trip progress left is).1 (progress_continues trip progress step))))
 
-  hears_fresh : (key : VehicleKey) (row : VehicleRow) (state : StateMessage) → row_of world key ≡ Some row → is_fresh row.last_header state.header_id ≡ true
+  takes_fresh : (key : VehicleKey) (row : VehicleRow) (state : StateMessage) → row_of world key ≡ Some row → is_fresh row.last_header state.header_id ≡ true
       → (trip : Option Trip) → trip_of world key ≡ trip → IfMade P (fresh_state world key row trip state)
-  hears_fresh key row state there fresh None same = hears_idle key row state there fresh
-  hears_fresh key row state there fresh (Some trip) same =
-      made_either P _ _ _ (λ ours. goes_on_trip key row trip state there same fresh) (λ other. made_require P _ _ _ (λ unconfirmed. hears_idle key row state there fresh))
+  takes_fresh key row state there fresh None same = takes_idle key row state there fresh
+  takes_fresh key row state there fresh (Some trip) same =
+      made_either P _ _ _ (λ ours. goes_on_trip key row trip state there same fresh) (λ other. made_require P _ _ _ (λ unconfirmed. takes_idle key row state there fresh))
 
   pub takes_state : (key : VehicleKey) (state : StateMessage) → IfMade P (take_state world key state)
   takes_state key state =
-      made_found P _ _ _ (λ row there. made_either P _ _ _ (λ fresh. hears_fresh key row state there fresh (trip_of world key) refl)
+      made_found P _ _ _ (λ row there. made_either P _ _ _ (λ fresh. takes_fresh key row state there fresh (trip_of world key) refl)
       (λ old. touches_none world forgets _ refl (λ kind order job. refl)))

@@ -9,7 +9,7 @@ use Rattle.agv_layout.specs.declared.row.LayoutRow.{LayoutRow}
 use Rattle.agv_message.specs.declared.state.StateMessage.{StateMessage}
 use Rattle.agv_order.specs.Plans.{planned}
 use Rattle.agv_order.specs.Releases.{CanRelease, released}
-use Rattle.agv_order.specs.StopPlaces.{is_pick}
+use Rattle.agv_order.specs.StopPlaces.{stop_picks}
 use Rattle.agv_order.specs.Stops.{stops_fit}
 use Rattle.agv_order.specs.Tours.{IsPlanOf}
 use Rattle.agv_order.specs.WellFormed.{IsWellFormed}
@@ -34,7 +34,7 @@ PlansGoByRoutes = (layout : Layout) (jobs : List Job) (vehicle : VehicleKey) (st
     → planned layout vehicle jobs stops order at base ≡ Ok trip → IsPlanOf layout jobs stops at base trip
 
 abbrev pub StopsTwice : Type 0
-StopsTwice = (stops : List Stop) → IsTrue (stops_fit stops) → length stops ≡ 2 * length (filter is_pick stops)
+StopsTwice = (stops : List Stop) → IsTrue (stops_fit stops) → length stops ≡ 2 * length (filter stop_picks stops)
 
 abbrev pub ReleasesKeepTrips : Type 0
 ReleasesKeepTrips = (layout : Layout) (trip : Trip) (n : ℕ) → IsWellFormed layout trip → trip.confirmed ≡ Some trip.sent

@@ -9,7 +9,7 @@ use Rattle.agv_header.specs.declared.key.VehicleKey.{VehicleKey}
 use Rattle.agv_layout.specs.Layout.{Layout, KeepsRules}
 use Rattle.agv_order.specs.Plans.{planned}
 use Rattle.agv_order.specs.Releases.{CanRelease, released}
-use Rattle.agv_order.specs.StopPlaces.{is_pick}
+use Rattle.agv_order.specs.StopPlaces.{stop_picks}
 use Rattle.agv_order.specs.Stops.{stops_fit}
 use Rattle.agv_order.specs.Trips.{node_at}
 use Rattle.agv_order.specs.WellFormed.{IsWellFormed}
@@ -46,8 +46,8 @@ unfolding count_of
 few_orders world few = ltb-true (set.len world.orders) 1000000 few
 
 -- stops that fit are at most eight, where their picks are at most the places of a vehicle
-few_stops : (stops : List Stop) (loads capacity seats : ℕ) → length stops ≡ 2 * length (filter is_pick stops) → loads + count_by is_pick stops ≤ capacity → capacity ≤ seats → seats ≤ 4 → length stops ≤ 8
-few_stops stops loads capacity seats twice fits seated few = omega (arith, twice, length-filter is_pick stops, fits, seated, few)
+few_stops : (stops : List Stop) (loads capacity seats : ℕ) → length stops ≡ 2 * length (filter stop_picks stops) → loads + count_by stop_picks stops ≤ capacity → capacity ≤ seats → seats ≤ 4 → length stops ≤ 8
+few_stops stops loads capacity seats twice fits seated few = omega (arith, twice, length-filter stop_picks stops, fits, seated, few)
 
 -- the last update was confirmed
 confirmed_is : (confirmed : Option ℕ) (sent : ℕ) → is_last_confirmed confirmed sent ≡ true → confirmed ≡ Some sent
@@ -90,7 +90,7 @@ module _ (given : Given) (more : GivenMore) (seats : ℕ) (world : World) (lawfu
   -- what is planned may be sent
   may_be_sent : (asked : AskedOrder) (row : VehicleRow) (jobs : List Job) (trip : Trip)
       → planned world.layout asked.key jobs asked.stops asked.order row.node asked.edges ≡ Ok trip
-      → stops_fit asked.stops ≡ true → length asked.stops ≤ 8 → count_by is_pick asked.stops ≤ row.capacity → row.rest ≡ None
+      → stops_fit asked.stops ≡ true → length asked.stops ≤ 8 → count_by stop_picks asked.stops ≤ row.capacity → row.rest ≡ None
       → MayBeSent world.layout asked.key row trip
   may_be_sent asked row jobs trip plan fit few picks_fit no_rest =
       let begun = plan_begins world.layout asked.key jobs asked.stops asked.order row.node asked.edges trip plan in
@@ -128,7 +128,7 @@ module _ (given : Given) (more : GivenMore) (seats : ℕ) (world : World) (lawfu
 
   sends_order : (asked : AskedOrder) (row : VehicleRow) (jobs : List Job)
       → IsMoment asked.at → IsName asked.order → is_used world used.Order asked.order ≡ false → row_of world asked.key ≡ Some row → trip_of world asked.key ≡ None
-      → stops_fit asked.stops ≡ true → length asked.stops ≤ 8 → count_by is_pick asked.stops ≤ row.capacity → row.rest ≡ None
+      → stops_fit asked.stops ≡ true → length asked.stops ≤ 8 → count_by stop_picks asked.stops ≤ row.capacity → row.rest ≡ None
       → IfMade P (send_order world asked row jobs)
   sends_order asked row jobs moment named unused there idle fit few picks_fit no_rest =
       made_found P _ _ _ (λ layout is_set. made_planned P _ _ (λ trip is_plan.
@@ -142,7 +142,7 @@ module _ (given : Given) (more : GivenMore) (seats : ℕ) (world : World) (lawfu
       → IfMade P (take_order world asked row jobs)
   takes_order asked row jobs is_seats moment named unused there fit =
       made_require P _ _ _ (λ a. made_require P _ _ _ (λ b. made_require P _ _ _ (λ idle. made_require P _ _ _ (λ astray. made_require P _ _ _ (λ within_capacity. made_require P _ _ _ (λ e. made_require P _ _ _ (λ f.
-      let fits = leb-true (loads_on world asked.key + count_by is_pick asked.stops) row.capacity within_capacity in
+      let fits = leb-true (loads_on world asked.key + count_by stop_picks asked.stops) row.capacity within_capacity in
       let places = (lawful.vehicles asked.key (vehicle_with row (trip_of world asked.key)) (known world asked.key row there)).seated in
       let few = few_stops asked.stops (loads_on world asked.key) row.capacity seats (more.twice asked.stops fit) fits places is_seats.1 in
       sends_order asked row jobs moment named unused there (missing _ idle) fit few (omega (arith, fits)) (missing _ astray))))))))

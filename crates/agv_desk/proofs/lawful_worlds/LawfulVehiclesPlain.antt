@@ -132,8 +132,8 @@ module _ (given : Given) (more : GivenMore) (seats : ℕ) (world : World) (lawfu
   pub begins_anew : (key : VehicleKey) → IfMade P (resync world key)
   begins_anew key = made_found P _ _ _ (λ row there. record { vehicles = notes key row _ there refl refl refl refl (λ vehicle. forgotten_row seats world.layout row vehicle) })
 
-  pub hears_idle : (key : VehicleKey) (row : VehicleRow) (state : StateMessage) → state.header_id ≤ 4294967295 → row_of world key ≡ Some row → IfMade P (idle_state key row state)
-  hears_idle key row state numbered there =
+  pub takes_idle : (key : VehicleKey) (row : VehicleRow) (state : StateMessage) → state.header_id ≤ 4294967295 → row_of world key ≡ Some row → IfMade P (idle_state key row state)
+  takes_idle key row state numbered there =
       made_judged P _ _ (λ over is. record { vehicles = notes key row _ there refl refl refl refl (λ vehicle. accepted_row seats world.layout row vehicle state over numbered) })
 
   -- ---- a vehicle that stands without a trip

@@ -26,7 +26,7 @@ use Rattle.agv_desk.proofs.outcomes.Keeping.{KeepsVehicles}
 use Rattle.agv_desk.proofs.outcomes.Known.{none_some, same_some, vehicle_with, known}
 use Rattle.agv_desk.proofs.outcomes.Ladders.{IfMade, made_require, made_found, made_branch, made_judged}
 use Rattle.agv_desk.proofs.lawful_worlds.LawfulVehiclesGiven.{GivenMore}
-use Rattle.agv_desk.proofs.lawful_worlds.LawfulVehiclesPlain.{hears_idle}
+use Rattle.agv_desk.proofs.lawful_worlds.LawfulVehiclesPlain.{takes_idle}
 use Rattle.agv_desk.proofs.lawful_worlds.LawfulVehiclesRows.{accepted_row, moved_row}
 use Rattle.agv_desk.proofs.lawful_worlds.LawfulVehiclesTrips.{next_is_rest, same_picks, way_nodes}
 use Rattle.agv_desk.proofs.lawful_worlds.LawfulVehiclesWritten.{as_many_vehicles, is_in_order, keeps_rules, moves_loads, writes}
@@ -116,11 +116,11 @@ module _ (given : Given) (more : GivenMore) (seats : ℕ) (world : World) (lawfu
         }) in
         record { vehicles = moves_loads seats (with_vehicle world key new) written _ _ })
 
-  pub hears_fresh : (key : VehicleKey) (row : VehicleRow) (state : StateMessage) → state.header_id ≤ 4294967295 → row_of world key ≡ Some row → (trip : Option Trip) → trip_of world key ≡ trip → IfMade P (fresh_state world key row trip state)
-  hears_fresh key row state numbered there None same = hears_idle given more seats world lawful key row state numbered there
-  hears_fresh key row state numbered there (Some trip) same =
-      made_branch P _ _ _ (goes_on_trip key row trip state numbered there same) (made_require P _ _ _ (λ fresh. hears_idle given more seats world lawful key row state numbered there))
+  pub takes_fresh : (key : VehicleKey) (row : VehicleRow) (state : StateMessage) → state.header_id ≤ 4294967295 → row_of world key ≡ Some row → (trip : Option Trip) → trip_of world key ≡ trip → IfMade P (fresh_state world key row trip state)
+  takes_fresh key row state numbered there None same = takes_idle given more seats world lawful key row state numbered there
+  takes_fresh key row state numbered there (Some trip) same =
+      made_branch P _ _ _ (goes_on_trip key row trip state numbered there same) (made_require P _ _ _ (λ fresh. takes_idle given more seats world lawful key row state numbered there))
 
   pub takes_state : (key : VehicleKey) (state : StateMessage) → state.header_id ≤ 4294967295 → IfMade P (take_state world key state)
   takes_state key state numbered =
-      made_found P _ _ _ (λ row there. made_branch P _ _ _ (hears_fresh key row state numbered there (trip_of world key) refl) (record { vehicles = lawful }))
+      made_found P _ _ _ (λ row there. made_branch P _ _ _ (takes_fresh key row state numbered there (trip_of world key) refl) (record { vehicles = lawful }))

@@ -7,7 +7,7 @@ use Rattle.agv_layout.specs.Layout.{Layout, IsEdge, IsNode, KeepsRules}
 use Rattle.agv_layout.specs.Walk.{IsWalk}
 use Rattle.agv_layout.specs.declared.edge.Edge.{Edge}
 use Rattle.agv_layout.specs.declared.edge.EdgeEnds.{EdgeEnds}
-use Rattle.agv_order.specs.StopPlaces.{is_pick}
+use Rattle.agv_order.specs.StopPlaces.{stop_picks}
 use Rattle.agv_order.specs.Stops.{is_drop}
 use Rattle.agv_order.specs.Tours.{MakesStops}
 use Rattle.agv_order.specs.Trips.{Task, nodes_on, task_of}
@@ -88,7 +88,7 @@ same_picks acts others same = picked_by_tasks acts ∙ ap (sum_by picks_by) same
 
 module _ (layout : Layout) (jobs : List Job) where
   -- the acts of a plan pick as many as its stops
-  pub planned_picks : (at : List ℕ) (place : ℕ) (stops : List Stop) (edges : List Edge) (acts : List Act) → MakesStops layout jobs at place stops edges acts → count_by picks acts ≡ count_by is_pick stops
+  pub planned_picks : (at : List ℕ) (place : ℕ) (stops : List Stop) (edges : List Edge) (acts : List Act) → MakesStops layout jobs at place stops edges acts → count_by picks acts ≡ count_by stop_picks stops
   planned_picks at place [] edges [] makes = refl
   planned_picks at place [] edges (act ∷ acts) makes = absurd makes
   planned_picks at place (stop ∷ stops) edges [] makes = absurd makes
@@ -96,4 +96,4 @@ module _ (layout : Layout) (jobs : List Job) where
       let made = makes.3.0 in
       sum_by-cons (λ (a : Act). cond (picks a) 1 0) act acts
       ∙ (λ i. cond (picks (made.does i)) 1 0 + planned_picks made.site.node (place + length makes.0) stops makes.1 acts makes.3.1 i)
-      ∙ sym (sum_by-cons (λ (s : Stop). cond (is_pick s) 1 0) stop stops)
+      ∙ sym (sum_by-cons (λ (s : Stop). cond (stop_picks s) 1 0) stop stops)

@@ -108,18 +108,18 @@ module _ (world : World) where
     abbrev Q : Effect → Type 0
     Q = IsCaused (call.State of said)
 
-    hears_idle : (key : VehicleKey) (row : VehicleRow) (state : StateMessage) → IfMade Q (idle_state key row state)
-    hears_idle key row state = made_judged Q _ _ (λ over a. record { answered = refl; caused = refl })
+    takes_idle : (key : VehicleKey) (row : VehicleRow) (state : StateMessage) → IfMade Q (idle_state key row state)
+    takes_idle key row state = made_judged Q _ _ (λ over a. record { answered = refl; caused = refl })
 
     goes_on : (key : VehicleKey) (row : VehicleRow) (trip : Trip) (state : StateMessage) → IfMade Q (trip_state world key row trip state)
     goes_on key row trip state = made_judged Q _ _ (λ progress a. record { answered = refl; caused = all_acted key trip.order (zip trip.acts progress.statuses) })
 
-    hears_fresh : (key : VehicleKey) (row : VehicleRow) (trip : Option Trip) (state : StateMessage) → IfMade Q (fresh_state world key row trip state)
-    hears_fresh key row None state = hears_idle key row state
-    hears_fresh key row (Some trip) state = made_branch Q _ _ _ (goes_on key row trip state) (made_require Q _ _ _ (λ a. hears_idle key row state))
+    takes_fresh : (key : VehicleKey) (row : VehicleRow) (trip : Option Trip) (state : StateMessage) → IfMade Q (fresh_state world key row trip state)
+    takes_fresh key row None state = takes_idle key row state
+    takes_fresh key row (Some trip) state = made_branch Q _ _ _ (goes_on key row trip state) (made_require Q _ _ _ (λ a. takes_idle key row state))
 
-    hears : (key : VehicleKey) (state : StateMessage) → IfMade Q (take_state world key state)
-    hears key state = made_found Q _ _ _ (λ row a. made_branch Q _ _ _ (hears_fresh key row _ state) (record { answered = refl; caused = refl }))
+    takes_state : (key : VehicleKey) (state : StateMessage) → IfMade Q (take_state world key state)
+    takes_state key state = made_found Q _ _ _ (λ row a. made_branch Q _ _ _ (takes_fresh key row _ state) (record { answered = refl; caused = refl }))
 
   each : (seats at : ℕ) (made : Call) → IfMade (IsCaused made) (step seats world at made)
   each seats at (call.SetLayout rows) = made_require (IsCaused _) _ _ _ (λ a. made_laid (IsCaused _) _ _ (λ layout. record { answered = refl; caused = refl }))
@@ -136,7 +136,7 @@ module _ (world : World) where
   each seats at (call.Resume key) = made_found (IsCaused _) _ _ _ (λ row a. instructs world _ at key row _)
   each seats at (call.PlaceVehicle key reference node) = places world _ key reference node
   each seats at (call.Resync key) = made_found (IsCaused _) _ _ _ (λ row a. record { answered = refl; caused = refl })
-  each seats at (call.State key state) = hears key state key state
+  each seats at (call.State key state) = takes_state key state key state
   each seats at (call.GetOrder key) = made_found (IsCaused _) _ _ _ (λ row a. record { answered = tells_a_message (call.GetOrder key) key row _; caused = refl })
   each seats at (call.GetInstant key) = made_found (IsCaused _) _ _ _ (λ row a. record { answered = tells_an_action key row row.pending; caused = refl })
   each seats at (call.Stocktake reference rows) =

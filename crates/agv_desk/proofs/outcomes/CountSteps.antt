@@ -119,20 +119,20 @@ module _ (world : World) where
 
   -- ---- states
 
-  hears_idle : (key : VehicleKey) (row : VehicleRow) (state : StateMessage) → row_of world key ≡ Some row → IfMade P (idle_state key row state)
-  hears_idle key row state there = made_judged P _ _ (λ over is. notes (answer.Accepted true) key row _ there)
+  takes_idle : (key : VehicleKey) (row : VehicleRow) (state : StateMessage) → row_of world key ≡ Some row → IfMade P (idle_state key row state)
+  takes_idle key row state there = made_judged P _ _ (λ over is. notes (answer.Accepted true) key row _ there)
 
   goes_on_trip : (key : VehicleKey) (row : VehicleRow) (trip : Trip) (state : StateMessage) → row_of world key ≡ Some row → trip_of world key ≡ Some trip → IfMade P (trip_state world key row trip state)
   goes_on_trip key row trip state there same_trip =
       made_judged P _ _ (λ progress is. counts_none _ (λ lawful. as_many world _ (vehicle_len key row _ there)
       (len_act_moves world.places key trip.order trip.acts progress.statuses (load_known lawful key trip (has_trip world key trip same_trip))) (len_act_jobs world (is_some progress.«end») (zip trip.acts progress.statuses)) refl refl))
 
-  hears_fresh : (key : VehicleKey) (row : VehicleRow) (state : StateMessage) → row_of world key ≡ Some row → (trip : Option Trip) → trip_of world key ≡ trip → IfMade P (fresh_state world key row trip state)
-  hears_fresh key row state there None same_trip = hears_idle key row state there
-  hears_fresh key row state there (Some trip) same_trip = made_branch P _ _ _ (goes_on_trip key row trip state there same_trip) (made_require P _ _ _ (λ fresh. hears_idle key row state there))
+  takes_fresh : (key : VehicleKey) (row : VehicleRow) (state : StateMessage) → row_of world key ≡ Some row → (trip : Option Trip) → trip_of world key ≡ trip → IfMade P (fresh_state world key row trip state)
+  takes_fresh key row state there None same_trip = takes_idle key row state there
+  takes_fresh key row state there (Some trip) same_trip = made_branch P _ _ _ (goes_on_trip key row trip state there same_trip) (made_require P _ _ _ (λ fresh. takes_idle key row state there))
 
   takes_state : (key : VehicleKey) (state : StateMessage) → IfMade P (take_state world key state)
-  takes_state key state = made_found P _ _ _ (λ row there. made_branch P _ _ _ (hears_fresh key row state there (trip_of world key) refl) (tells (answer.Accepted false)))
+  takes_state key state = made_found P _ _ _ (λ row there. made_branch P _ _ _ (takes_fresh key row state there (trip_of world key) refl) (tells (answer.Accepted false)))
 
   -- ---- the calls that add one
 

@@ -8,7 +8,7 @@ use Rattle.std.specs.List.{AllByRecursion, cons_option}
 use Rattle.agv_header.specs.Name.{name_cmp}
 use Rattle.agv_header.specs.declared.key.VehicleKey.{VehicleKey}
 use Rattle.agv_message.specs.declared.status.Status.{Status}
-use Rattle.agv_order.specs.StopPlaces.{is_pick}
+use Rattle.agv_order.specs.StopPlaces.{stop_picks}
 use Rattle.agv_order.specs.declared.act.Act.{Act}
 use Rattle.agv_order.specs.declared.stop.Stop.{Stop}
 use Rattle.agv_order.specs.declared.trip.Trip.{Trip}
@@ -97,7 +97,7 @@ module _ (world : World) where
   len_stopped (Some trip) = len_act_jobs true (map as_it_is trip.acts)
 
   begins_known : (stop : Stop) (entry : List ℕ × JobRow) → begins world stop ≡ Some entry → IsKnown world.jobs entry.0
-  begins_known stop entry is = by_pick (is_pick stop) is
+  begins_known stop entry is = by_pick (stop_picks stop) is
     where
       by_pick : (picks : Bool) → cond picks (job_in world stop.job (Some phase.Riding)) None ≡ Some entry → IsKnown world.jobs entry.0
       by_pick true e = job_known stop.job (Some phase.Riding) entry e

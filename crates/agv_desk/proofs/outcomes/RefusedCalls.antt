@@ -236,18 +236,18 @@ module _ (world : World) where
   registers seats key node capacity =
       by_require _ refusal.Exists _ refl (by_require _ refusal.NoNode _ refl (by_unheld _ _ (by_require _ refusal.Limit _ refl (by_made _ tt))))
 
-  hears_idle : (key : VehicleKey) (row : VehicleRow) (state : StateMessage) → Fits (idle_state key row state)
-  hears_idle key row state = by_judged _ _ (judges_idle _ _ state) (λ over. by_made _ tt)
+  takes_idle : (key : VehicleKey) (row : VehicleRow) (state : StateMessage) → Fits (idle_state key row state)
+  takes_idle key row state = by_judged _ _ (judges_idle _ _ state) (λ over. by_made _ tt)
 
   goes_on : (key : VehicleKey) (row : VehicleRow) (trip : Trip) (state : StateMessage) → Fits (trip_state world key row trip state)
   goes_on key row trip state = by_judged _ _ (judges trip _ state) (λ progress. by_made _ tt)
 
-  hears_fresh : (key : VehicleKey) (row : VehicleRow) (trip : Option Trip) (state : StateMessage) → Fits (fresh_state world key row trip state)
-  hears_fresh key row None state = hears_idle key row state
-  hears_fresh key row (Some trip) state = by_branch _ _ _ (goes_on key row trip state) (by_require _ refusal.OtherOrder _ refl (hears_idle key row state))
+  takes_fresh : (key : VehicleKey) (row : VehicleRow) (trip : Option Trip) (state : StateMessage) → Fits (fresh_state world key row trip state)
+  takes_fresh key row None state = takes_idle key row state
+  takes_fresh key row (Some trip) state = by_branch _ _ _ (goes_on key row trip state) (by_require _ refusal.OtherOrder _ refl (takes_idle key row state))
 
-  hears : (key : VehicleKey) (state : StateMessage) → Fits (take_state world key state)
-  hears key state = by_found _ refusal.NoVehicle _ refl (λ row. by_branch _ _ _ (hears_fresh key row _ state) (by_made _ tt))
+  takes_state : (key : VehicleKey) (state : StateMessage) → Fits (take_state world key state)
+  takes_state key state = by_found _ refusal.NoVehicle _ refl (λ row. by_branch _ _ _ (takes_fresh key row _ state) (by_made _ tt))
 
   counts : (reference : List ℕ) (rows : List Row) → Fits (take_stock world reference rows)
   counts reference rows =
@@ -269,7 +269,7 @@ module _ (world : World) where
   each seats at (call.Resume key) = by_found _ refusal.NoVehicle _ refl (λ row. instructs at key row _)
   each seats at (call.PlaceVehicle key reference node) = places key reference node
   each seats at (call.Resync key) = by_found _ refusal.NoVehicle _ refl (λ row. by_made _ tt)
-  each seats at (call.State key state) = hears key state
+  each seats at (call.State key state) = takes_state key state
   each seats at (call.GetOrder key) = by_found _ refusal.NoVehicle _ refl (λ row. by_made _ (tells_a_message key row _))
   each seats at (call.GetInstant key) = by_found _ refusal.NoVehicle _ refl (λ row. by_made _ (tells_an_action key row row.pending))
   each seats at (call.Stocktake reference rows) = counts reference rows

@@ -82,8 +82,8 @@ module _ (given : Given) (world : World) (in_order : IsInOrder world) where
   pub begins_anew : (key : VehicleKey) → IfMade P (resync world key)
   begins_anew key = made_found P _ _ _ (λ row there. leads given world in_order _ (lays_none world) (notes given world in_order key row _ there refl refl))
 
-  pub hears_idle : (key : VehicleKey) (row : VehicleRow) (state : StateMessage) → row_of world key ≡ Some row → IfMade P (idle_state key row state)
-  hears_idle key row state there =
+  pub takes_idle : (key : VehicleKey) (row : VehicleRow) (state : StateMessage) → row_of world key ≡ Some row → IfMade P (idle_state key row state)
+  takes_idle key row state there =
       made_judged P _ _ (λ over is. leads given world in_order _ (lays_none world) (notes given world in_order key row _ there refl refl))
 
   -- ---- a vehicle that stands without a trip

@@ -6,7 +6,7 @@ use Rattle.std.specs.List.{list_all}
 use Rattle.agv_header.specs.declared.key.VehicleKey.{VehicleKey}
 use Rattle.agv_layout.specs.Layout.{Layout}
 use Rattle.agv_order.specs.Plans.{planned}
-use Rattle.agv_order.specs.StopPlaces.{CanBeDone, is_pick}
+use Rattle.agv_order.specs.StopPlaces.{CanBeDone, stop_picks}
 use Rattle.agv_order.specs.Tours.{IsPlanOf}
 use Rattle.agv_order.specs.declared.fault.PlanFault.{PlanFault}
 use Rattle.agv_order.specs.declared.stop.Stop.{Stop}
@@ -54,7 +54,7 @@ module _ (fits : FitsAsSaid) (plans : PlansGoByRoutes) (world : World) (stock : 
 
   module _ (asked : AskedOrder) (row : VehicleRow) (jobs : List Job) (there : row_of world asked.key ≡ Some row) (idle : trip_of world asked.key ≡ None)
       (can : CanBeDone asked.stops) (read : jobs_for world asked.stops ≡ Some jobs) (wait : list_all waits jobs ≡ true)
-      (room : loads_on_vehicle world.places asked.key + count_by is_pick asked.stops ≤ row.capacity) where
+      (room : loads_on_vehicle world.places asked.key + count_by stop_picks asked.stops ≤ row.capacity) where
     here : finite.get world.vehicles asked.key ≡ Some (vehicle_with row None)
     here = known world asked.key row there ∙ ap (λ trip. Some (vehicle_with row trip)) idle
 
@@ -65,7 +65,7 @@ module _ (fits : FitsAsSaid) (plans : PlansGoByRoutes) (world : World) (stock : 
         let kept : StockInvariant world.layout _ (capacity_of world) world.places (written world.jobs (filter_map (begins world) stops)) =
         starts world stock asked.key trip.acts stops (ap action_views_for here) (stops_made world stops jobs read layout row.node 0 stops trip.edges trip.acts plan.goes) can
         (acts_begin world stops jobs read layout row.node 0 stops trip.edges trip.acts plan.goes)
-        (stops_wait world stops jobs read wait) (subst (λ n. loads_on_vehicle world.places asked.key + count_by is_pick stops ≤ n) (sym (ap capacity_for here)) room) in
+        (stops_wait world stops jobs read wait) (subst (λ n. loads_on_vehicle world.places asked.key + count_by stop_picks stops ≤ n) (sym (ap capacity_for here)) room) in
         made_unheld P _ _ (λ opened. made_found P _ _ _ (λ number next. made_require P _ _ _ (λ few.
         let after = with_vehicle world asked.key (sent_on row asked.at number (Some trip)) in
         record {
@@ -82,4 +82,4 @@ module _ (fits : FitsAsSaid) (plans : PlansGoByRoutes) (world : World) (stock : 
   start_keeps asked =
       made_require P _ _ _ (λ unused. made_found P _ _ _ (λ row there. made_require P _ _ _ (λ fit. made_found P _ _ _ (λ jobs read.
       made_require P _ _ _ (λ new. made_require P _ _ _ (λ wait. made_require P _ _ _ (λ idle. made_require P _ _ _ (λ no_rest. made_require P _ _ _ (λ room. made_require P _ _ _ (λ ready. made_require P _ _ _ (λ going.
-      order_keeps asked row jobs there (missing _ idle) ((fits asked.stops).0 fit) read wait (room_on_vehicle world asked.key (count_by is_pick asked.stops) row.capacity room))))))))))))
+      order_keeps asked row jobs there (missing _ idle) ((fits asked.stops).0 fit) read wait (room_on_vehicle world asked.key (count_by stop_picks asked.stops) row.capacity room))))))))))))

@@ -142,8 +142,8 @@ module _ (world : World) where
       made_require P _ _ _ (λ g. made_unheld P _ _ (λ h. made_found P _ _ _ (λ number i. plain _ tt)))))))))
 
   -- ---- states
-  hears_idle : (key : VehicleKey) (row : VehicleRow) (state : StateMessage) → IfMade P (idle_state key row state)
-  hears_idle key row state = made_judged P _ _ (λ over is. plain _ tt)
+  takes_idle : (key : VehicleKey) (row : VehicleRow) (state : StateMessage) → IfMade P (idle_state key row state)
+  takes_idle key row state = made_judged P _ _ (λ over is. plain _ tt)
 
   module _ (fits : FitsAsSaid) (advances : AdvancesTrips) (seats : ℕ) (lawful : HasLawfulVehicles seats world) (stock : HasStockInvariant world) where
     goes_on_trip : (key : VehicleKey) (row : VehicleRow) (trip : Trip) (state : StateMessage) → finite.get world.vehicles key ≡ Some (vehicle_with row (Some trip)) → IfMade P (trip_state world key row trip state)
@@ -163,13 +163,13 @@ module _ (world : World) where
         few_acts : length (map task_of trip.acts) ≤ 8 → length trip.acts ≤ 8
         few_acts few = omega (arith, length-map trip.acts task_of)
 
-    hears_fresh : (key : VehicleKey) (row : VehicleRow) (state : StateMessage) → row_of world key ≡ Some row → (trip : Option Trip) → trip_of world key ≡ trip → IfMade P (fresh_state world key row trip state)
-    hears_fresh key row state there None same = hears_idle key row state
-    hears_fresh key row state there (Some trip) same =
-        made_branch P _ _ _ (goes_on_trip key row trip state (known world key row there ∙ ap (λ t. Some (vehicle_with row t)) same)) (made_require P _ _ _ (λ fresh. hears_idle key row state))
+    takes_fresh : (key : VehicleKey) (row : VehicleRow) (state : StateMessage) → row_of world key ≡ Some row → (trip : Option Trip) → trip_of world key ≡ trip → IfMade P (fresh_state world key row trip state)
+    takes_fresh key row state there None same = takes_idle key row state
+    takes_fresh key row state there (Some trip) same =
+        made_branch P _ _ _ (goes_on_trip key row trip state (known world key row there ∙ ap (λ t. Some (vehicle_with row t)) same)) (made_require P _ _ _ (λ fresh. takes_idle key row state))
 
     takes_state : (key : VehicleKey) (state : StateMessage) → IfMade P (take_state world key state)
-    takes_state key state = made_found P _ _ _ (λ row there. made_branch P _ _ _ (hears_fresh key row state there (trip_of world key) refl) (plain _ tt))
+    takes_state key state = made_found P _ _ _ (λ row there. made_branch P _ _ _ (takes_fresh key row state there (trip_of world key) refl) (plain _ tt))
 
     -- ---- every call
     pub finds_all : (at : ℕ) (made : Call) → IfMade P (step seats world at made)

@@ -11,7 +11,7 @@ use Rattle.agv_message.specs.declared.order.ActKind.{ActKind}
 use Rattle.agv_message.specs.declared.order.ActKind.TheVariants.{Pick, Drop}
 use Rattle.agv_message.specs.declared.status.Status.TheVariants as status
 use Rattle.agv_order.specs.Plans.{job_named, stop_station}
-use Rattle.agv_order.specs.StopPlaces.{is_pick}
+use Rattle.agv_order.specs.StopPlaces.{stop_picks}
 use Rattle.agv_order.specs.Tours.{MakesStop, MakesStops}
 use Rattle.agv_order.specs.declared.act.Act.{Act}
 use Rattle.agv_order.specs.declared.stop.Stop.{Stop}
@@ -49,7 +49,7 @@ pub record WaitsIn (world : World) (name : List ℕ) : Type 0 where
 
 -- the job of a pick begins to ride
 abbrev pub begins : World → Stop → Option (List ℕ × JobRow)
-begins world stop = if is_pick stop then job_in world stop.job (Some phase.Riding) else None
+begins world stop = if stop_picks stop then job_in world stop.job (Some phase.Riding) else None
 
 module _ (world : World) where
   -- the row of a stop's job
@@ -76,7 +76,7 @@ module _ (world : World) where
 
   riding_first : (stop : Stop) (job : Job) (row : JobRow) → finite.get world.jobs stop.job ≡ Some row → job ≡ named stop.job row → riding_by (stop, job) ≡ begins world stop
   riding_first stop job row there is =
-      elim (is_pick stop) as (λ pick. cond pick (Some (job.name, record { load = job.load; origin = job.origin; target = job.target; phase = phase.Riding })) None ≡ cond pick (job_in world stop.job (Some phase.Riding)) None) [
+      elim (stop_picks stop) as (λ pick. cond pick (Some (job.name, record { load = job.load; origin = job.origin; target = job.target; phase = phase.Riding })) None ≡ cond pick (job_in world stop.job (Some phase.Riding)) None) [
         | true ↦
             ap (λ (j : Job). Some (j.name, record { load = j.load; origin = j.origin; target = j.target; phase = phase.Riding })) is
             ∙ sym (ap (option_map (λ (r : JobRow). (stop.job, record r { phase = phase.Riding }))) there)

@@ -8,7 +8,7 @@ use Rattle.agv_header.specs.declared.key.VehicleKey.{VehicleKey}
 use Rattle.agv_message.specs.declared.order.ActKind.{ActKind}
 use Rattle.agv_message.specs.declared.order.ActKind.TheVariants.{Pick, Drop}
 use Rattle.agv_order.specs.Statuses.{is_finished}
-use Rattle.agv_order.specs.StopPlaces.{CanBeDone, IsAt, IsPickedThenDropped, is_pick}
+use Rattle.agv_order.specs.StopPlaces.{CanBeDone, IsAt, IsPickedThenDropped, stop_picks}
 use Rattle.agv_order.specs.Stops.{is_drop}
 use Rattle.agv_order.specs.declared.act.Act.{Act}
 use Rattle.agv_order.specs.declared.stop.Stop.{Stop}
@@ -53,10 +53,10 @@ act_of_stop (first ∷ acts) zero stop at = (first, refl, same_some at)
 act_of_stop (first ∷ acts) (suc k) stop at = act_of_stop acts k stop at
 
 -- at most as many loads are still to be picked as there are picks
-due_picks : (acts : List Act) → to_pick (action_views acts) ≤ count_by is_pick (map stop_by acts)
+due_picks : (acts : List Act) → to_pick (action_views acts) ≤ count_by stop_picks (map stop_by acts)
 due_picks [] = omega arith
 due_picks (act ∷ acts) =
-    counted (is_drop act.kind) (is_finished act.status) _ _ _ _ (due-cons (action_view act) (action_views acts)) (sum_by-cons (λ (s : Stop). one_if (is_pick s)) (stop_by act) (map stop_by acts)) (due_picks acts)
+    counted (is_drop act.kind) (is_finished act.status) _ _ _ _ (due-cons (action_view act) (action_views acts)) (sum_by-cons (λ (s : Stop). one_if (stop_picks s)) (stop_by act) (map stop_by acts)) (due_picks acts)
   where
     counted : (drop over : Bool) (all d more e : ℕ) → all ≡ one_if (not drop && not over) + d → more ≡ one_if (not drop) + e → d ≤ e → all ≤ more
     counted true over all d more e f g h = omega (arith, f, g, h)
@@ -88,7 +88,7 @@ module _ (world : World) (stock : HasStockInvariant world) where
   module _ (key : VehicleKey) (acts : List Act) (stops : List Stop) (idle : action_views_of world key ≡ []) (made : map stop_by acts ≡ stops) (can : CanBeDone stops)
       (begin : (k : ℕ) (act : Act) → slice_get acts k ≡ Some act → Begins world act)
       (wait : (k : ℕ) (stop : Stop) → slice_get stops k ≡ Some stop → WaitsIn world stop.job)
-      (fits : loads_on_vehicle world.places key + count_by is_pick stops ≤ capacity_of world key) where
+      (fits : loads_on_vehicle world.places key + count_by stop_picks stops ≤ capacity_of world key) where
     Picks : List ℕ → Type 0
     Picks job = (k : ℕ) × IsAt stops job Pick k
 
@@ -177,7 +177,7 @@ module _ (world : World) (stock : HasStockInvariant world) where
         | inl same ↦
             subst (λ v. loads_on_vehicle world.places v + to_pick (carries_after v) ≤ capacity_of world v) (sym same)
             (subst (λ xs. loads_on_vehicle world.places key + to_pick xs ≤ capacity_of world key) (sym (with_here (action_views_of world) key (action_views acts)))
-            (board _ _ _ _ (subst (λ ss. to_pick (action_views acts) ≤ count_by is_pick ss) made (due_picks acts)) fits))
+            (board _ _ _ _ (subst (λ ss. to_pick (action_views acts) ≤ count_by stop_picks ss) made (due_picks acts)) fits))
         | inr apart ↦ subst (λ xs. loads_on_vehicle world.places other + to_pick xs ≤ capacity_of world other) (sym (with_there (action_views_of world) key (action_views acts) other apart)) (stock.within_capacity other)
       ];
       one_job = λ one other row further at there live too same.

@@ -59,18 +59,18 @@ module _ (P : Answer → Type 0) (is : IsOfOutcomes P) (world : World) where
   registers seats key node capacity =
       of_require P is.refused _ _ _ (of_require P is.refused _ _ _ (of_unheld P is.refused _ _ (of_require P is.refused _ _ _ (of_made P is.refused _ is.done))))
 
-  hears_idle : (key : VehicleKey) (row : VehicleRow) (state : StateMessage) → P (answer_of (idle_state key row state))
-  hears_idle key row state = of_judged P is.refused _ _ (λ over. of_made P is.refused _ (is.accepted true))
+  takes_idle : (key : VehicleKey) (row : VehicleRow) (state : StateMessage) → P (answer_of (idle_state key row state))
+  takes_idle key row state = of_judged P is.refused _ _ (λ over. of_made P is.refused _ (is.accepted true))
 
   goes_on : (key : VehicleKey) (row : VehicleRow) (trip : Trip) (state : StateMessage) → P (answer_of (trip_state world key row trip state))
   goes_on key row trip state = of_judged P is.refused _ _ (λ progress. of_made P is.refused _ (is.accepted true))
 
-  hears_fresh : (key : VehicleKey) (row : VehicleRow) (trip : Option Trip) (state : StateMessage) → P (answer_of (fresh_state world key row trip state))
-  hears_fresh key row None state = hears_idle key row state
-  hears_fresh key row (Some trip) state = of_branch P is.refused _ _ _ (goes_on key row trip state) (of_require P is.refused _ _ _ (hears_idle key row state))
+  takes_fresh : (key : VehicleKey) (row : VehicleRow) (trip : Option Trip) (state : StateMessage) → P (answer_of (fresh_state world key row trip state))
+  takes_fresh key row None state = takes_idle key row state
+  takes_fresh key row (Some trip) state = of_branch P is.refused _ _ _ (goes_on key row trip state) (of_require P is.refused _ _ _ (takes_idle key row state))
 
-  hears : (key : VehicleKey) (state : StateMessage) → P (answer_of (take_state world key state))
-  hears key state = of_found P is.refused _ _ _ (λ row. of_branch P is.refused _ _ _ (hears_fresh key row _ state) (of_made P is.refused _ (is.accepted false)))
+  takes_state : (key : VehicleKey) (state : StateMessage) → P (answer_of (take_state world key state))
+  takes_state key state = of_found P is.refused _ _ _ (λ row. of_branch P is.refused _ _ _ (takes_fresh key row _ state) (of_made P is.refused _ (is.accepted false)))
 
   counts : (reference : List ℕ) (rows : List Row) → P (answer.Counted (length (count_moves world rows)) (unknown_in world rows)) → P (answer_of (take_stock world reference rows))
   counts reference rows h =
@@ -95,7 +95,7 @@ module _ (P : Answer → Type 0) (is : IsOfOutcomes P) (world : World) where
   outcome_of seats at (call.Resume key) more h = of_found P is.refused _ _ _ (λ row. instructs at key row _)
   outcome_of seats at (call.PlaceVehicle key reference node) more h = places key reference node
   outcome_of seats at (call.Resync key) more h = of_found P is.refused _ _ _ (λ row. of_made P is.refused _ is.done)
-  outcome_of seats at (call.State key state) more h = hears key state
+  outcome_of seats at (call.State key state) more h = takes_state key state
   outcome_of seats at (call.GetOrder key) more h = absurd (true≢false more)
   outcome_of seats at (call.GetInstant key) more h = absurd (true≢false more)
   outcome_of seats at (call.Stocktake reference rows) more h = counts reference rows h

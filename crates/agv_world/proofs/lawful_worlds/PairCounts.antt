@@ -6,7 +6,7 @@ use Rattle.std.proofs.lemmas.Bool.{and_parts, and_from, false_from_ne_true, true
 use Rattle.std.proofs.lemmas.List.Sums.{sum_by-cons}
 use Rattle.agv_message.specs.declared.order.ActKind.{ActKind}
 use Rattle.agv_message.specs.declared.order.ActKind.TheVariants.{Pick, Drop}
-use Rattle.agv_order.specs.StopPlaces.{is_pick}
+use Rattle.agv_order.specs.StopPlaces.{stop_picks}
 use Rattle.agv_order.specs.Stops.{is_drop, is_of, is_pick_then_drop, kinds_of, stops_fit}
 use Rattle.agv_order.specs.declared.act.Act.{Act}
 use Rattle.agv_order.specs.declared.stop.Stop.{Stop}
@@ -79,11 +79,11 @@ fit_or_none (x ∷ xs) each = inr each
 
 -- fitting stops are twice as many as the picks
 abbrev pub StopsTwice : Type 0
-StopsTwice = (stops : List Stop) → IsTrue (stops_fit stops) → length stops ≡ 2 * length (filter is_pick stops)
+StopsTwice = (stops : List Stop) → IsTrue (stops_fit stops) → length stops ≡ 2 * length (filter stop_picks stops)
 
 -- so many stops are drops, and so many are picks
 abbrev Sizes : List Stop → ℕ → ℕ → Type 0
-Sizes stops drops picks = (length stops ≡ drops + picks) × (length (filter is_pick stops) ≡ picks)
+Sizes stops drops picks = (length stops ≡ drops + picks) × (length (filter stop_picks stops) ≡ picks)
 
 module _ (test : List ℕ → Bool) where
   abbrev passes : Stop → Bool
@@ -95,10 +95,10 @@ module _ (test : List ℕ → Bool) where
       ap (λ own. is_pick_then_drop (map (λ (s : Stop). s.kind) own)) (sym (filter_twice (is_of stop.job) passes (λ other own. ap test (same_text other.job stop.job (sym own)) ∙ kept) stops)))
       stops (each_served stops fits))
 
-  kept_twice : StopsTwice → (stops : List Stop) → IsTrue (stops_fit stops) → length (filter passes stops) ≡ 2 * length (filter is_pick (filter passes stops))
+  kept_twice : StopsTwice → (stops : List Stop) → IsTrue (stops_fit stops) → length (filter passes stops) ≡ 2 * length (filter stop_picks (filter passes stops))
   kept_twice twice stops fits =
       elim (kept_fit stops fits) [
-        | inl none ↦ ap length none ∙ sym (ap (λ zs. 2 * length (filter is_pick zs)) none)
+        | inl none ↦ ap length none ∙ sym (ap (λ zs. 2 * length (filter stop_picks zs)) none)
         | inr fit ↦ twice (filter passes stops) fit
       ]
 

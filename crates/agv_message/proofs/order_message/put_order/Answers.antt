@@ -36,7 +36,7 @@ returns-clause-appended c =
     let edges = ap order_front c.as_slice.ensures in
     let nodes = ap (λ (ns : List OrderNode). compact_text (list (map (node_data c.args.order.now.order) ns))) c.as_slice-2.ensures in
     two_texts _ _ _ _ _ _ _ _ (same_text _ _ _ _ _ edges c.in_ok-put_front.ensures.appended)
-    (three_texts _ _ _ _ _ _ _ _ _ _ _ c.in_ok-put_middle.ensures.appended (same_text _ _ _ _ _ nodes c.in_ok-put_nodes.ensures.appended) c.put_rest.ensures.appended refl)
+    (three_texts _ _ _ _ _ _ _ _ _ _ _ c.in_ok-put_middle.ensures.appended (same_text _ _ _ _ _ nodes c.in_ok-put_nodes.ensures.appended) c.put_end.ensures.appended refl)
     (order_text c.args.header.now c.args.order.now)
 
 pub returns-clause-reads_back : goal.returns-clause-reads_back
@@ -44,4 +44,4 @@ returns-clause-reads_back c =
     let edges = subst (λ (xs : List OrderEdge). IsReadable (list (map edge_data xs))) c.as_slice.ensures c.in_ok-put_front.ensures.readable in
     let nodes = subst (λ (xs : List OrderNode). IsReadable (list (map (node_data c.args.order.now.order) xs))) c.as_slice-2.ensures c.in_ok-put_nodes.ensures.readable in
     let middle = c.in_ok-put_middle.ensures.readable in
-    on_ok _ c.put_rest.ensures.readable (λ rest. order-back c.args.header.now c.args.order.now edges middle.0 middle.1 nodes rest.0 rest.1 rest.2 rest.3)
+    on_ok _ c.put_end.ensures.readable (λ rest. order-back c.args.header.now c.args.order.now edges middle.0 middle.1 nodes rest.0 rest.1 rest.2 rest.3)

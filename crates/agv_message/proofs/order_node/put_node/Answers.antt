@@ -23,10 +23,10 @@ returns-in_err-put_acts-clause-appended c =
 pub returns-clause-appended : goal.returns-clause-appended
 returns-clause-appended c =
     let acts = ap (λ (xs : List OrderAct). compact_text (list (map (act_data c.args.order.now) xs))) c.as_slice.ensures in
-    three_texts _ _ _ _ _ _ _ _ _ _ _ c.in_ok-put_front.ensures (same_text _ _ _ _ _ acts c.in_ok-put_acts.ensures.appended) c.put_rest.ensures.appended
+    three_texts _ _ _ _ _ _ _ _ _ _ _ c.in_ok-put_front.ensures (same_text _ _ _ _ _ acts c.in_ok-put_acts.ensures.appended) c.put_end.ensures.appended
     (node_text c.args.before.now c.args.order.now c.args.node.now)
 
 pub returns-clause-readable : goal.returns-clause-readable
 returns-clause-readable c =
     let acts = subst (λ (xs : List OrderAct). IsReadable (list (map (act_data c.args.order.now) xs))) c.as_slice.ensures c.in_ok-put_acts.ensures.readable in
-    on_ok _ c.put_rest.ensures.readable (λ rest. node-readable c.args.order.now c.args.node.now acts rest.0 rest.1)
+    on_ok _ c.put_end.ensures.readable (λ rest. node-readable c.args.order.now c.args.node.now acts rest.0 rest.1)

@@ -12,19 +12,19 @@ returns-in-None g c =
     follows g.S.Store c.args.conn.now c.query_vehicle_row.new.conn c.in_ok-vehicle.vehicle _ _ (Ok None)
     (λ world lawful one. neither (row_of world c.args.key.now) (sym c.in-None.is ∙ one)) c.in_ok-vehicle.ensures
 
-pub returns-in_err-room-in-Some : goal.returns-in_err-room-in-Some
-returns-in_err-room-in-Some g c =
+pub returns-in_err-capacity-in-Some : goal.returns-in_err-capacity-in-Some
+returns-in_err-capacity-in-Some g c =
     then_passes g.S.Store c.args.conn.now c.query_vehicle_row.new.conn c.query_capacity.new.conn c.in_ok-vehicle.vehicle _ c.in_ok-vehicle.ensures
-    c.in_err-room-in-Some.field-0.0 _ _ c.from_residual-in_err-room-in-Some.result c.from_residual-in_err-room-in-Some.ensures.1 c.in_err-room-in-Some.ensures
+    c.in_err-capacity-in-Some.field-0.0 _ _ c.from_residual-in_err-capacity-in-Some.result c.from_residual-in_err-capacity-in-Some.ensures.1 c.in_err-capacity-in-Some.ensures
 
-pub returns-in-None-room : goal.returns-in-None-room
-returns-in-None-room g c =
+pub returns-in-None-capacity : goal.returns-in-None-capacity
+returns-in-None-capacity g c =
     then_follows g.S.Store c.args.conn.now c.query_vehicle_row.new.conn c.query_capacity.new.conn c.in_ok-vehicle.vehicle _ c.in_ok-vehicle.ensures
-    c.in_ok-room-in-Some.room _ _ (Err _)
-    (λ world lawful one two. not_one (row_of world c.args.key.now) c.in-Some.vehicle (sym c.in-Some.is ∙ one) (sym c.in-None-room.is ∙ two)) c.in_ok-room-in-Some.ensures
+    c.in_ok-capacity-in-Some.capacity _ _ (Err _)
+    (λ world lawful one two. not_one (row_of world c.args.key.now) c.in-Some.vehicle (sym c.in-Some.is ∙ one) (sym c.in-None-capacity.is ∙ two)) c.in_ok-capacity-in-Some.ensures
 
-pub returns-in-Some-room : goal.returns-in-Some-room
-returns-in-Some-room g c =
+pub returns-in-Some-capacity : goal.returns-in-Some-capacity
+returns-in-Some-capacity g c =
     then_follows g.S.Store c.args.conn.now c.query_vehicle_row.new.conn c.query_capacity.new.conn c.in_ok-vehicle.vehicle _ c.in_ok-vehicle.ensures
-    c.in_ok-room-in-Some.room _ _ (Ok _)
-    (λ world lawful one two. joined (row_of world c.args.key.now) c.in-Some.vehicle c.in-Some-room.room (sym c.in-Some.is ∙ one) (sym c.in-Some-room.is ∙ two)) c.in_ok-room-in-Some.ensures
+    c.in_ok-capacity-in-Some.capacity _ _ (Ok _)
+    (λ world lawful one two. joined (row_of world c.args.key.now) c.in-Some.vehicle c.in-Some-capacity.capacity (sym c.in-Some.is ∙ one) (sym c.in-Some-capacity.is ∙ two)) c.in_ok-capacity-in-Some.ensures

@@ -6,7 +6,7 @@ use Rattle.agv_message.proofs.Appending.{same_text}
 use Rattle.std.proofs.Common.{subst}
 use Rattle.agv_message.specs.Readable.{IsReadable}
 use Rattle.agv_message.proofs.Readings.{on_ok}
-use Rattle.agv_message.proofs.order_message.put_rest.Goals as goal
+use Rattle.agv_message.proofs.order_message.put_end.Goals as goal
 
 pub returns-clause-appended : goal.returns-clause-appended
 returns-clause-appended c =
