@@ -1,14 +1,16 @@
 //! A line is carried out: the file that it names is opened, or a database in memory, and its connection handed on.
-ghost use Rattle.std.specs.Prelude.{◌≡◌, codes};
+ghost use Rattle.std.specs.Prelude.{◌≡◌, IfOk, codes};
+ghost use Rattle.sqlite.specs.Held.{IsNew};
 ghost use Rattle.agv_program.specs.Runs.{IsCarriedOut, IsReplayedInMemory, IsRun, IsTold, status_of};
 
 use crate::connections::serve;
 use crate::desks::{migrate, replay, report};
 use crate::outcome::RunFault;
-use agv_command_line::{Line, ReportKind};
+use agv_command_line::Line;
 use agv_database::laws::stores_in_memory_are_clean;
 use agv_database::{open_file, open_in_memory};
 use agv_face::{CountingIo, write_whole};
+use sqlite::{Alter, Connection, Error};
 use std::alloc::Global;
 use std::io::{Read, Write};
 
@@ -42,54 +44,18 @@ fn carry_out<R: Read, W: Write>(
     ensures { IsCarriedOut R.remaining W.contents reader.old reader.new writer.old writer.new line.now result }
 {
     match *line {
-        Line::Replay { db, at } => replay_by(rt, alloc, db, at, reader, writer),
-        Line::Serve {
-            db,
-            port,
-            connections,
-        } => serve_file(rt, alloc, db, port, connections, writer),
-        Line::Report { db, kind } => report_on_file(rt, alloc, db, kind, writer),
-        Line::Migrate { db } => migrate_file(rt, alloc, db, writer),
+        Line::Replay { db, at } => replay_by(rt, alloc, line, db, at, reader, writer),
+        Line::Serve { db, .. } => carry_out_on_file(rt, alloc, line, db, reader, writer),
+        Line::Report { db, .. } => carry_out_on_file(rt, alloc, line, db, reader, writer),
+        Line::Migrate { db } => carry_out_on_file(rt, alloc, line, db, reader, writer),
     }
-}
-
-/// Serves connections by the desk in the file.
-fn serve_file<W: Write>(
-    rt: &HostRuntime,
-    alloc: Global,
-    db: &str,
-    port: u16,
-    connections: u32,
-    writer: &mut CountingIo<W>,
-) -> Result<(), RunFault> {
-    serve(rt, alloc, open_file(rt, db), port, connections, writer)
-}
-
-/// Prints a report of the desk in the file.
-fn report_on_file<W: Write>(
-    rt: &HostRuntime,
-    alloc: Global,
-    db: &str,
-    kind: ReportKind,
-    writer: &mut CountingIo<W>,
-) -> Result<(), RunFault> {
-    report(alloc, open_file(rt, db), kind, writer)
-}
-
-/// Migrates the file from the first schema to the second.
-fn migrate_file<W: Write>(
-    rt: &HostRuntime,
-    alloc: Global,
-    db: &str,
-    writer: &mut CountingIo<W>,
-) -> Result<(), RunFault> {
-    migrate(alloc, open_file(rt, db), writer)
 }
 
 /// Serves the reader's requests by the desk in the file, or by a new one in memory where `memory` stands for the file.
 fn replay_by<R: Read, W: Write>(
     rt: &HostRuntime,
     alloc: Global,
+    line: &Line<'_>,
     db: &str,
     at: u64,
     reader: &mut CountingIo<R>,
@@ -100,19 +66,42 @@ fn replay_by<R: Read, W: Write>(
     if db == "memory" {
         return replay_in_memory(alloc, at, reader, writer);
     }
-    replay_on_file(rt, alloc, db, at, reader, writer)
+    carry_out_on_file(rt, alloc, line, db, reader, writer)
 }
 
-/// Serves the reader's requests by the desk in the file.
-fn replay_on_file<R: Read, W: Write>(
+/// Does what the line says, in the database that the file has.
+fn carry_out_on_file<R: Read, W: Write>(
     rt: &HostRuntime,
     alloc: Global,
+    line: &Line<'_>,
     db: &str,
-    at: u64,
     reader: &mut CountingIo<R>,
     writer: &mut CountingIo<W>,
 ) -> Result<(), RunFault> {
-    replay(alloc, open_file(rt, db), at, reader, writer)
+    carry_out_in(rt, alloc, line, open_file(rt, db), reader, writer)
+}
+
+/// Does what the line says, in this database.
+fn carry_out_in<S: Alter + Drop, R: Read, W: Write>(
+    rt: &HostRuntime,
+    alloc: Global,
+    line: &Line<'_>,
+    opened: Result<Connection<S>, Error>,
+    reader: &mut CountingIo<R>,
+    writer: &mut CountingIo<W>,
+) -> Result<(), RunFault>
+    requires { IfOk opened IsNew }
+{
+    match *line {
+        Line::Replay { at, .. } => replay(alloc, opened, at, reader, writer),
+        Line::Serve {
+            port,
+            connections,
+            ..
+        } => serve(rt, alloc, opened, port, connections, writer),
+        Line::Report { kind, .. } => report(alloc, opened, kind, writer),
+        Line::Migrate { .. } => migrate(alloc, opened, writer),
+    }
 }
 
 /// Serves the reader's requests by a new desk in memory.
