@@ -90,7 +90,7 @@ BREAKS = [
     ("UPDATE load SET serial = '0009' WHERE id = 'L1'", 'places of loads', 'load L1'),
     ("UPDATE load SET serial = '0002' WHERE id = 'L1'", 'loads under way', 'load L1, act O2, 0'),
     ("UPDATE load SET kind = 'checking', manufacturer = NULL, serial = NULL WHERE id = 'L1'", 'loads under way', 'load L1, act O2, 0'),
-    ("UPDATE load SET kind = 'vehicle', manufacturer = 'KIT', serial = '0001' WHERE id = 'L3'", 'room on a vehicle', 'vehicle KIT/0001'),
+    ("UPDATE load SET kind = 'vehicle', manufacturer = 'KIT', serial = '0001' WHERE id = 'L3'", 'capacity of a vehicle', 'vehicle KIT/0001'),
     ("DELETE FROM load WHERE id = 'L6'", 'load and stations of a job', 'job J4'),
     ("UPDATE load SET station = 'D' WHERE id = 'L5'", 'loads of waiting jobs', 'job J5, load L5'),
     ("INSERT INTO load VALUES ('a/b', 'checking', NULL, NULL, NULL)", 'names', 'load a/b'),
@@ -141,7 +141,7 @@ BREAKS = [
     ("UPDATE leg SET k = -1 WHERE k = 1", 'numbers', 'leg O2, -1'),
     ("UPDATE load SET serial = NULL WHERE id = 'L1'", 'places of loads', 'load L1'),
     ("UPDATE load SET kind = 'lost' WHERE id = 'L2'", 'words', 'load L2'),
-    ("INSERT INTO load VALUES ('L9', 'vehicle', NULL, 'KIT', '0001')", 'room on a vehicle', 'vehicle KIT/0001'),
+    ("INSERT INTO load VALUES ('L9', 'vehicle', NULL, 'KIT', '0001')", 'capacity of a vehicle', 'vehicle KIT/0001'),
     ("INSERT INTO load VALUES ('L9', 'station', 'Z', NULL, NULL)", 'places of loads', 'load L9'),
     ("UPDATE job SET phase = '' WHERE id = 'J2'", 'words', 'job J2'),
     ("UPDATE job SET id = 'J 1' WHERE id = 'J1'", 'names', 'job J 1'),
@@ -206,8 +206,8 @@ ALONE = {
     'places of loads': ("UPDATE load SET station = 'A' WHERE id = 'L3'", {('places of loads', 'load L3')}),
     'load and stations of a job': ("UPDATE job SET load = 'L9' WHERE id = 'J1'", {('load and stations of a job', 'job J1')}),
     'room at a station': ("UPDATE station SET capacity = 1 WHERE id = 'B'", {('room at a station', 'station B')}),
-    'room on a vehicle': (
-        "UPDATE load SET kind = 'vehicle', manufacturer = 'KIT', serial = '0001' WHERE id = 'L3'", {('room on a vehicle', 'vehicle KIT/0001')}),
+    'capacity of a vehicle': (
+        "UPDATE load SET kind = 'vehicle', manufacturer = 'KIT', serial = '0001' WHERE id = 'L3'", {('capacity of a vehicle', 'vehicle KIT/0001')}),
     'one live job a load': (
         "UPDATE job SET load = 'L5', origin = 'A', phase = 'waiting' WHERE id = 'J4'", {('one live job a load', 'load L5')}),
     'riding jobs': ("UPDATE job SET phase = 'riding' WHERE id = 'J5'", {('riding jobs', 'job J5')}),

@@ -88,17 +88,17 @@ class Building(Tree):
 
     def test_a_crate_over_the_kits_sqlite_takes_more_memory(self) -> None:
         lines = ['agv_plain: json', 'agv_tables: agv_plain sqlite sqlite_value', 'agv_over: agv_tables']
-        self.assertEqual([it.first_job for it in BUILDER.read_crates(lines)], [BUILDER.PLAIN_JOB, BUILDER.SQLITE_JOB, BUILDER.SQLITE_JOB])
+        self.assertEqual([it.first_job for it in BUILDER.read_crates(lines, {})], [BUILDER.PLAIN_JOB, BUILDER.SQLITE_JOB, BUILDER.SQLITE_JOB])
 
     def test_the_longer_the_chain_the_more_jobs(self) -> None:
-        self.assertEqual([BUILDER.rank(chain, 100, 1, 4) for chain in (100, 91, 90, 71, 70, 1)], [(4, 0), (4, 0), (2, 0), (2, 0), (1, 10), (1, 10)])
-        self.assertEqual([BUILDER.rank(100, 100, urgent, 4) for urgent in (2, 3, 5)], [(2, 0), (1, 0), (1, 0)])
+        self.assertEqual([BUILDER.rank(chain, 100, 1, 4) for chain in (100, 91, 90, 61, 60, 1)], [(4, 0), (4, 0), (1, 0), (1, 0), (1, 10), (1, 10)])
+        self.assertEqual([BUILDER.rank(100, 100, urgent, 4) for urgent in (2, 3, 5)], [(2, 0), (2, 0), (1, 0)])
         self.assertEqual([BUILDER.rank(chain, 100, 1, 1) for chain in (100, 1)], [(1, 0), (1, 10)])
 
     def test_what_little_follows_uses_what_the_others_leave(self) -> None:
-        """A crate that few bytes follow is built with a higher niceness."""
+        """A crate that little follows is built with a higher niceness."""
         self.set_crates(TWO)
-        self.write('crates/agv_left/src/lib.rt', 'x' * 1_000_000)
+        self.write('docs/GATE.md', '| agv_left | | 1000 |\n')
         self.note('niceness')
         self.assertEqual(self.run_desk('replay')[0], 3)
         own = os.nice(0)
@@ -106,16 +106,21 @@ class Building(Tree):
                          [str(min(19, own + more)) for more in (0, 0, 10, 0)])
 
     def test_the_longest_chain_of_crates_begins_first(self) -> None:
+        """By the processor seconds of the page, and as many for each other crate as one of the usual size takes."""
         lines = ['agv_small:', 'agv_large:', 'agv_over_small: agv_small', 'agv_app: agv_large agv_over_small']
-        for line, size in zip(lines, (1, 5, 5, 1)):
-            self.write('crates/%s/src/lib.rt' % line.split(':')[0], 'x' * size)
-        self.addCleanup(setattr, BUILDER, 'TOP', getattr(BUILDER, 'TOP'))
-        setattr(BUILDER, 'TOP', self.top)
-        chains = {it.name: it.chain for it in BUILDER.read_crates(lines)}
-        parts = len('text') * 2  # of agv_app, whose specs/ and proofs/ are there
-        each = BUILDER.EACH_CRATE
-        self.assertEqual(chains, {'agv_small': 7 + parts + 3 * each, 'agv_large': 6 + parts + 2 * each, 'agv_over_small': 6 + parts + 2 * each,
-                                  'agv_app': 1 + parts + each})
+        page = '| What | Time | Processor seconds |\n| agv_small, agv_large | | 30, 500 |\n| agv_app, built | | 900 |\n| `agv_app` | 7 min | 900 |\n'
+        seconds = BUILDER.seconds_told(page)
+        self.assertEqual(seconds, {'agv_small': 30, 'agv_large': 500})
+        other = BUILDER.OTHER_CRATE
+        self.assertEqual({it.name: it.chain for it in BUILDER.read_crates(lines, seconds)},
+                         {'agv_small': 30 + 2 * other, 'agv_large': 500 + other, 'agv_over_small': 2 * other, 'agv_app': other})
+
+    def test_the_gate_says_what_crates_take(self) -> None:
+        with open(os.path.join(TOP, 'docs', 'GATE.md')) as file:
+            told = BUILDER.seconds_told(file.read())
+        self.assertGreater(len(told), 15)
+        with open(os.path.join(TOP, 'crates.txt')) as file:
+            self.assertLessEqual(told.keys(), {line.split(':')[0] for line in file})
 
     def test_a_terminal_shows_how_far_it_is(self) -> None:
         """The build of each crate ends once the terminal has shown it."""

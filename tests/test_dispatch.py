@@ -8,13 +8,29 @@ from programs import PATIENCE
 from test_program import Serving, over_sockets
 
 from nulvrader.client import Desk
-from nulvrader.dispatch.dispatcher import Dispatcher
+from nulvrader.dispatch.dispatcher import BY_ITSELF, Dispatcher
 from nulvrader.dispatch.traffic import Judge, Still, Traffic
 from nulvrader.dispatch.ways import Ways
 from nulvrader.layouts import read_layout
 from nulvrader.names import VehicleKey
 from nulvrader.notes import Noted, Notes, read_notes
 from nulvrader.questions import held
+
+# Why the orders of `line` block one another: neither's target was known when it was given.
+SHUT_IN = 'since KIT/0001 goes on to d, KIT/0002 goes on to a'
+
+
+class Careless(Judge):
+    """Allows whatever is asked, and sees who can't finish then."""
+
+    def may_release(self, traffic, vehicle, nodes):
+        return True
+
+    def plainly(self, traffic, vehicle, way):
+        return True
+
+    def may_start(self, traffic, vehicle, way):
+        return True
 
 
 @over_sockets
@@ -167,10 +183,10 @@ class Orders(OverADesk):
         self.turn()
         self.assertEqual(self.dispatcher.book.known, {'J3': 'B'})
 
-    def line(self, *more):
+    def line(self, *more, judge=None, jobs=3):
         """A desk on whose line a, b, c, d one vehicle is at either end, with its dispatcher, its vehicles' states and its lines. Of three
         jobs that were there before no target is known: one leads from A to D, and one from D to A. `more` are further rows of the
-        layout."""
+        layout; `jobs` is how many of the jobs there are."""
         serving = Serving(os.path.join(self.folder.name, 'line.db'), 10 ** 6)
         self.addCleanup(serving.__exit__)
         line = ['edge,%s%s,%s,%s' % (x, y, x, y) for x, y in ('ab', 'ba', 'bc', 'cb', 'cd', 'dc')]
@@ -184,9 +200,10 @@ class Orders(OverADesk):
             told(key, node)
         for job, load, start, target in (('J1', 'L1', 'A', 'D'), ('J2', 'L2', 'D', 'A'), ('J3', 'L3', 'A', 'B')):
             desk.register_load(load, start)
-            desk.add_job(job, load, target)
+            if int(job[1:]) <= jobs:
+                desk.add_job(job, load, target)
         lines = []
-        return desk, Dispatcher(desk, read_layout(layout), say=lines.append, clock=lambda: self.now), told, lines
+        return desk, Dispatcher(desk, read_layout(layout), judge=judge, say=lines.append, clock=lambda: self.now), told, lines
 
     def test_orders_that_shut_one_another_in(self):
         """Once nothing moves one of the orders is cancelled."""
@@ -195,13 +212,49 @@ class Orders(OverADesk):
             self.assertTrue(dispatcher.turn())
             for key, node in ((ONE, 'a'), (TWO, 'd')):
                 told(key, node)
-        self.assertRegex(lines[2], r'^KIT/0001: cancels order \S+, of J1: it and others block one another$')
+        self.assertRegex(lines[2], r'^KIT/0001: cancels order \S+, of J1: it and others block one another, %s$' % SHUT_IN)
         self.assertEqual((desk.vehicle(ONE).pending, desk.vehicle(TWO).pending), ('cancelOrder', None))
         self.assertEqual({node: str(key) for node, key in held(desk).nodes.items()}, {'a': 'KIT/0001', 'd': 'KIT/0002'})
         name = desk.instant_actions(ONE)['actions'][0]['actionId']
         told(ONE, 'a', 0, 'x', instant=[name])
         dispatcher.turn()
         self.assertRegex('\n'.join(lines), r'\nKIT/0001: order \S+ has ended at a; J1 is stopped, since its order was cancelled: its load L1 ')
+
+    def test_orders_that_it_should_not_have_given(self):
+        """One that starts whatever it can says that it has shut vehicles in by itself: both targets were known."""
+        desk, dispatcher, told, lines = self.line(judge=Careless(), jobs=0)
+        for job, load, target in (('J1', 'L1', 'D'), ('J2', 'L2', 'A')):
+            self.assertTrue(dispatcher.turn())
+            desk.add_job(job, load, target)
+        self.assertTrue(dispatcher.turn())
+        told(ONE, 'c', 4, 'f')
+        for _ in range(8):
+            told(TWO, 'd')
+            self.assertTrue(dispatcher.turn())
+        self.assertRegex(lines[2], r'^KIT/0002: cancels order \S+, of J2: it and others block one another, %s$' % BY_ITSELF)
+
+    def test_an_order_of_a_person_that_shuts_two_in(self):
+        """KIT/0001 is under way from a to d and stands at c when a person places KIT/0002 at d and gives it an order to a."""
+        desk, dispatcher, told, lines = self.line('node,q,,', jobs=0)
+
+        def place(node):
+            told(TWO, desk.vehicle(TWO).node, mode='MANUAL')
+            desk.place(TWO, 'person-' + node, node)
+            told(TWO, node)
+
+        place('q')
+        self.assertTrue(dispatcher.turn())
+        desk.add_job('J1', 'L1', 'D')
+        self.assertTrue(dispatcher.turn())
+        told(ONE, 'c', 4, 'f')
+        place('d')
+        desk.add_job('J2', 'L2', 'A')
+        desk.start_order('person-1', TWO, job='J2', edges=0)
+        told(TWO, 'd')
+        for _ in range(8):
+            self.assertTrue(dispatcher.turn())
+        cancels = [line for line in lines if 'cancels' in line]
+        self.assertEqual(cancels, ['KIT/0002: cancels order person-1, of J2: it and others block one another, since KIT/0002 goes on to a'])
 
     def test_orders_that_shut_one_another_in_while_others_move(self):
         """A third vehicle goes round a ring beside the line all the while. One of the orders is cancelled after a minute, and only one."""
@@ -225,7 +278,7 @@ class Orders(OverADesk):
         self.assertGreater(moves, 50)
         self.assertIn('waits at a, since its way is blocked by KIT/0002 (with an order at d)', reasons)
         cancels = [re.sub(' order.*:', '', line) for line in lines if 'cancels' in line]
-        self.assertEqual(cancels, ['KIT/0001: cancels it and others block one another'])
+        self.assertEqual(cancels, ['KIT/0001: cancels it and others block one another, ' + SHUT_IN])
         self.assertIn(at, range(61, 75))
         self.assertEqual(desk.vehicle(TWO).order, order)
 

@@ -16,6 +16,7 @@ if os.path.join(ROOT, 'examples') not in sys.path:
     sys.path.insert(0, os.path.join(ROOT, 'examples'))
 assert TOOLS in sys.path
 
+from nulvrader.dispatch.dispatcher import BY_ITSELF  # noqa: E402
 from simulation.day import TIME_OVER, Day  # noqa: E402
 from simulation.plan import CALM, Habits, Line, Nature, Plan, Trouble  # noqa: E402
 from simulation.plant import Plant  # noqa: E402
@@ -138,13 +139,14 @@ class Demo(unittest.TestCase):
 class TheBench(unittest.TestCase):
     """`bench/day` over runs of an hour that are made up: in two days 9 jobs are done, and in the calm runs as many as are named."""
 
-    def bench(self, ours, theirs, second=None):
+    def bench(self, ours, theirs, second=None, cancels=()):
         def run(_, plan, kind, say):
             if plan.limit == 7200.0:
                 return Day(3600.0, done=ours if kind == 'look' else theirs, stands=TIME_OVER)
             if plan.seed == 2 and isinstance(second, Wrong):
                 raise second
-            return Day(3600.0, done=9, stopped={'a': BY_DISPATCHER, 'b': BY_PERSON}, stands=second if plan.seed == 2 else None)
+            stands = second if plan.seed == 2 else None
+            return Day(3600.0, done=9, stopped={'a': BY_DISPATCHER, 'b': BY_PERSON}, stands=stands, cancels=list(cancels))
 
         program = module('day', 'bench')
         with mock.patch.multiple(program, run=run, end_by_signal=lambda: None):
@@ -154,6 +156,14 @@ class TheBench(unittest.TestCase):
         for ours, theirs, second, status in ((5, 4, None, 0), (5, 5, None, 1), (4, 5, None, 1), (5, 4, TIME_OVER, 1), (5, 4, Wrong('so'), 1)):
             with self.subTest((ours, theirs, second)):
                 self.assertEqual(self.bench(ours, theirs, second)[0], status)
+
+    def test_vehicles_that_the_dispatcher_has_shut_in(self):
+        """An order that the dispatcher cancels is no fault, unless nothing but the dispatcher has led to it."""
+        for why, status in (('since KIT/0002 stands at N1', 0), ('before this dispatcher began', 0), (BY_ITSELF, 1)):
+            line = 'KIT/0001: cancels order O1, of J1: it and others block one another, ' + why
+            with self.subTest(why):
+                found, said = self.bench(5, 4, None, [line])
+                self.assertEqual((found, said.count('the dispatcher: ' + line), said.count('shut vehicles in by itself')), (status, 2, status))
 
     def test_its_rows(self):
         """Each is printed when its run ends, and all at the end."""

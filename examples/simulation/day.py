@@ -4,6 +4,8 @@ from __future__ import annotations
 from collections import Counter
 from dataclasses import dataclass, field
 
+from nulvrader.dispatch.dispatcher import BY_ITSELF
+
 LONG = 300.0
 """A wait of more seconds is kept with its reason; so is the longest, however long it is."""
 
@@ -26,6 +28,11 @@ class Day:
     long: dict[tuple[str, float], tuple[float, str]] = field(default_factory=dict)  # by vehicle and beginning how long, and why at last
     circle: float = 0.0  # how long vehicles waited for each other at most
     counts: Counter[str] = field(default_factory=Counter)
+    cancels: list[str] = field(default_factory=list)  # the dispatcher's lines on orders that it cancels
+
+    def made(self) -> list[str]:
+        """Those of them that no person, failed vehicle or order of unknown target has led to."""
+        return [line for line in self.cancels if line.endswith(BY_ITSELF)]
 
     def stopped_for(self, why: str) -> int:
         """How many jobs were stopped for this reason."""

@@ -71,7 +71,7 @@ class FirstCome:
         idle = {
             one.name: one
             for one in seen.vehicles.values()
-            if one.order is None and one.row.ready and not one.row.astray and one.row.pending is None and one.room() > 0
+            if one.order is None and one.row.ready and not one.row.astray and one.row.pending is None and one.free() > 0
         }
         held = {node: str(key) for node, key in seen.holds.nodes.items()}
         for job in list(self.book.waiting.values()):

@@ -178,6 +178,8 @@ class Plant:
         about = re.match(r'(\S+/\S+?):? (.*)', line)
         if about:
             self.heard[about.group(1)] = about.group(2)
+            if about.group(2).startswith('cancels order '):
+                self.day.cancels.append(line)
         self.say(line)
 
     def kill_dispatcher(self) -> None:

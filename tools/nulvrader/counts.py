@@ -164,9 +164,9 @@ class CountFile(TableFile):
         for station, line in self.stations().items():
             loads = [row.load for row in self.rows if row.station == station and row.load in records.places]
             here = sum(1 for load in loads if records.places[str(load)] != 'left')
-            coming, room = records.reserved.get(station, 0), records.capacities.get(station)
-            if room is not None and here + coming > room:
+            coming, capacity = records.reserved.get(station, 0), records.capacities.get(station)
+            if capacity is not None and here + coming > capacity:
                 rule = 'station %s has room for %d; found there: %d; live jobs to it: %d: %s'
-                stop = 'stop one of these jobs, or ' if here <= room else ''
+                stop = 'stop one of these jobs, or ' if here <= capacity else ''
                 do = stop + 'carry a load elsewhere and write it there'
-                self.fault(line, 'Full', rule % (station, room, here, coming, do))
+                self.fault(line, 'Full', rule % (station, capacity, here, coming, do))

@@ -51,9 +51,9 @@ LOCKED = 510, 0x40000002
 
 
 @contextlib.contextmanager
-def opened(path: str, alone: bool = False, room: str | None = None) -> Iterator[sqlite3.Connection]:
+def opened(path: str, alone: bool = False, folder: str | None = None) -> Iterator[sqlite3.Connection]:
     """The database, to be read, while no other program has it. Where a log lies beside it, it is read with that from a
-    copy of both, since SQLite would change them; else as it is. The copy is in a folder of its own in `room`, or where
+    copy of both, since SQLite would change them; else as it is. The copy is in a folder of its own in `folder`, or where
     TMPDIR says. With `alone` nobody who writes may have it, else it is a BlockingIOError, and until the end nobody gets
     it."""
     log = path + '-wal'
@@ -62,8 +62,8 @@ def opened(path: str, alone: bool = False, room: str | None = None) -> Iterator[
         if alone:
             fcntl.lockf(file, fcntl.LOCK_SH | fcntl.LOCK_NB, *LOCKED)
         if os.path.exists(log) and os.path.getsize(log):
-            folder = stack.enter_context(tempfile.TemporaryDirectory(dir=room))
-            copy = os.path.join(folder, 'copy.db')
+            place = stack.enter_context(tempfile.TemporaryDirectory(dir=folder))
+            copy = os.path.join(place, 'copy.db')
             with open(copy, 'wb') as other:
                 shutil.copyfileobj(file, other)
             shutil.copyfile(log, copy + '-wal')

@@ -18,15 +18,15 @@ class Unread(Exception):
 
 
 @contextlib.contextmanager
-def opened(path: str, room: str | None = None) -> Iterator[sqlite3.Connection]:
-    """A connection to the file of a desk, or to a copy of it in the folder `room`; `Unread` where that can't be, or where
+def opened(path: str, folder: str | None = None) -> Iterator[sqlite3.Connection]:
+    """A connection to the file of a desk, or to a copy of it in the folder `folder`; `Unread` where that can't be, or where
     a question of the block fails."""
     if not os.path.exists(path):
         raise Unread('%s: there is no such file' % path)
     if database.has_journal(path):
         raise Unread('%s: another SQLite was stopped in the middle of a change: tools/why says what to do' % path)
     try:
-        with database.opened(path, alone=True, room=room) as base:
+        with database.opened(path, alone=True, folder=folder) as base:
             if base.execute('SELECT schema FROM meta').fetchall() != [(SCHEMA,)]:
                 raise Unread('%s: it has not schema %d: `./desk migrate` migrates one of schema 1' % (path, SCHEMA))
             yield base

@@ -127,7 +127,7 @@ def edges_join_nodes(rows: Rows) -> Found:
 
 @rule('stations')
 def stations_are_at_nodes(rows: Rows) -> Found:
-    """A station is at a node of the layout, and has room for 1 to 999 loads."""
+    """A station is at a node of the layout, and its capacity is 1 to 999 loads."""
     for station in rows.station:
         yield from unknown_nodes(rows, station, station.node)
         if not 1 <= station.capacity <= 999:

@@ -35,7 +35,7 @@ RULES: list[Rule] = [
     stock_rules.loads_have_places,
     stock_rules.jobs_name_what_is_known,
     stock_rules.stations_have_room,
-    stock_rules.vehicles_have_room,
+    stock_rules.vehicles_keep_capacity,
     stock_rules.loads_have_one_live_job,
     stock_rules.jobs_ride_in_orders,
     stock_rules.dropped_jobs_are_done,

@@ -45,8 +45,8 @@ def stations_have_room(rows: Rows) -> Found:
             yield station, 'loads at it: %d; live jobs to it: %d; its capacity: %d' % (loads, jobs, station.capacity)
 
 
-@rule('room on a vehicle')
-def vehicles_have_room(rows: Rows) -> Found:
+@rule('capacity of a vehicle')
+def vehicles_keep_capacity(rows: Rows) -> Found:
     """The loads on a vehicle that its order is not to drop, and the jobs that its order is still to drop, are together
     at most its capacity."""
     aboard: dict[Key, list[str]] = collections.defaultdict(list)

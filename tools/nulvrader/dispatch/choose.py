@@ -128,12 +128,12 @@ class Chooser:
         return ((one, seen, way) for one, seen, way in tries if way is not None)
 
     def _with_more(self, first: Proposal, one: Waiting, seen: Seen, waiting: Sequence[Waiting], traffic: Traffic) -> Proposal:
-        """The order with further jobs that lie on its way, the oldest first, as far as the vehicle has room."""
+        """The order with further jobs that lie on its way, the oldest first, as far as the vehicle can carry them."""
         assert one.target is not None
         stops = [At(first.stops[0], self.ways.node_of(one.origin)), At(first.stops[1], self.ways.node_of(one.target))]
         found = first
         for other in waiting[:MORE]:
-            if len(found.jobs) >= seen.room():
+            if len(found.jobs) >= seen.free():
                 break
             if other.target is None or other in found.jobs:
                 continue

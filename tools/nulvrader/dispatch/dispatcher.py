@@ -32,6 +32,9 @@ LONGER = 4
 
 NONE_FREE = 'no vehicle is free'
 
+BY_ITSELF = 'nothing else has changed'
+"""Why vehicles are shut in by this dispatcher itself: which is not to happen, and is told."""
+
 
 @dataclass(frozen=True)
 class Settings:
@@ -70,6 +73,7 @@ class Dispatcher:
         self._waits: Mapping[str, str] = {}
         self._last: Snapshot | None = None
         self._memory: dict[str, Memory] = {}
+        self._ways: Mapping[str, Sequence[str]] | None = None  # of all vehicles, behind the last turn
 
     def turn(self) -> bool:
         """One look at the desk, and what follows. Whether the desk answered; where it did not, or has a fault, the next turn may."""
@@ -96,13 +100,15 @@ class Dispatcher:
         held = {**{'node ' + node: str(key) for node, key in seen.holds.nodes.items()},
                 **{'edge ' + edge: str(key) for edge, key in seen.holds.edges.items()}}
         reasons: dict[str, str] = {}
+        changed = self._changes(seen, traffic)
         self.judge.begin_turn()
         self.chooser.begin_turn()
         released, traffic = self._release(seen, traffic, held, reasons, now)
         idle = {name: one for name, one in seen.vehicles.items() if one.order is None and self._out_of_use(one, now) is None}
         started, traffic = self._start(idle, traffic, held, reasons)
         self._look_deeper(seen, traffic, bool(released or started))
-        self._untangle(seen, traffic, now)
+        self._untangle(seen, traffic, changed, now)
+        self._ways = traffic.ways_later()
         self._tell_waits(reasons, now)
         self._tell_none_free(seen, idle, now)
         self.book.note(reasons)
@@ -156,7 +162,7 @@ class Dispatcher:
         why = self._why_still(seen, now)
         if why is not None:
             return re.split('[:;]', why)[0]
-        return None if seen.room() > 0 else 'carries %s in no job' % ' '.join(seen.loads)
+        return None if seen.free() > 0 else 'carries %s in no job' % ' '.join(seen.loads)
 
     def _traffic(self, seen: Snapshot, now: float) -> Traffic:
         ways, still, parked = {}, {}, {}
@@ -255,6 +261,7 @@ class Dispatcher:
             edges = self._first_edges(found, traffic, held)
             if self._give(found, vehicle, edges):
                 traffic = traffic.started(found.vehicle, found.way).released(found.vehicle, edges)
+                self._ways = traffic.ways_later()
                 held.update({'node ' + node: found.vehicle for node in found.way[: edges + 1]})
                 count += 1
         standing = _standing(traffic) if idle else {}
@@ -314,13 +321,29 @@ class Dispatcher:
         elif moved:
             self.judge.times = 1
 
-    def _untangle(self, seen: Snapshot, traffic: Traffic, now: float) -> None:
+    def _changes(self, seen: Snapshot, traffic: Traffic) -> str:
+        """Which vehicles are not on the ways of the turn before: those that a person has placed, that stand where their order was
+        cancelled, or whose order leads on."""
+        if self._ways is None:
+            return 'before this dispatcher began'
+        found = []
+        for name, way in traffic.ways_later().items():
+            if tuple(self._ways.get(name, ())[-len(way) :]) != tuple(way):
+                order = None if name in traffic.parked else seen.vehicles[name].order
+                found.append('%s stands at %s' % (name, way[0]) if order is None else '%s goes on to %s' % (name, order.nodes[-1].name))
+        return 'since ' + ', '.join(sorted(found, key=natural)) if found else BY_ITSELF
+
+    def _untangle(self, seen: Snapshot, traffic: Traffic, changed: str, now: float) -> None:
         """Where vehicles with orders shut one another in, cancels an order of these that has not left its first node: at once where
         nothing moves, else where it has been so for a while. It comes to that by orders whose targets were not known when they were
-        given, and by people who place a vehicle in a dead end."""
+        given, and by people who place a vehicle in a dead end. `changed` is what has changed since the turn before."""
         shut_in = traffic.ways.keys() - self.judge.finish_later(traffic)
         for name, memory in self._memory.items():
-            memory.shut_in = None if name not in shut_in else now if memory.shut_in is None else memory.shut_in
+            if name not in shut_in:
+                memory.shut_in = memory.shut_by = None
+                continue
+            memory.shut_in = now if memory.shut_in is None else memory.shut_in
+            memory.shut_by = memory.shut_by or changed
         for vehicle in sorted(seen.vehicles.values(), key=lambda one: one.name):
             fresh = vehicle.row.sent == vehicle.row.confirmed == 0 and vehicle.edges == 0 and not vehicle.loads
             if vehicle.name in shut_in and fresh and vehicle.row.pending is None and self._stays_so(vehicle.name, traffic, now):
@@ -347,7 +370,8 @@ class Dispatcher:
             self._tell_refusal(vehicle, 'its order is not cancelled', refusal)
             return False
         told = ', '.join(one.job for one in self._memory[vehicle.name].jobs)
-        self.say('%s: cancels order %s, of %s: it and others block one another' % (vehicle.name, vehicle.row.order, told))
+        what = vehicle.row.order, told, self._memory[vehicle.name].shut_by
+        self.say('%s: cancels order %s, of %s: it and others block one another, %s' % (vehicle.name, *what))
         self._memory[vehicle.name].cancelled = True
         self.judge.times = 1
         for memory in self._memory.values():

@@ -11,14 +11,16 @@ from .snapshot import Seen
 @dataclass
 class Memory:
     """What is remembered of a vehicle: the number of its last state, since when that is, and whether it is new in this turn; since when
-    the vehicle waits for its next edge; since when it is shut in. And of its order, while it has one: the jobs, those of them that were
-    seen to be done, how many edges are not released, the node of its end where that is known, and whether it is being cancelled."""
+    the vehicle waits for its next edge; since when it is shut in, and what had changed then. And of its order, while it has one: the jobs,
+    those of them that were seen to be done, how many edges are not released, the node of its end where that is known, and whether it is
+    being cancelled."""
 
     header: int | None = None
     heard: float = 0.0
     is_heard: bool = True
     waits: float | None = None
     shut_in: float | None = None
+    shut_by: str | None = None
     order: str | None = None
     jobs: tuple[Waiting, ...] = ()
     done: set[str] = field(default_factory=set)
@@ -34,7 +36,7 @@ class Memory:
     def begin(self, order: str | None, jobs: tuple[Waiting, ...] = (), left: int = 0, end: str | None = None) -> None:
         """From here on it has this order, or none."""
         self.order, self.jobs, self.left, self.end = order, jobs, left, end
-        self.done, self.waits, self.shut_in, self.cancelled = set(), None, None, False
+        self.done, self.waits, self.shut_in, self.shut_by, self.cancelled = set(), None, None, None, False
 
     def follow(self, seen: Seen, places: Mapping[str, str]) -> None:
         """What the order of this turn shows: where its jobs lead, and which are done."""

@@ -37,8 +37,8 @@ class Seen:
     def is_confirmed(self) -> bool:
         return self.row.sent == self.row.confirmed
 
-    def room(self) -> int:
-        """For how many loads more it has room."""
+    def free(self) -> int:
+        """How many loads more it can carry."""
         return self.row.capacity - len(self.loads)
 
 
