@@ -4,6 +4,7 @@ makes it, and to loads and jobs at small stations. And the streams by which `ben
 import os
 import random
 import re
+import shutil
 import subprocess
 import sys
 import tempfile
@@ -134,6 +135,19 @@ class KindsOfCalls(unittest.TestCase):
                         if any(method == call[0] and re.fullmatch(path, target) for method, target, _ in timed):
                             del left[call]
         self.assertEqual(list(left), [])
+
+
+class ThingsKnown(unittest.TestCase):
+    def test_each_can_be_taken_out(self):
+        """By `bench/known`: each text that it replaces stands once in its file. And it counts calls that are not refused."""
+        known = module('known', 'bench')
+        for thing, (kind, edits) in known.THINGS.items():
+            with self.subTest(thing), tempfile.TemporaryDirectory() as copy:
+                shutil.copytree(os.path.join(ROOT, 'crates', 'agv_store', 'src'), os.path.join(copy, 'crates', 'agv_store', 'src'))
+                known.edit(copy, edits)
+                begin, requests = known.call(kind)
+                status, out, _ = run('replay', '--db', 'memory', '--at', AT, stdin=begin + b''.join(requests))
+                self.assertEqual((status, {code for code, _ in answers_of(out)}), (0, {200}))
 
 
 if __name__ == '__main__':

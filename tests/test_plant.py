@@ -63,6 +63,15 @@ class Compared(unittest.TestCase):
             with self.subTest(seed=seed), self.assertRaisesRegex(Wrong, CIRCLE):
                 run(DESK, dataclasses.replace(SMALL, seed=seed), 'free')
 
+    def test_so_they_do_in_the_plant_of_a_day(self):
+        """Where nothing else goes wrong there; with the look no circle lasts."""
+        plan = Plan(jobs=3000).calm()
+        with self.assertRaisesRegex(Wrong, CIRCLE):
+            run(DESK, plan, 'free')
+        day = run(DESK, dataclasses.replace(plan, limit=600.0), 'look')
+        self.assertEqual(day.stands, TIME_OVER)
+        self.assertGreater(day.done, 0)
+
     def test_with_it_they_do_not(self):
         for seed in SEEDS:
             with self.subTest(seed=seed):
