@@ -56,7 +56,8 @@ class Finds(Page):
         """A load is found, and its place is corrected; then the focus is where it was, though all there is new."""
         self.browser.keys('/', 'l', '2', 'ENTER')
         self.sees('.detail', 'L2', 'At A')
-        self.browser.run('document.querySelector(".detail [data-command=correct]").focus()')
+        button = 'const it = document.querySelector(".detail [data-command=correct]"); it?.focus(); return it !== null;'
+        until(lambda: bool(self.browser.run(button)), 'a command for it')
         self.browser.keys('ENTER')
         self.has_focus('id', 'field-station')
         self.browser.keys('B', 'ENTER')

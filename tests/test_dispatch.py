@@ -8,7 +8,8 @@ from programs import PATIENCE
 from test_program import Serving, over_sockets
 
 from nulvrader.client import Desk
-from nulvrader.dispatch.dispatcher import BY_ITSELF, Dispatcher
+from nulvrader.dispatch.dispatcher import BY_ITSELF, Course, Dispatcher
+from nulvrader.dispatch.memory import Memory
 from nulvrader.dispatch.traffic import Judge, Still, Traffic
 from nulvrader.dispatch.ways import Ways
 from nulvrader.layouts import read_layout
@@ -16,8 +17,8 @@ from nulvrader.names import VehicleKey
 from nulvrader.notes import Noted, Notes, read_notes
 from nulvrader.questions import held
 
-# Why the orders of `line` block one another: neither's target was known when it was given.
-SHUT_IN = 'since KIT/0001 goes on to d, KIT/0002 goes on to a'
+# Why the orders of `line` block one another.
+SHUT_IN = 'since KIT/0001, whose target was not known, goes on to d, KIT/0002, whose target was not known, goes on to a'
 
 
 class Careless(Judge):
@@ -221,12 +222,18 @@ class Orders(OverADesk):
         self.assertRegex('\n'.join(lines), r'\nKIT/0001: order \S+ has ended at a; J1 is stopped, since its order was cancelled: its load L1 ')
 
     def test_orders_that_it_should_not_have_given(self):
-        """One that starts whatever it can says that it has shut vehicles in by itself: both targets were known."""
-        desk, dispatcher, told, lines = self.line(judge=Careless(), jobs=0)
+        """One that starts whatever it can says that it has shut vehicles in by itself: both targets were known. In the same turn another
+        vehicle is placed."""
+        desk, dispatcher, told, lines = self.line('node,p,,', 'node,q,,', judge=Careless(), jobs=0)
+        third = VehicleKey('KIT', '0003')
+        desk.register_vehicle(third, 'p')
+        told(third, 'p', mode='MANUAL')
         for job, load, target in (('J1', 'L1', 'D'), ('J2', 'L2', 'A')):
             self.assertTrue(dispatcher.turn())
             desk.add_job(job, load, target)
+        desk.place(third, 'person-1', 'q')
         self.assertTrue(dispatcher.turn())
+        self.assertEqual(dispatcher.shut_in(), {name: (0.0, BY_ITSELF) for name in ('KIT/0001', 'KIT/0002')})
         told(ONE, 'c', 4, 'f')
         for _ in range(8):
             told(TWO, 'd')
@@ -300,6 +307,28 @@ class Orders(OverADesk):
 
 class Pure(unittest.TestCase):
     """What may be released and started, without a desk."""
+
+    def test_what_was_to_be(self):
+        """Whether a vehicle does what it was to do at the end of the turn before."""
+        dispatcher = Dispatcher(Desk('127.0.0.1:1'), read_layout(LAYOUT))
+        way, end = tuple('abcd'), tuple('d')
+        for course, asked, order, left, wanted in (
+            (Course('O1', way, 3), None, 'O1', way[1:], True),
+            (Course('O1', way, 3), None, 'O1', tuple('abx'), False),
+            (Course('O1', way, 3), None, None, way[1:], False),  # it was cancelled
+            (Course('O1', way, 3), None, None, end, False),  # somebody has placed it at its end
+            (Course('O1', end, 0), None, None, end, True),
+            (Course(None, end, 0), None, None, end, True),
+            (Course(None, end, 0), None, None, tuple('c'), False),
+            (Course(None, end, 0), None, 'O2', tuple('dc'), False),  # a person's order
+            (Course(None, end, 0), ('O2', True), 'O2', tuple('dc'), True),  # this dispatcher's, though no answer came
+            (Course(None, end, 0), ('O2', False), 'O2', tuple('dc'), False),
+            (None, None, None, end, False),
+        ):
+            dispatcher._courses = {} if course is None else {'v': course}
+            dispatcher._memory['v'] = Memory(asked=asked)
+            with self.subTest(course=course, asked=asked, order=order):
+                self.assertEqual(dispatcher._is_on_course('v', order, left), wanted)
 
     def test_one_that_stands_still_is_not_shut_in(self):
         """KIT/0001 is paused at b and goes to e by the single track c, d. KIT/0002 comes from e and ends at c: it waits, since the

@@ -16,7 +16,7 @@ if os.path.join(ROOT, 'examples') not in sys.path:
     sys.path.insert(0, os.path.join(ROOT, 'examples'))
 assert TOOLS in sys.path
 
-from nulvrader.dispatch.dispatcher import BY_ITSELF  # noqa: E402
+from nulvrader.dispatch.dispatcher import BEFORE, BY_ITSELF  # noqa: E402
 from simulation.day import TIME_OVER, Day  # noqa: E402
 from simulation.plan import CALM, Habits, Line, Nature, Plan, Trouble  # noqa: E402
 from simulation.plant import Plant  # noqa: E402
@@ -47,6 +47,9 @@ class APartOfADay(unittest.TestCase):
         self.assertIsNone(day.stands)
         self.assertEqual(day.done + len(day.stopped), JOBS)
         self.assertGreater(day.done, JOBS * 0.75)
+        self.assertEqual(day.made(), [])
+        if JOBS <= 200:
+            self.assertLess(day.real, 600)
         for what in HAPPENS:
             self.assertGreater(day.counts[what], 0, what)
         self.assertGreater(day.counts['starts of the desk'], 1)
@@ -168,11 +171,19 @@ class TheBench(unittest.TestCase):
 
     def test_vehicles_that_the_dispatcher_has_shut_in(self):
         """An order that the dispatcher cancels is no fault, unless nothing but the dispatcher has led to it."""
-        for why, status in (('since KIT/0002 stands at N1', 0), ('before this dispatcher began', 0), (BY_ITSELF, 1)):
+        for why, status in (('since KIT/0002 stands at N1', 0), (BEFORE, 1), (BY_ITSELF, 1)):
             line = 'KIT/0001: cancels order O1, of J1: it and others block one another, ' + why
             with self.subTest(why):
                 found, said = self.bench(5, 4, None, [line])
-                self.assertEqual((found, said.count('the dispatcher: ' + line), said.count('shut vehicles in by itself')), (status, 2, status))
+                self.assertEqual((found, said.count('the dispatcher: ' + line), said.count('nobody knows why')), (status, 2, status))
+
+    def test_how_long_vehicles_were_shut_in(self):
+        """For a while nobody knows whether the look was only too short."""
+        for seconds, why, wanted in ((60.0, BY_ITSELF, 0), (70.0, BY_ITSELF, 1), (70.0, BEFORE, 1), (70.0, 'since KIT/0002 stands at N1', 0)):
+            day = Day(shut={('KIT/0001', 5.0): (seconds, why)})
+            with self.subTest((seconds, why)):
+                self.assertEqual(len(day.made()), wanted)
+                self.assertIn('KIT/0001 was shut in for %.0f s from 5 s on, %s' % (seconds, why), told(dataclasses.replace(day, seconds=1.0)))
 
     def test_its_rows(self):
         """Each is printed when its run ends, and all at the end."""

@@ -2,9 +2,10 @@
 from __future__ import annotations
 
 from collections import Counter
+from collections.abc import Callable
 from dataclasses import dataclass, field
 
-from nulvrader.dispatch.dispatcher import BY_ITSELF
+from nulvrader.dispatch.dispatcher import BEFORE, BY_ITSELF, SHUT_IN
 
 LONG = 300.0
 """A wait of more seconds is kept with its reason; so is the longest, however long it is."""
@@ -29,10 +30,22 @@ class Day:
     circle: float = 0.0  # how long vehicles waited for each other at most
     counts: Counter[str] = field(default_factory=Counter)
     cancels: list[str] = field(default_factory=list)  # the dispatcher's lines on orders that it cancels
+    shut: dict[tuple[str, float], tuple[float, str]] = field(default_factory=dict)  # by vehicle and beginning how long it was shut in, and why
 
     def made(self) -> list[str]:
-        """Those of them that no person, failed vehicle or order of unknown target has led to."""
-        return [line for line in self.cancels if line.endswith(BY_ITSELF)]
+        """The vehicles that were shut in by the dispatcher itself, or nobody knows why, for longer than it takes the dispatcher to see that
+        it was a look that was too short; and the orders that it cancelled for that."""
+        by_itself = BEFORE, BY_ITSELF
+        found = self.longest_shut_in(lambda seconds, why: why in by_itself and seconds > SHUT_IN + 5)
+        return [*found, *(line for line in self.cancels if line.endswith(by_itself))]
+
+    def longest_shut_in(self, which: Callable[[float, str], bool] = lambda seconds, why: True) -> list[str]:
+        """The times that vehicles were shut in, in lines, the longest first."""
+        rows = sorted(self.shut.items(), key=lambda row: -row[1][0])
+        return [
+            '%s was shut in for %.0f s from %.0f s on, %s' % (vehicle, seconds, since, why)
+            for (vehicle, since), (seconds, why) in rows if which(seconds, why)
+        ]
 
     def stopped_for(self, why: str) -> int:
         """How many jobs were stopped for this reason."""

@@ -55,6 +55,10 @@ class FirstCome:
         """Why each job waits, as of the last turn, called `job J1`."""
         return self._waits
 
+    def shut_in(self) -> Mapping[str, tuple[float, str]]:
+        """Nobody: who has an order has all of its way."""
+        return {}
+
     def turn(self) -> bool:
         """One look at the desk, and orders for the jobs that wait. Whether the desk answered."""
         try:

@@ -11,6 +11,7 @@ from collections.abc import Callable, Mapping
 from typing import Protocol
 
 from nulvrader.client import Desk, NoAnswer
+from nulvrader.dispatch.dispatcher import BEFORE
 from nulvrader.names import VehicleKey
 from nulvrader.questions import who_waits
 from nulvrader.reports import Stock, read_holds, read_loads, read_stock
@@ -34,6 +35,8 @@ class Dispatching(Protocol):
     def turn(self) -> bool: ...
 
     def waits(self) -> Mapping[str, str]: ...
+
+    def shut_in(self) -> Mapping[str, tuple[float, str]]: ...
 
 
 class Plant:
@@ -66,6 +69,7 @@ class Plant:
         self.since: dict[str, float] = {}  # since when each vehicle waits
         self.reason: dict[str, str] = {}  # and why, as far as the dispatcher has said since then
         self.heard: dict[str, str] = {}  # by vehicle the last line of the dispatcher
+        self.shut_by: dict[str, str] = {}  # why vehicles are shut in, as of the last moment
         self.over, self.fetches = False, 0
         self.reasons = Reasons()
         self.people = People(
@@ -179,7 +183,7 @@ class Plant:
         if about:
             self.heard[about.group(1)] = about.group(2)
             if about.group(2).startswith('cancels order '):
-                self.day.cancels.append(line)
+                self.day.cancels.append(line.replace(BEFORE, self.shut_by.get(about.group(1), BEFORE)))
         self.say(line)
 
     def kill_dispatcher(self) -> None:
@@ -219,6 +223,8 @@ class Plant:
     def measure(self) -> None:
         """Who has an order and waits, and the last reason that the dispatcher had for it, or else its last line about the vehicle."""
         told = self.waits() or {}
+        if self.dispatcher is not None:
+            self.note_shut_in(self.dispatcher.shut_in())
         for name, vehicle in self.vehicles.items():
             has_order = not vehicle.is_done() and not vehicle.by_hand
             if has_order:
@@ -232,6 +238,12 @@ class Plant:
             if name in told:
                 self.reason[name] = told[name]
             self.day.has_waited(name, since, self.clock.now, self.reason.get(name, self.heard.get(name, 'nobody says why')))
+
+    def note_shut_in(self, told: Mapping[str, tuple[float, str]]) -> None:
+        """Who is shut in, and why: of those that were so before the dispatcher was started anew the one before has said it."""
+        self.shut_by = {name: self.shut_by.get(name, why) if why == BEFORE else why for name, (_, why) in told.items()}
+        for name, (since, _) in told.items():
+            self.day.shut[name, since] = self.clock.now - since, self.shut_by[name]
 
     def audit(self) -> None:
         """Each vehicle is on what the desk holds for it, and each load is in one place, where the desk has it, and in one order."""

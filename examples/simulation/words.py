@@ -74,6 +74,7 @@ def told(day: Day) -> list[str]:
     ]
     lines += ['vehicles waited for each other for %.0f s at most' % day.circle, *day.longest_waits()]
     lines += ['stopped: %d because %s' % (count, why) for why, count in sorted(reasons.items())]
+    lines += ['vehicles were shut in %d times' % len(day.shut), *day.longest_shut_in()[:5]]
     lines += ['the dispatcher: %s' % line for line in day.cancels]
     lines += ['%s: %d' % one for one in sorted(day.counts.items())]
     return lines if day.stands is None else [*lines, 'it stands: %s' % day.stands]

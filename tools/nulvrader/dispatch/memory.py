@@ -11,9 +11,9 @@ from .snapshot import Seen
 @dataclass
 class Memory:
     """What is remembered of a vehicle: the number of its last state, since when that is, and whether it is new in this turn; since when
-    the vehicle waits for its next edge; since when it is shut in, and what had changed then. And of its order, while it has one: the jobs,
-    those of them that were seen to be done, how many edges are not released, the node of its end where that is known, and whether it is
-    being cancelled."""
+    the vehicle waits for its next edge; since when it is shut in, and why; and the order that the dispatcher has asked for last, with whether
+    its targets were known. And of its order, while it has one: the jobs, those of them that were seen to be done, how many edges are not
+    released, the node of its end where that is known, and whether it is being cancelled."""
 
     header: int | None = None
     heard: float = 0.0
@@ -21,6 +21,7 @@ class Memory:
     waits: float | None = None
     shut_in: float | None = None
     shut_by: str | None = None
+    asked: tuple[str, bool] | None = None
     order: str | None = None
     jobs: tuple[Waiting, ...] = ()
     done: set[str] = field(default_factory=set)
