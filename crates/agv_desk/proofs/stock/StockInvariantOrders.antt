@@ -44,9 +44,9 @@ le_of : (n m : ℕ) → nat_le n m ≡ true → n ≤ m
 le_of n m e = grind (arith, nat_tests)
 
 -- the test of what a vehicle may carry
-room_on_vehicle : (world : World) (key : VehicleKey) (more capacity : ℕ) → nat_le (loads_on world key + more) capacity ≡ true → loads_on_vehicle world.places key + more ≤ capacity
+capacity_on_vehicle : (world : World) (key : VehicleKey) (more capacity : ℕ) → nat_le (loads_on world key + more) capacity ≡ true → loads_on_vehicle world.places key + more ≤ capacity
 unfolding loads_on
-room_on_vehicle world key more capacity e = le_of _ _ e
+capacity_on_vehicle world key more capacity e = le_of _ _ e
 
 module _ (fits : FitsAsSaid) (plans : PlansGoByRoutes) (world : World) (stock : HasStockInvariant world) where
   abbrev P : Effect → Type 0
@@ -54,7 +54,7 @@ module _ (fits : FitsAsSaid) (plans : PlansGoByRoutes) (world : World) (stock : 
 
   module _ (asked : AskedOrder) (row : VehicleRow) (jobs : List Job) (there : row_of world asked.key ≡ Some row) (idle : trip_of world asked.key ≡ None)
       (can : CanBeDone asked.stops) (read : jobs_for world asked.stops ≡ Some jobs) (wait : list_all waits jobs ≡ true)
-      (room : loads_on_vehicle world.places asked.key + count_by stop_picks asked.stops ≤ row.capacity) where
+      (free : loads_on_vehicle world.places asked.key + count_by stop_picks asked.stops ≤ row.capacity) where
     here : finite.get world.vehicles asked.key ≡ Some (vehicle_with row None)
     here = known world asked.key row there ∙ ap (λ trip. Some (vehicle_with row trip)) idle
 
@@ -65,7 +65,7 @@ module _ (fits : FitsAsSaid) (plans : PlansGoByRoutes) (world : World) (stock : 
         let kept : StockInvariant world.layout _ (capacity_of world) world.places (written world.jobs (filter_map (begins world) stops)) =
         starts world stock asked.key trip.acts stops (ap action_views_for here) (stops_made world stops jobs read layout row.node 0 stops trip.edges trip.acts plan.goes) can
         (acts_begin world stops jobs read layout row.node 0 stops trip.edges trip.acts plan.goes)
-        (stops_wait world stops jobs read wait) (subst (λ n. loads_on_vehicle world.places asked.key + count_by stop_picks stops ≤ n) (sym (ap capacity_for here)) room) in
+        (stops_wait world stops jobs read wait) (subst (λ n. loads_on_vehicle world.places asked.key + count_by stop_picks stops ≤ n) (sym (ap capacity_for here)) free) in
         made_unheld P _ _ (λ opened. made_found P _ _ _ (λ number next. made_require P _ _ _ (λ few.
         let after = with_vehicle world asked.key (sent_on row asked.at number (Some trip)) in
         record {
@@ -81,5 +81,5 @@ module _ (fits : FitsAsSaid) (plans : PlansGoByRoutes) (world : World) (stock : 
   pub start_keeps : (asked : AskedOrder) → IfMade P (start_order world asked)
   start_keeps asked =
       made_require P _ _ _ (λ unused. made_found P _ _ _ (λ row there. made_require P _ _ _ (λ fit. made_found P _ _ _ (λ jobs read.
-      made_require P _ _ _ (λ new. made_require P _ _ _ (λ wait. made_require P _ _ _ (λ idle. made_require P _ _ _ (λ no_rest. made_require P _ _ _ (λ room. made_require P _ _ _ (λ ready. made_require P _ _ _ (λ going.
-      order_keeps asked row jobs there (missing _ idle) ((fits asked.stops).0 fit) read wait (room_on_vehicle world asked.key (count_by stop_picks asked.stops) row.capacity room))))))))))))
+      made_require P _ _ _ (λ new. made_require P _ _ _ (λ wait. made_require P _ _ _ (λ idle. made_require P _ _ _ (λ no_rest. made_require P _ _ _ (λ free. made_require P _ _ _ (λ ready. made_require P _ _ _ (λ going.
+      order_keeps asked row jobs there (missing _ idle) ((fits asked.stops).0 fit) read wait (capacity_on_vehicle world asked.key (count_by stop_picks asked.stops) row.capacity free))))))))))))

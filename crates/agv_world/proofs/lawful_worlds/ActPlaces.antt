@@ -111,9 +111,9 @@ pub record PickDone (acts : List Act) (job : List ℕ) : Type 0 where
   pub finished : is_finished act.status ≡ true
   pub of_job : act.job ≡ job
 
-is_pick_kind : (kind : ActKind) → not (is_drop kind) ≡ true → kind ≡ Pick
-is_pick_kind Pick is = refl
-is_pick_kind Drop is = cc
+not_drop_is_pick : (kind : ActKind) → not (is_drop kind) ≡ true → kind ≡ Pick
+not_drop_is_pick Pick is = refl
+not_drop_is_pick Drop is = cc
 
 pick_done : (acts : List Act) (job : List ℕ) → is_picked acts job ≡ true → PickDone acts job
 pick_done acts job picked =
@@ -125,7 +125,7 @@ pick_done acts job picked =
       k = found.0;
       act = act;
       here = found.2;
-      pick = is_pick_kind act.kind first.0;
+      pick = not_drop_is_pick act.kind first.0;
       finished = first.1;
       of_job = same_text act.job job (sym parts.1);
     }
