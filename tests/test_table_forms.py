@@ -46,6 +46,8 @@ SAME = {
     'a key of one column': typed('node', id='TEXT UNIQUE NOT NULL'),
     'the number of the schema': typed('meta', 'PRIMARY KEY (id)', id='INT'),
     'its key as one of others': typed('meta', 'UNIQUE (id)'),
+    'its key that is the rowid': typed('meta', id='INTEGER PRIMARY KEY'),
+    'its key that is the rowid and NOT NULL': typed('meta', 'PRIMARY KEY (id)'),
     'quotes, capitals and a comment': typed('job', id='text -- CHECK (1)\nprimary key').replace('target', '"target"').replace('CREATE', 'create'),
     'what is so anyhow': typed('load', 'PRIMARY KEY (id ASC)', id='TEXT NULL COLLATE BINARY', station='TEXT DEFAULT NULL'),
 }
@@ -57,9 +59,8 @@ SAME_SECOND = {
     'INT': typed('capacity', 'PRIMARY KEY (manufacturer, serial)', capacity='INT NOT NULL'),
 }
 OTHER = {
-    'a key that is the rowid': typed('meta', id='INTEGER PRIMARY KEY'),
-    'a key that is the rowid, as a rule of the table': typed('meta', 'PRIMARY KEY (id)'),
     'a key that is the rowid, counted': typed('meta', id='INTEGER PRIMARY KEY AUTOINCREMENT'),
+    'a key that is the rowid, and a key more': typed('meta', id='INTEGER PRIMARY KEY UNIQUE'),
     'no key of the job': typed('trip', ORDER, VEHICLE),
     'no key of the vehicle': typed('trip', ORDER, JOB),
     'one key in place of two': typed('trip', ORDER, 'UNIQUE (manufacturer, serial, job)'),

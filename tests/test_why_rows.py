@@ -131,8 +131,8 @@ class Files(WhyTest):
             ("DROP TABLE used; CREATE TABLE used (kind TEXT, id TEXT DEFAULT 'a', PRIMARY KEY (kind, id)) STRICT", "with the default 'a'"),
             ('DROP TABLE node; CREATE TABLE node (id TEXT COLLATE NOCASE PRIMARY KEY) STRICT', 'the table node has'),
             ('DROP TABLE node; CREATE TABLE NODE (id TEXT PRIMARY KEY) STRICT', "the table NODE has a name of a desk's table"),
-            ('DROP TABLE meta; CREATE TABLE meta (id INTEGER PRIMARY KEY, schema INTEGER NOT NULL) STRICT; INSERT INTO meta VALUES (1, 2)',
-             'the table meta has the keys , and not (id)'),
+            ('DROP TABLE meta; CREATE TABLE meta (id INTEGER PRIMARY KEY UNIQUE, schema INTEGER NOT NULL) STRICT; INSERT INTO meta VALUES (1, 2)',
+             'the table meta has the keys (id), (id), and not (id)'),
             ('DROP TABLE used; CREATE VIEW used AS SELECT id AS kind, id FROM node', "the view used has a name of a desk's table"),
         ):
             with self.subTest(text):
@@ -146,6 +146,7 @@ class Files(WhyTest):
             'ALTER TABLE used RENAME TO old; create table "used" (kind text not null, id text default null -- CHECK (1)\n'
             ', constraint k primary key (kind, id), unique (kind, id)) strict; INSERT INTO used SELECT * FROM old; DROP TABLE old',
             'DROP INDEX load_station; DROP INDEX job_load',
+            'DROP TABLE meta; CREATE TABLE meta (id INTEGER PRIMARY KEY, schema INTEGER NOT NULL) STRICT; INSERT INTO meta VALUES (1, 2)',
         ):
             with self.subTest(statements):
                 self.fill(statements)

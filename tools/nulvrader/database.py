@@ -192,8 +192,8 @@ def _oddities(base: sqlite3.Connection, table: str) -> Iterator[str]:
             yield 'has the column %s with the default %s' % (name, default)
         if hidden:
             yield 'has the column %s that is generated' % name
-    written = _keys(base, table)
-    if {frozenset(key) for key in written} != {frozenset(key.split()) for key in keys}:
+    written, by_rowid = _keys(base, table)
+    if {frozenset(key) for key in written} != {frozenset(key.split()) for key in keys} or by_rowid and len(written) > 1:
         yield 'has the keys %s, and not %s' % tuple(
             ', '.join('(%s)' % ', '.join(key) for key in said) for said in (written, [key.split() for key in keys])
         )
@@ -207,10 +207,12 @@ def _oddities(base: sqlite3.Connection, table: str) -> Iterator[str]:
     yield from _rules_in_text(base, table)
 
 
-def _keys(base: sqlite3.Connection, table: str) -> list[list[str]]:
-    """The primary key and the other ones, in their order, each its columns; `desc` and a collation are told with it."""
+def _keys(base: sqlite3.Connection, table: str) -> tuple[list[list[str]], bool]:
+    """The primary key and the other ones, in their order, each its columns; `desc` and a collation are told with it. And whether the
+    primary key is the rowid, which has no index."""
     found = []
-    for _, name, _, origin, _ in base.execute('PRAGMA index_list("%s")' % table):
+    indexes = base.execute('PRAGMA index_list("%s")' % table).fetchall()
+    for _, name, _, origin, _ in indexes:
         if origin != 'c':
             parts = base.execute('PRAGMA index_xinfo("%s")' % name).fetchall()
             said = [
@@ -219,7 +221,10 @@ def _keys(base: sqlite3.Connection, table: str) -> list[list[str]]:
                 if key
             ]
             found.append((int(name.rpartition('_')[2]), said))
-    return [said for _, said in sorted(found)]
+    rowid = [row[1] for row in base.execute('PRAGMA table_xinfo("%s")' % table) if row[5]]
+    if any(origin == 'pk' for _, _, _, origin, _ in indexes):
+        rowid = []
+    return [*([rowid] if rowid else []), *(said for _, said in sorted(found))], bool(rowid)
 
 
 def _rules_in_text(base: sqlite3.Connection, table: str) -> Iterator[str]:

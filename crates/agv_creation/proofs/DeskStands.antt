@@ -1,5 +1,5 @@
 -- What the making gives is a desk with its first rows, as the statements see it.
-use Rattle.std.proofs.Common.{◌≡◌, ◌≢◌, ◌∙◌, ◌^◌, not, ℕ, zero, suc, true, false, nat_le, List, [], ◌∷◌, map, drop, filter, fold, length, pos, ◌+◌, Option, Some, None, option_map, option_and_then, unwrap_or, slice_get, rules, IsPermutation, inl, inr, refl, sym, ap, subst, arith}
+use Rattle.std.proofs.Common.{◌≡◌, ◌≢◌, ◌∙◌, ◌^◌, not, ℕ, zero, suc, Bool, true, false, nat_le, List, [], ◌∷◌, map, drop, filter, fold, length, pos, ◌+◌, Option, Some, None, option_map, option_and_then, unwrap_or, slice_get, rules, IsPermutation, inl, inr, refl, sym, ap, subst, arith}
 use Rattle.std.specs.List.{AllByRecursion, AllZip, list_all, position_from}
 use Rattle.std.proofs.lemmas.Bool.{cases_Bool}
 use Rattle.std.proofs.lemmas.List.Folds.{list_all-append}
@@ -24,11 +24,11 @@ use Rattle.agv_schema.specs.declared.table_name.TableName.{TableName}
 use Rattle.agv_schema.specs.declared.table_name.TableName.TheVariants as the
 use Rattle.agv_schema.specs.Schema.{desk_tables, desk_indexes, PlainIndex}
 use Rattle.agv_creation.specs.DeskSchema.{sequence_table, with_sequence, with_new_table, with_new_index, index_on, with_desk}
-use Rattle.agv_schema.specs.DeskRows.{Placing, TableStands, table_for, place_of, width_of, table_at, is_unreferred, first_columns, columns_in, HaveRows}
+use Rattle.agv_schema.specs.DeskRows.{Placing, TableHas, TableStands, table_for, place_of, row_shown, width_of, table_at, is_unreferred, first_columns, columns_in, HaveRows}
 use Rattle.agv_creation.specs.DeskTables.{HasTable, HasDesk, first_rows}
 use Rattle.agv_creation.specs.DeskTables.{HasRows}
 use Rattle.agv_creation.specs.NewDesk.{StandsNew, MadeDesksStand, TreesTellTables}
-use Rattle.agv_schema.proofs.DeskPlaces.{as_made, own_keys, same_as_themselves}
+use Rattle.agv_schema.proofs.DeskPlaces.{as_made, own_keys, own_no_rowid, same_own_keys}
 use Rattle.agv_schema.proofs.KeyedEntries.{shaped_are_keyed}
 use Rattle.agv_creation.proofs.TablesKept.{has_got}
 
@@ -97,17 +97,16 @@ module _ (db : Database) (h : HasDesk db first_rows) where
   has_table the.Act = h.1.1.1.1.1.1.1.1.1.1.1.1.1.0
 
   abbrev desk : Placing
-  desk = record { schema = db.schema; tree = λ name. (has_table name).tree }
+  desk = record { schema = db.schema; tree = λ name. (has_table name).tree; keys = own_keys }
 
   stands : IsDatabase db → (name : TableName) → is_unreferred (table_for name).name db.schema.tables ≡ true → TableStands desk name
   stands listed name unreferred =
       let it = has_table name in
       record {
         at = it.at;
-        keys = own_keys name;
         named = it.named;
         there = it.there ∙ ap Some (as_made name it.tree);
-        same_keys = same_as_themselves (table_for name).uniques;
+        same_keys = same_own_keys name;
         low = low_tree db listed _ (has_got db.schema.tables it.at _ it.there);
         unreferred = unreferred;
       }
@@ -129,15 +128,16 @@ all_wide width [] wide = refl
 all_wide width (e ∷ entries) wide = rw (all_columns width (drop 1 e) wide.0, all_wide width entries wide.1) refl
 
 -- rows of the table's width are what the statements see of it
-pub have_rows : (width : ℕ) (entries rows : List Row) → AreWide width rows → HasRows entries rows → HaveRows width entries rows
+pub have_rows : (width : ℕ) (entries rows : List Row) → AreWide width rows → HasRows entries rows → HaveRows (columns_in width) entries rows
 have_rows width entries rows wide h =
     (shaped_are_keyed entries h.0, subst (IsPermutation rows) (sym (all_wide width entries (all-permutation (λ (row : Row). length row ≡ width) rows (map (drop 1) entries) h.1 wide))) h.1)
 
 pub stands_new : (db : Database) → IsDatabase db → HasDesk db first_rows → ((name : TableName) → AllowsTable (table_for name).name db.schema.tables) → StandsNew db
 stands_new db listed h allowed =
     let d = desk db h in
-    let have : (name : TableName) → AreWide (width_of name) (table_at (place_of name) first_rows) → HaveRows (width_of name) (db.trees (d.tree name)) (table_at (place_of name) first_rows) =
-    λ name wide. have_rows (width_of name) (db.trees (d.tree name)) (table_at (place_of name) first_rows) wide (has_table db h name).rows_are in (
+    let have : (name : TableName) → AreWide (width_of name) (table_at (place_of name) first_rows) → TableHas d db.trees name (table_at (place_of name) first_rows) =
+    λ name wide. subst (λ (r : Option Bool). HaveRows (row_shown r (width_of name)) (db.trees (d.tree name)) (table_at (place_of name) first_rows)) (sym (own_no_rowid name))
+    (have_rows (width_of name) (db.trees (d.tree name)) (table_at (place_of name) first_rows) wide (has_table db h name).rows_are) in (
       d,
       record { stands = λ name. stands db h listed name (allowed name).unreferred; apart = (allowed the.Meta).apart },
       record {

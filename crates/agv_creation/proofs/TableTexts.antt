@@ -1,20 +1,26 @@
 -- Each text of a table defines that table, and nothing else.
-use Rattle.std.proofs.Common.{ℕ, List, [], Ok, Err, get_or, refl}
+use Rattle.std.proofs.Common.{◌≡◌, ℕ, List, [], Ok, Err, get_or, refl}
 use Rattle.std.specs.List.{AllZip}
 use Rattle.sqlite_ast.specs.declared.CreateTable.{CreateTable}
 use Rattle.sqlite_ast.specs.declared.Statement.{Statement}
 use Rattle.sqlite_ast.specs.declared.Statement.TheVariants as written
 use Rattle.sqlite_syntax.specs.declared.statement.Parsed.{Parsed}
 use Rattle.sqlite_resolve.specs.Lowering.{Checked}
-use Rattle.sqlite_resolve.specs.Compile.{first}
+use Rattle.sqlite_resolve.specs.Compile.{first, table_defined_by}
+use Rattle.sqlite_schema.specs.declared.schema.Table.{Table}
 use Rattle.sqlite_tied.specs.Compute.{everything}
 use Rattle.agv_schema.specs.Schema.{meta_table, node_table, edge_table, station_table, vehicle_table, trip_table, leg_table, place_table, job_table, hold_table, used_table, capacity_table, journey_table, act_table, desk_tables}
-use Rattle.agv_creation.specs.SchemaTexts.{table_texts, DefineTables}
+use Rattle.agv_creation.specs.SchemaTexts.{meta_texts, table_texts, DefineTables}
+use Rattle.agv_creation.specs.StandingTables.{meta_forms}
 use Rattle.agv_creation.proofs.Creations.{DefinesTable}
 
 pub all_defined : DefineTables
 unfolding everything
 all_defined = (refl, (refl, (refl, (refl, (refl, (refl, (refl, (refl, (refl, (refl, (refl, (refl, (refl, (refl, tt))))))))))))))
+
+pub meta_defined_so : AllZip (λ text (table : Table). table_defined_by text ≡ Ok table) meta_texts meta_forms
+unfolding everything
+meta_defined_so = (refl, (refl, (refl, tt)))
 
 -- ---- the parts of a text
 

@@ -1,5 +1,5 @@
 -- Whether the desk's tables stand in a schema.
-use Rattle.std.specs.Prelude.{◌≡◌, ◌^◌, ℕ, false, nat_le, List, [], map, Some, slice_get}
+use Rattle.std.specs.Prelude.{◌≡◌, ◌⊎◌, ◌^◌, ℕ, Bool, false, true, nat_le, List, [], ◌∷◌, map, Option, None, Some, slice_get}
 use Rattle.std.specs.List.{AllByRecursion}
 use Rattle.sqlite_value.specs.Keys.{plain}
 use Rattle.sqlite_value.specs.declared.value.Value.TheVariants.{Null}
@@ -7,7 +7,8 @@ use Rattle.sqlite_schema.specs.declared.schema.Column.{Column}
 use Rattle.sqlite_schema.specs.declared.schema.Schema.{Schema}
 use Rattle.sqlite_schema.specs.declared.schema.Table.{Table}
 use Rattle.sqlite_schema.specs.Names.{table_named}
-use Rattle.agv_schema.specs.DeskRows.{Placing, IsDesk, SameKeys, TableKeys, with_keys}
+use Rattle.agv_schema.specs.DeskRows.{Placing, IsDesk, SameKeys, TableKeys, columns_by, key_by, keys_of, with_keys}
+use Rattle.agv_schema.specs.Schema.{meta_table}
 
 -- in some trees the desk's tables stand in the schema
 abbrev pub TablesStand : Schema → Type 0
@@ -22,6 +23,19 @@ pub record StandsAlike (schema : Schema) (table : Table) : Type 0 where
   pub there : slice_get schema.tables at ≡ Some (with_keys keys (record table { tree = tree }))
   pub same_keys : SameKeys keys.all table.uniques
   pub low : nat_le (2 ^ 31) tree ≡ false
+
+-- the tables that are taken for `meta`: its first column may be the rowid
+abbrev pub meta_form : Option Bool → Table
+meta_form None = meta_table
+meta_form (Some not_null) = record meta_table { key = key_by (Some not_null); columns = columns_by (Some not_null) meta_table.columns; primary = 0 ∷ []; uniques = []; orders = [] }
+
+abbrev pub meta_forms : List Table
+meta_forms = meta_form None ∷ meta_form (Some false) ∷ meta_form (Some true) ∷ []
+
+-- one of these tables stands alike
+abbrev pub OneStands : Schema → List Table → Type 0
+OneStands schema [] = ⊥
+OneStands schema (t ∷ tables) = StandsAlike schema t ⊎ OneStands schema tables
 
 -- no column has a default
 abbrev pub HaveNoDefaults : List Column → Type 0
@@ -52,10 +66,6 @@ pub record HasKeysOf (a b : Table) : Type 0 where
   pub key : a.key ≡ b.key
   pub uniques : SameKeys a.uniques b.uniques
   pub orders : a.orders ≡ map (λ _. plain) a.uniques
-
--- the keys of a table as they are written
-abbrev pub keys_of : Table → TableKeys
-keys_of table = record { primary = table.primary; all = table.uniques }
 
 -- the first table is the second, but for its tree and how its keys are written
 abbrev pub IsAlike : Table → Table → Type 0

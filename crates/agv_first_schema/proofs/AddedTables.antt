@@ -15,10 +15,10 @@ use Rattle.agv_schema.specs.declared.table_name.TableName.{TableName}
 use Rattle.agv_schema.specs.declared.table_name.TableName.TheVariants as the
 use Rattle.agv_first_schema.specs.FirstRows.{FirstHolds, IsFirstDesk, first_names, is_first}
 use Rattle.agv_first_schema.specs.Moved.{added_tables}
-use Rattle.agv_schema.specs.DeskRows.{HaveRows, Holds, IsDesk, Placing, TableStands, is_unreferred, table_for, table_in, width_of, with_keys}
+use Rattle.agv_schema.specs.DeskRows.{HaveRows, Holds, IsDesk, Placing, SameKeys, TableHas, TableKeys, TableStands, indexed_by, is_unreferred, row_shown, rowid_of, table_for, table_in, table_written, width_of}
 use Rattle.agv_creation.specs.DeskSchema.{sequence_table, with_new_table}
 use Rattle.agv_creation.specs.DeskTables.{HasTable}
-use Rattle.agv_schema.proofs.DeskPlaces.{as_made, is_among, own_keys, same_as_themselves}
+use Rattle.agv_schema.proofs.DeskPlaces.{as_made, is_among, own_keys, same_own_keys}
 use Rattle.agv_creation.proofs.DeskStands.{AllowsTable, have_rows, low_tree}
 use Rattle.agv_creation.proofs.NamesKept.{position_kept}
 use Rattle.agv_creation.proofs.TablesKept.{got_kept, has_got}
@@ -48,31 +48,29 @@ all_extend s [] = record { more = []; is = sym (append-nil s.tables) }
 all_extend s (t ∷ tables) = extends_then s (with_new_table s t) (fold with_new_table s (t ∷ tables)) (new_extends s t) (all_extend (with_new_table s t) tables)
 
 -- a table that stands stands in the longer one, in its tree
-stands_still : (desk later : Placing) (name : TableName) → TableStands desk name → Extends desk.schema later.schema → later.tree name ≡ desk.tree name
+stands_still : (desk later : Placing) (name : TableName) → TableStands desk name → Extends desk.schema later.schema → later.tree name ≡ desk.tree name → later.keys name ≡ desk.keys name
     → is_unreferred (table_for name).name later.schema.tables ≡ true → TableStands later name
-stands_still desk later name s longer tree unreferred = record {
+stands_still desk later name s longer tree keys unreferred = record {
   at = s.at;
-  keys = s.keys;
   named = subst (λ (ts : List Table). position_from (λ (u : Table). same_name u.name (table_for name).name) 0 ts ≡ Some s.at) (sym longer.is)
       (position_kept (λ (u : Table). same_name u.name (table_for name).name) 0 s.at desk.schema.tables longer.more s.named);
-  there = subst (λ ts. slice_get ts s.at ≡ Some (table_in later name s.keys)) (sym longer.is)
-      (got_kept desk.schema.tables longer.more s.at (table_in later name s.keys) (s.there ∙ ap (λ n. Some (with_keys s.keys (record (table_for name) { tree = n }))) (sym tree)));
-  same_keys = s.same_keys;
+  there = subst (λ ts. slice_get ts s.at ≡ Some (table_in later name)) (sym longer.is)
+      (got_kept desk.schema.tables longer.more s.at (table_in later name) (s.there ∙ (λ i. Some (table_written name (sym tree i) (sym keys i)))));
+  same_keys = subst (λ (ks : TableKeys). SameKeys ks.all (indexed_by (rowid_of name ks) (table_for name).uniques)) (sym keys) s.same_keys;
   low = subst (λ n. nat_le (2 ^ 31) n ≡ false) (sym tree) s.low;
   unreferred = unreferred;
 }
 
 -- a table that was made stands, where its tree is that
-stands_new : (db : Database) → IsDatabase db → (tree : TableName → ℕ) (name : TableName) (rows : List Row) (h : HasTable db (table_for name) rows) → tree name ≡ h.tree
-    → is_unreferred (table_for name).name db.schema.tables ≡ true → TableStands (record { schema = db.schema; tree = tree }) name
-stands_new db listed tree name rows h same unreferred =
+stands_new : (db : Database) → IsDatabase db → (tree : TableName → ℕ) (keys : TableName → TableKeys) (name : TableName) (rows : List Row) (h : HasTable db (table_for name) rows) → tree name ≡ h.tree → keys name ≡ own_keys name
+    → is_unreferred (table_for name).name db.schema.tables ≡ true → TableStands (record { schema = db.schema; tree = tree; keys = keys }) name
+stands_new db listed tree keys name rows h same own unreferred =
     let there : slice_get db.schema.tables h.at ≡ Some (record (table_for name) { tree = tree name }) = h.there ∙ ap (λ n. Some (record (table_for name) { tree = n })) (sym same) in
     record {
       at = h.at;
-      keys = own_keys name;
       named = h.named;
-      there = there ∙ ap Some (as_made name (tree name));
-      same_keys = same_as_themselves (table_for name).uniques;
+      there = there ∙ ap Some (as_made name (tree name)) ∙ ap (λ (ks : TableKeys). Some (table_written name (tree name) ks)) (sym own);
+      same_keys = subst (λ (ks : TableKeys). SameKeys ks.all (indexed_by (rowid_of name ks) (table_for name).uniques)) (sym own) (same_own_keys name);
       low = low_tree db listed _ (has_got db.schema.tables h.at _ there);
       unreferred = unreferred;
     }
@@ -92,6 +90,19 @@ tree_stays tree capacity journey act the.Journey is = absurd (cc is)
 tree_stays tree capacity journey act the.Act is = absurd (cc is)
 tree_stays tree capacity journey act _ is = refl
 
+-- the keys of the eleven, and those of the three as they are made
+abbrev second_keys : (TableName → TableKeys) → TableName → TableKeys
+second_keys keys the.Capacity = own_keys the.Capacity
+second_keys keys the.Journey = own_keys the.Journey
+second_keys keys the.Act = own_keys the.Act
+second_keys keys name = keys name
+
+keys_stay : (keys : TableName → TableKeys) (name : TableName) → is_first name ≡ true → second_keys keys name ≡ keys name
+keys_stay keys the.Capacity is = absurd (cc is)
+keys_stay keys the.Journey is = absurd (cc is)
+keys_stay keys the.Act is = absurd (cc is)
+keys_stay keys _ is = refl
+
 zipped_more : {A B : Type 0} (R : A → B → Type 0) (xs us : List A) (ys vs : List B) → AllZip R xs ys → AllZip R us vs → AllZip R (xs ++ us) (ys ++ vs)
 zipped_more R [] us [] vs p q = q
 zipped_more R [] us (y ∷ ys) vs p q = absurd p
@@ -107,16 +118,23 @@ pub record AreAdded (first : Placing) (old mid : Database) : Type 0 where
 
 module _ (first : Placing) (old mid : Database) (added : AreAdded first old mid) where
   abbrev pub second : Placing
-  second = record { schema = mid.schema; tree = trees_with first.tree added.made.stand.0.tree added.made.stand.1.0.tree added.made.stand.1.1.0.tree }
+  second = record {
+    schema = mid.schema;
+    tree = trees_with first.tree added.made.stand.0.tree added.made.stand.1.0.tree added.made.stand.1.1.0.tree;
+    keys = second_keys first.keys;
+  }
 
   pub tree_is : (name : TableName) → is_first name ≡ true → second.tree name ≡ first.tree name
   tree_is = tree_stays first.tree added.made.stand.0.tree added.made.stand.1.0.tree added.made.stand.1.1.0.tree
+
+  keys_are : (name : TableName) → is_first name ≡ true → second.keys name ≡ first.keys name
+  keys_are = keys_stay first.keys
 
   longer : Extends first.schema mid.schema
   longer = subst (λ s. Extends s mid.schema) added.has (subst (Extends old.schema) (sym added.made.schema_is) (all_extend old.schema added_tables))
 
   first_stands : (name : TableName) → is_first name ≡ true → TableStands second name
-  first_stands name is = stands_still first second name (added.is.stands name is) longer (tree_is name is) (added.allowed name).unreferred
+  first_stands name is = stands_still first second name (added.is.stands name is) longer (tree_is name is) (keys_are name is) (added.allowed name).unreferred
 
   second_stands : (name : TableName) → TableStands second name
   second_stands the.Meta = first_stands the.Meta refl
@@ -130,9 +148,9 @@ module _ (first : Placing) (old mid : Database) (added : AreAdded first old mid)
   second_stands the.Job = first_stands the.Job refl
   second_stands the.Hold = first_stands the.Hold refl
   second_stands the.Used = first_stands the.Used refl
-  second_stands the.Capacity = stands_new mid added.made.listed second.tree the.Capacity [] added.made.stand.0 refl (added.allowed the.Capacity).unreferred
-  second_stands the.Journey = stands_new mid added.made.listed second.tree the.Journey [] added.made.stand.1.0 refl (added.allowed the.Journey).unreferred
-  second_stands the.Act = stands_new mid added.made.listed second.tree the.Act [] added.made.stand.1.1.0 refl (added.allowed the.Act).unreferred
+  second_stands the.Capacity = stands_new mid added.made.listed second.tree second.keys the.Capacity [] added.made.stand.0 refl refl (added.allowed the.Capacity).unreferred
+  second_stands the.Journey = stands_new mid added.made.listed second.tree second.keys the.Journey [] added.made.stand.1.0 refl refl (added.allowed the.Journey).unreferred
+  second_stands the.Act = stands_new mid added.made.listed second.tree second.keys the.Act [] added.made.stand.1.1.0 refl refl (added.allowed the.Act).unreferred
 
   pub is_second : IsDesk second
   is_second = record { stands = second_stands; apart = (added.allowed the.Meta).apart }
@@ -143,7 +161,7 @@ module _ (first : Placing) (old mid : Database) (added : AreAdded first old mid)
 
   -- the table of that name as it stood
   abbrev first_table : (name : TableName) → is_first name ≡ true → Table
-  first_table name is = table_in first name (added.is.stands name is).keys
+  first_table name is = table_in first name
 
   first_among : (name : TableName) (is : is_first name ≡ true) → Has old.schema.tables (first_table name is)
   first_among name is =
@@ -154,18 +172,18 @@ module _ (first : Placing) (old mid : Database) (added : AreAdded first old mid)
   trees_stay name is = ap mid.trees (tree_is name is) ∙ rows_stay (first_table name is) (first_among name is)
 
   first_rows_stay : (names : List TableName) → AllByRecursion (λ name. is_first name ≡ true) names → (lists : List (List Row))
-      → AllZip (λ name rows. HaveRows (width_of name) (old.trees (first.tree name)) rows) names lists → AllZip (λ name rows. HaveRows (width_of name) (mid.trees (second.tree name)) rows) names lists
+      → AllZip (TableHas first old.trees) names lists → AllZip (TableHas second mid.trees) names lists
   first_rows_stay [] are [] h = h
   first_rows_stay [] are (rows ∷ lists) h = h
   first_rows_stay (name ∷ names) are [] h = h
   first_rows_stay (name ∷ names) are (rows ∷ lists) h =
-      (subst (λ entries. HaveRows (width_of name) entries rows) (sym (trees_stay name are.0)) h.0, first_rows_stay names are.1 lists h.1)
+      (subst (λ (it : TableKeys × List Row). HaveRows (row_shown (rowid_of name it.0) (width_of name)) it.1 rows) (λ i. (sym (keys_are name are.0) i, sym (trees_stay name are.0) i)) h.0, first_rows_stay names are.1 lists h.1)
 
   -- the fourteen have the rows of the eleven, and the three have none
   pub second_holds : (lists : List (List Row)) → FirstHolds first old lists → Holds second mid (lists ++ [] ∷ [] ∷ [] ∷ [])
   second_holds lists h = record {
     schema_is = refl;
-    rows = zipped_more (λ name rows. HaveRows (width_of name) (mid.trees (second.tree name)) rows) first_names (the.Capacity ∷ the.Journey ∷ the.Act ∷ []) lists ([] ∷ [] ∷ [] ∷ [])
+    rows = zipped_more (TableHas second mid.trees) first_names (the.Capacity ∷ the.Journey ∷ the.Act ∷ []) lists ([] ∷ [] ∷ [] ∷ [])
         (first_rows_stay first_names (refl, (refl, (refl, (refl, (refl, (refl, (refl, (refl, (refl, (refl, (refl, tt))))))))))) lists h.rows) (
           have_rows 3 (mid.trees (second.tree the.Capacity)) [] tt added.made.stand.0.rows_are,
           (

@@ -20,7 +20,7 @@ use Rattle.agv_first_schema.specs.FirstRows.{HasFirstWorld, HasNoFirstWorld, fir
 use Rattle.agv_first_schema.specs.FirstTold.{Finds, TellFirst}
 use Rattle.agv_row_reading.specs.Rowids.{AreTablesKeyed}
 use Rattle.agv_rows.specs.DecodedTrips.{tables_of}
-use Rattle.agv_schema.specs.DeskRows.{HaveRows, Placing, width_of}
+use Rattle.agv_schema.specs.DeskRows.{Placing, TableHas}
 use Rattle.agv_rows.specs.Rows.{AreAlike}
 use Rattle.agv_row_reading.specs.declared.open_fault.OpenFault.{OpenFault}
 use Rattle.agv_row_reading.specs.declared.open_fault.OpenFault.TheVariants as fault
@@ -33,7 +33,7 @@ use Rattle.agv_first_schema.proofs.WorldTold.{one_told, rows_told}
 
 -- the named tables have these rows
 abbrev HaveLists : Placing → Database → List TableName → List (List Row) → Type 0
-HaveLists at db = AllZip (λ name rows. HaveRows (width_of name) (db.trees (at.tree name)) rows)
+HaveLists at db = AllZip (TableHas at db.trees)
 
 module _ (at : Placing) (db : Database) where
   are_keyed : (names : List TableName) (lists : List (List Row)) → HaveLists at db names lists → AreTablesKeyed at db names

@@ -14,7 +14,7 @@ use Rattle.sqlite.proofs.StateLemmas.{survives_then}
 use Rattle.agv_first_schema.specs.FirstFound.{ReadsLists, StaysBy, all_lists, one_list}
 use Rattle.agv_row_reading.specs.OpenFault.{open_fault_of}
 use Rattle.agv_row_reading.specs.Rowids.{AreTablesKeyed, TellsKeyedAlone}
-use Rattle.agv_schema.specs.DeskRows.{AnswersAlone, HaveRows, Placing, StandApart, columns_in, width_of}
+use Rattle.agv_schema.specs.DeskRows.{AnswersAlone, Placing, StandApart, TableHas, shown_in}
 use Rattle.agv_schema.specs.Connections.{HasStorageCause}
 use Rattle.agv_schema.specs.Errors.{IsOfStore, is_of_store}
 use Rattle.agv_row_reading.specs.declared.open_fault.OpenFault.{OpenFault}
@@ -119,8 +119,8 @@ module _ {S : Type 0} (g : Ghosts S) where
             let same : (state g mid).now ≡ (state g old).now = (keyed.kept (earlier clean)).0.now_is in
             let there = ((keyed.told (earlier clean) desk stand has).0 yes).0 in
             let entries = (state g old).now.trees (desk.tree name) in
-            let all = map (columns_in (width_of name)) entries in
-            let at_mid : HaveRows (width_of name) ((state g mid).now.trees (desk.tree name)) all = subst (λ (db : Database). HaveRows (width_of name) (db.trees (desk.tree name)) all) (sym same) (there, IsPermutation-refl all) in
+            let all = map (shown_in desk name) entries in
+            let at_mid : TableHas desk (state g mid).now.trees name all = subst (λ (db : Database). TableHas desk db.trees name all) (sym same) (there, IsPermutation-refl all) in
             ((there, IsPermutation-sym _ _ (shown clean desk stand (subst (λ (db : Database). db.schema ≡ desk.schema) (sym same) has) all at_mid)), tt);
         damaged = λ _. tt;
         caused = λ _. tt;
@@ -152,7 +152,7 @@ module _ {S : Type 0} (g : Ghosts S) where
       told = λ clean desk stand has.
           let one = first.told (before (Ok lists) next clean) desk (the_first desk name others stand) has in
           let more = next.told clean desk (the_others desk name others stand) (moved (Ok lists) next clean desk has) in
-          (one.0, subst (λ (db : Database). AllZip (λ name rows. HaveRows (width_of name) (db.trees (desk.tree name)) rows) others lists) (same_now (Ok lists) next clean) more);
+          (one.0, subst (λ (db : Database). AllZip (TableHas desk db.trees) others lists) (same_now (Ok lists) next clean) more);
       damaged = λ _. tt;
       caused = λ _. tt;
       kept = λ clean. stays_then g others old mid new (first.kept (before (Ok lists) next clean)) (next.kept clean);

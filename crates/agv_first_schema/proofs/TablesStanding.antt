@@ -1,28 +1,23 @@
 -- The first schema's tables stand where each of the eleven stands alike, no key refers to one of them, and no two tables have one tree.
-use Rattle.std.proofs.Common.{◌≡◌, ◌≢◌, ◌^◌, ◌∙◌, ◌↔◌, ℕ, zero, suc, Bool, true, false, List, [], ◌∷◌, map, take, nat_le, slice_get, IfOk, IsTrue, Result, Ok, Err, Some, refl, sym, ap, subst}
+use Rattle.std.proofs.Common.{◌≡◌, ◌≢◌, ◌↔◌, ℕ, zero, suc, Bool, true, List, [], ◌∷◌, map, drop, take, None, IfOk, IsTrue, Result, Ok, Err, refl, sym, ap, subst}
 use Rattle.std.proofs.lemmas.Bool.{and_from, and_parts}
 use Rattle.std.specs.List.{AllByRecursion, AllZip, list_all}
 use Rattle.sqlite_resolve.specs.Compile.{table_defined_by}
-use Rattle.sqlite_schema.specs.Names.{table_named}
 use Rattle.sqlite_schema.specs.declared.schema.Schema.{Schema}
 use Rattle.sqlite_schema.specs.declared.schema.Table.{Table}
 use Rattle.sqlite_trees.specs.Tree.{IsAscending}
 use Rattle.agv_header.specs.declared.memory.Memory.{Memory}
 use Rattle.agv_first_schema.specs.FirstFound.{FirstTablesStand}
 use Rattle.agv_first_schema.specs.FirstRows.{IsFirstDesk, first_names, is_first}
-use Rattle.agv_schema.specs.DeskRows.{Placing, StandApart, TableStands, is_unreferred, table_for, with_keys}
+use Rattle.agv_schema.specs.DeskRows.{Placing, StandApart, TableKeys, TableStands, is_unreferred, table_for}
 use Rattle.agv_schema.specs.Schema.{desk_tables}
 use Rattle.agv_creation.specs.SchemaTexts.{DefineTables, table_texts}
-use Rattle.agv_creation.specs.StandingTables.{IsPlain, StandsAlike}
+use Rattle.agv_creation.specs.StandingTables.{IsPlain, OneStands, StandsAlike, meta_forms}
 use Rattle.agv_schema.specs.declared.table_name.TableName.{TableName}
 use Rattle.agv_schema.specs.declared.table_name.TableName.TheVariants as the
-use Rattle.agv_creation.proofs.TablesStand.{all_plain}
+use Rattle.agv_creation.proofs.TablesStand.{MetaStands, form_of, form_stands, keys_with, one_form, others_plain, stands_as_form, the_others, which_form}
 
 -- ---- the eleven as a list
-
--- the first of a list
-abbrev pub the_eleven : {A : Type 0} → List A → List A
-the_eleven = take 11
 
 -- what holds of each of the eleven
 abbrev Each : (TableName → Type 0) → Type 0
@@ -60,11 +55,15 @@ first_zip R (suc n) [] (y ∷ ys) all = absurd all
 first_zip R (suc n) (x ∷ xs) [] all = absurd all
 first_zip R (suc n) (x ∷ xs) (y ∷ ys) all = (all.0, first_zip R n xs ys all.1)
 
-pub eleven_plain : AllByRecursion IsPlain (the_eleven desk_tables)
-eleven_plain = first_of IsPlain 11 desk_tables all_plain
+-- all of these but the first
+abbrev pub the_ten : {A : Type 0} → List A → List A
+the_ten xs = take 10 (drop 1 xs)
 
-pub eleven_defined : DefineTables → AllZip (λ text (table : Table). table_defined_by text ≡ Ok table) (the_eleven table_texts) (the_eleven desk_tables)
-eleven_defined all = first_zip (λ text (table : Table). table_defined_by text ≡ Ok table) 11 table_texts desk_tables all
+pub ten_plain : AllByRecursion IsPlain (the_ten desk_tables)
+ten_plain = first_of IsPlain 10 the_others others_plain
+
+pub ten_defined : DefineTables → AllZip (λ text (table : Table). table_defined_by text ≡ Ok table) (the_ten table_texts) (the_ten desk_tables)
+ten_defined all = first_zip (λ text (table : Table). table_defined_by text ≡ Ok table) 10 (drop 1 table_texts) the_others all.1
 
 -- ---- names that no key refers to
 
@@ -88,77 +87,65 @@ unreferred tables all = named (λ name. is_unreferred (table_for name).name tabl
 
 -- ---- the placing
 
--- the tree of each of the eleven that stand alike
-trees_of : (s : Schema) → AllByRecursion (StandsAlike s) (the_eleven desk_tables) → TableName → ℕ
-trees_of s all the.Meta = all.0.tree
-trees_of s all the.Node = all.1.0.tree
-trees_of s all the.Edge = all.1.1.0.tree
-trees_of s all the.Station = all.1.1.1.0.tree
-trees_of s all the.Vehicle = all.1.1.1.1.0.tree
-trees_of s all the.Trip = all.1.1.1.1.1.0.tree
-trees_of s all the.Leg = all.1.1.1.1.1.1.0.tree
-trees_of s all the.Load = all.1.1.1.1.1.1.1.0.tree
-trees_of s all the.Job = all.1.1.1.1.1.1.1.1.0.tree
-trees_of s all the.Hold = all.1.1.1.1.1.1.1.1.1.0.tree
-trees_of s all the.Used = all.1.1.1.1.1.1.1.1.1.1.0.tree
-trees_of s all the.Capacity = 0
-trees_of s all the.Journey = 0
-trees_of s all the.Act = 0
+-- the tree and the keys of each of the eleven that stand alike
+module _ (s : Schema) (meta : MetaStands s) (all : AllByRecursion (StandsAlike s) (the_ten desk_tables)) where
+  abbrev its_place : {table : Table} → StandsAlike s table → ℕ × TableKeys
+  its_place it = (it.tree, keys_with meta.rowid it.keys)
 
--- it stands alike, in this tree
-record StandsThere (s : Schema) (tree : ℕ) (table : Table) : Type 0 where
-  it : StandsAlike s table
-  same : it.tree ≡ tree
+  placed_at : TableName → ℕ × TableKeys
+  placed_at the.Meta = its_place meta.it
+  placed_at the.Node = its_place all.0
+  placed_at the.Edge = its_place all.1.0
+  placed_at the.Station = its_place all.1.1.0
+  placed_at the.Vehicle = its_place all.1.1.1.0
+  placed_at the.Trip = its_place all.1.1.1.1.0
+  placed_at the.Leg = its_place all.1.1.1.1.1.0
+  placed_at the.Load = its_place all.1.1.1.1.1.1.0
+  placed_at the.Job = its_place all.1.1.1.1.1.1.1.0
+  placed_at the.Hold = its_place all.1.1.1.1.1.1.1.1.0
+  placed_at the.Used = its_place all.1.1.1.1.1.1.1.1.1.0
+  placed_at _ = (0, record { primary = []; all = []; rowid = None })
 
-there_each : (s : Schema) (all : AllByRecursion (StandsAlike s) (the_eleven desk_tables)) → Each (λ name. StandsThere s (trees_of s all name) (table_for name))
-unfolding trees_of
-there_each s all the.Meta is = record { it = all.0; same = refl }
-there_each s all the.Node is = record { it = all.1.0; same = refl }
-there_each s all the.Edge is = record { it = all.1.1.0; same = refl }
-there_each s all the.Station is = record { it = all.1.1.1.0; same = refl }
-there_each s all the.Vehicle is = record { it = all.1.1.1.1.0; same = refl }
-there_each s all the.Trip is = record { it = all.1.1.1.1.1.0; same = refl }
-there_each s all the.Leg is = record { it = all.1.1.1.1.1.1.0; same = refl }
-there_each s all the.Load is = record { it = all.1.1.1.1.1.1.1.0; same = refl }
-there_each s all the.Job is = record { it = all.1.1.1.1.1.1.1.1.0; same = refl }
-there_each s all the.Hold is = record { it = all.1.1.1.1.1.1.1.1.1.0; same = refl }
-there_each s all the.Used is = record { it = all.1.1.1.1.1.1.1.1.1.1.0; same = refl }
-there_each s all the.Capacity is = absurd (cc is)
-there_each s all the.Journey is = absurd (cc is)
-there_each s all the.Act is = absurd (cc is)
+  -- it stands alike, in that place
+  record StandsThere (name : TableName) : Type 0 where
+    it : StandsAlike s (form_of meta.rowid name)
+    same : placed_at name ≡ its_place it
 
-they_stand : (s : Schema) → are_unreferred s.tables ≡ true → IsAscending (λ (t u : Table). t.tree ≢ u.tree) s.tables → AllByRecursion (StandsAlike s) (the_eleven desk_tables) → FirstTablesStand s
-they_stand s free apart all =
-    let at : Placing = record { schema = s; tree = trees_of s all } in
-    let stands : (name : TableName) → is_first name ≡ true → TableStands at name = λ name is.
-    let there = there_each s all name is in
-    let it = there.it in
-    record {
-      at = it.at;
-      keys = it.keys;
-      named = it.named;
-      there = subst (λ tree. slice_get s.tables it.at ≡ Some (with_keys it.keys (record (table_for name) { tree = tree }))) there.same it.there;
-      same_keys = it.same_keys;
-      low = subst (λ tree. nat_le (2 ^ 31) tree ≡ false) there.same it.low;
-      unreferred = unreferred s.tables free name is;
-    } in
-    (at, record { stands = stands; apart = apart }, refl)
+  there_each : Each StandsThere
+  unfolding placed_at
+  there_each the.Meta is = record { it = meta.it; same = refl }
+  there_each the.Node is = record { it = all.0; same = refl }
+  there_each the.Edge is = record { it = all.1.0; same = refl }
+  there_each the.Station is = record { it = all.1.1.0; same = refl }
+  there_each the.Vehicle is = record { it = all.1.1.1.0; same = refl }
+  there_each the.Trip is = record { it = all.1.1.1.1.0; same = refl }
+  there_each the.Leg is = record { it = all.1.1.1.1.1.0; same = refl }
+  there_each the.Load is = record { it = all.1.1.1.1.1.1.0; same = refl }
+  there_each the.Job is = record { it = all.1.1.1.1.1.1.1.0; same = refl }
+  there_each the.Hold is = record { it = all.1.1.1.1.1.1.1.1.0; same = refl }
+  there_each the.Used is = record { it = all.1.1.1.1.1.1.1.1.1.0; same = refl }
+  there_each the.Capacity is = absurd (cc is)
+  there_each the.Journey is = absurd (cc is)
+  there_each the.Act is = absurd (cc is)
 
-alike : (s : Schema) (at : Placing) → IsFirstDesk at → s ≡ at.schema → Each (λ name. StandsAlike s (table_for name))
-alike s at is same name first =
-    let it = is.stands name first in
-    record {
-      at = it.at;
-      tree = at.tree name;
-      keys = it.keys;
-      named = ap (λ (u : Schema). table_named u (table_for name).name) same ∙ it.named;
-      there = ap (λ (u : Schema). slice_get u.tables it.at) same ∙ it.there;
-      same_keys = it.same_keys;
-      low = it.low;
-    }
+  they_stand_so : are_unreferred s.tables ≡ true → IsAscending (λ (t u : Table). t.tree ≢ u.tree) s.tables → FirstTablesStand s
+  they_stand_so free apart =
+      let at : Placing = record { schema = s; tree = λ name. (placed_at name).0; keys = λ name. (placed_at name).1 } in
+      let stands : (name : TableName) → is_first name ≡ true → TableStands at name = λ name is.
+      let there = there_each name is in
+      stands_as_form s at meta.rowid name there.it refl (ap (λ (p : ℕ × TableKeys). p.0) there.same) (ap (λ (p : ℕ × TableKeys). p.1) there.same) (unreferred s.tables free name is) in
+      (at, record { stands = stands; apart = apart }, refl)
 
-each_alike : (s : Schema) → FirstTablesStand s → AllByRecursion (StandsAlike s) (the_eleven desk_tables)
-each_alike s stand = listed (λ name. StandsAlike s (table_for name)) (alike s stand.0 stand.1 stand.2)
+they_stand : (s : Schema) → are_unreferred s.tables ≡ true → IsAscending (λ (t u : Table). t.tree ≢ u.tree) s.tables → OneStands s meta_forms → AllByRecursion (StandsAlike s) (the_ten desk_tables) → FirstTablesStand s
+they_stand s free apart one all = they_stand_so s (which_form s one) all free apart
+
+pub each_alike : (s : Schema) → FirstTablesStand s → OneStands s meta_forms × AllByRecursion (StandsAlike s) (the_ten desk_tables)
+each_alike s stand =
+    let at = stand.0 in
+    let alike : Each (λ name. StandsAlike s (form_of (at.keys name).rowid name)) = λ name first. form_stands s at name (stand.1.stands name first) stand.2 in (
+      one_form s (at.keys the.Meta).rowid (alike the.Meta refl),
+      (alike the.Node refl, (alike the.Edge refl, (alike the.Station refl, (alike the.Vehicle refl, (alike the.Trip refl, (alike the.Leg refl, (alike the.Load refl, (alike the.Job refl, (alike the.Hold refl, (alike the.Used refl, tt)))))))))),
+    )
 
 pub none_refers : (s : Schema) → FirstTablesStand s → are_unreferred s.tables ≡ true
 none_refers s stand =
@@ -168,10 +155,10 @@ none_refers s stand =
 pub are_apart : (s : Schema) → FirstTablesStand s → IsAscending (λ (t u : Table). t.tree ≢ u.tree) s.tables
 are_apart s stand = subst (λ (u : Schema). IsAscending (λ (t v : Table). t.tree ≢ v.tree) u.tables) (sym stand.2) stand.1.apart
 
-pub told_so : (s : Schema) (r : Result Bool Memory) → are_unreferred s.tables ≡ true → IsAscending (λ (t u : Table). t.tree ≢ u.tree) s.tables
-    → IfOk r (λ b. IsTrue b ↔ AllByRecursion (StandsAlike s) (the_eleven desk_tables)) → IfOk r (λ b. IsTrue b ↔ FirstTablesStand s)
-told_so s (Ok b) free apart h = ((λ yes. they_stand s free apart (h.0 yes)), (λ stand. h.1 (each_alike s stand)))
-told_so s (Err e) free apart h = tt
+pub told_so : (s : Schema) (r : Result Bool Memory) → are_unreferred s.tables ≡ true → IsAscending (λ (t u : Table). t.tree ≢ u.tree) s.tables → OneStands s meta_forms
+    → IfOk r (λ b. IsTrue b ↔ AllByRecursion (StandsAlike s) (the_ten desk_tables)) → IfOk r (λ b. IsTrue b ↔ FirstTablesStand s)
+told_so s (Ok b) free apart meta h = ((λ yes. they_stand s free apart meta (h.0 yes)), (λ stand. h.1 (each_alike s stand).1))
+told_so s (Err e) free apart meta h = tt
 
 -- the eleven stand also where others of the fourteen don't
 pub stand_apart : (at : Placing) → IsFirstDesk at → StandApart at first_names

@@ -10,7 +10,7 @@ use Rattle.sqlite.specs.State.{HasCleanDisk, IsRolledBack, IsUnchanged, Survives
 use Rattle.agv_world.specs.Kept.{Keeps}
 use Rattle.agv_world.specs.Worlds.{World}
 use Rattle.agv_world.specs.declared.world.World.{World as Tables}
-use Rattle.agv_schema.specs.DeskRows.{HaveRows, Placing, StandApart, width_of}
+use Rattle.agv_schema.specs.DeskRows.{Placing, StandApart, TableHas}
 use Rattle.agv_row_reading.specs.Rowids.{AreTablesKeyed}
 use Rattle.agv_schema.specs.Connections.{HasStorageCause}
 use Rattle.agv_row_reading.specs.declared.open_fault.OpenFault.{OpenFault}
@@ -44,7 +44,7 @@ module _ {S : Type 0} (g : Ghosts S) (old new : Held S) (names : List TableName)
   pub record ReadsLists : Type 0 where
     -- the lists of their rows, wherever they stand
     pub told : HasCleanDisk (state g new) → IfOk result (λ lists. (desk : Placing) → StandApart desk names → (state g old).now.schema ≡ desk.schema
-        → AllZip (λ name rows. HaveRows (width_of name) ((state g old).now.trees (desk.tree name)) rows) names lists)
+        → AllZip (TableHas desk (state g old).now.trees) names lists)
     -- they are damaged where two rows of a table have one number, or a row has none
     pub damaged : HasCleanDisk (state g new) → IfErr result (λ why. why ≡ fault.Damaged → (desk : Placing) → StandApart desk names → (state g old).now.schema ≡ desk.schema
         → ¬ AreTablesKeyed desk (state g old).now names)

@@ -12,7 +12,7 @@ use Rattle.agv_world.specs.Maps.{Maps, maps_of}
 use Rattle.agv_world.specs.Worlds.{World}
 use Rattle.agv_world.specs.declared.row.TripRow.{TripRow}
 use Rattle.agv_rows.specs.Columns.{meta_columns, node_columns, edge_columns, station_columns, vehicle_columns, leg_columns, load_columns, job_columns, hold_columns, used_columns}
-use Rattle.agv_schema.specs.DeskRows.{Placing, HaveRows, TableStands, width_of}
+use Rattle.agv_schema.specs.DeskRows.{Placing, TableHas, TableStands}
 use Rattle.agv_rows.specs.Rows.{row_if, rows_for, rows_in}
 use Rattle.agv_schema.specs.declared.table_name.TableName.{TableName}
 use Rattle.agv_schema.specs.declared.table_name.TableName.TheVariants as the
@@ -47,7 +47,7 @@ pub record IsFirstDesk (desk : Placing) : Type 0 where
 -- the database has this schema, and the eleven tables have these rows, one list for each
 pub record FirstHolds (desk : Placing) (db : Database) (lists : List (List Row)) : Type 0 where
   pub schema_is : db.schema ≡ desk.schema
-  pub rows : AllZip (λ name rows. HaveRows (width_of name) (db.trees (desk.tree name)) rows) first_names lists
+  pub rows : AllZip (TableHas desk db.trees) first_names lists
 
 -- the row of each open trip of one job; no other trip has one
 abbrev pub trip_rows : finite.FinMap name_cmp TripRow → List Row

@@ -1,22 +1,22 @@
 -- What the texts that show rowids mean, wherever the desk's tables stand.
-use Rattle.std.proofs.Common.{◌≡◌, ◌^◌, ℕ, true, false, nat_le, nat_lt, List, [], ◌∷◌, codes, None, refl, sym, subst, lit≤, rules}
+use Rattle.std.proofs.Common.{◌≡◌, ◌^◌, ℕ, Bool, true, false, nat_le, nat_lt, List, [], ◌∷◌, codes, Option, None, Some, refl, sym, subst, lit≤, rules}
 use Rattle.sqlite_ast.specs.declared.Core.{out-Core}
 use Rattle.sqlite_ast.specs.declared.Expr.{Expr}
 use Rattle.sqlite_ast.specs.declared.Expr.TheOpen.{Shown-F}
 use Rattle.sqlite_ast.specs.declared.Select.{out-Select}
 use Rattle.sqlite_ast.specs.declared.Shown.{Shown, out-Shown}
 use Rattle.sqlite_ast.specs.Layer.{ShownLayer}
+use Rattle.sqlite_schema.specs.declared.command.Command.TheVariants.{Select}
+use Rattle.sqlite_schema.specs.declared.schema.Schema.{Schema}
 use Rattle.sqlite_sql.specs.Term.{Term, col}
 use Rattle.sqlite_tied.specs.Compute.{everything}
 use Rattle.agv_row_reading.specs.Rowids.{rowids_text}
-use Rattle.agv_schema.specs.DeskRows.{table_for}
+use Rattle.agv_schema.specs.DeskRows.{TableKeys, rowid_of, table_for, table_written}
 use Rattle.agv_schema.specs.declared.table_name.TableName.{TableName}
 use Rattle.agv_schema.specs.declared.table_name.TableName.TheVariants as the
-use Rattle.agv_schema.proofs.OneTable.{IsPlainFrom, parsed, selection, head_of, sole}
+use Rattle.agv_schema.proofs.OneTable.{IsIn, IsPlainFrom, Means, parsed, query_by, selection, head_of, sole}
 use Rattle.agv_statements.proofs.sql.OneTableReads.{ShowsRowid, rowids_named, select_means}
-use Rattle.agv_statements.proofs.QueryMeanings.{AsksFor}
 use Rattle.agv_statements.proofs.sql.ReadFailing.{IsTypedTo, IsWholeText}
-use Rattle.agv_statements.proofs.RowMeanings.{with_tree}
 use Rattle.agv_statements.proofs.sql.Selecting.{IsSelectText}
 
 abbrev IsFilled : List Shown → Type 0
@@ -38,37 +38,64 @@ shown_in _ is = absurd is
 abbrev pub rowid_terms : List Term
 rowid_terms = col 1 0 ∷ []
 
-abbrev pub rowid_names : List (List ℕ)
-rowid_names = codes "rowid" ∷ []
+-- under what name: that of the column that it is, if it is one
+abbrev pub rowid_heads : Option Bool → List (List ℕ)
+rowid_heads None = codes "rowid" ∷ []
+rowid_heads (Some not_null) = codes "id" ∷ []
+
+abbrev pub rowid_names : TableName → TableKeys → List (List ℕ)
+rowid_names name keys = rowid_heads (rowid_of name keys)
 
 is_low : (tree : ℕ) → nat_le (2 ^ 31) tree ≡ false → nat_lt tree (2 ^ 31) ≡ true
 is_low tree low = search (rules, low)
 
 -- SQL takes the text for a query of the table that shows the rowid of each row
-pub rowids_asked : (name : TableName) → AsksFor name (rowids_text name) [] rowid_terms rowid_names
+abbrev pub AsksRowids : TableName → TableKeys → Type 0
+AsksRowids name keys = (s : Schema) (at tree : ℕ) → IsIn s (table_for name).name (table_written name tree keys) at
+    → Means s (rowids_text name) (Select (record { lets = []; body = query_by tree [] rowid_terms }) (rowid_names name keys))
+
+-- of `meta`, whether its first column is the rowid or not
+meta_rowids : (primary : List ℕ) (all : List (List ℕ)) (rowid : Option Bool) → AsksRowids the.Meta (record { primary = primary; all = all; rowid = rowid })
 unfolding everything
-rowids_asked the.Meta s at tree keys stands =
+meta_rowids primary all None s at tree stands =
+    let table = table_written the.Meta tree (record { primary = primary; all = all; rowid = None }) in
     let p = parsed (rowids_text the.Meta) in
     let sel = selection p.statement tt in
     let core = (out-Select sel).first in
-    let all = (out-Core core).shown in
+    let shown = (out-Core core).shown in
     let low = is_low tree stands.low in
     let plain : IsPlainFrom core (codes "meta") = record { source = head_of (out-Core core).from tt; from = refl; origin = refl; alias = refl; on = refl; using = refl; inner = refl; group = refl; having = refl; repeats = refl } in
-    let shows : ShowsRowid (with_tree the.Meta tree keys) all (shown_in (out-Shown (first_of_all all tt)) tt) = record { one = first_of_all all tt; text = _; word = _; all_is = refl; one_is = refl; expr_is = refl; names = record { unnamed = refl; rowid = refl; low = low } } in
-    select_means s (codes "meta") (with_tree the.Meta tree keys) at stands (rowids_text the.Meta) p refl refl sel refl
-    (record { with = refl; others = refl; order = refl; limit = refl; offset = refl }) plain [] rowid_terms rowid_names (None ∷ []) (rw low refl) refl refl
-    (rowids_named (with_tree the.Meta tree keys) (codes "meta") core plain _ shows refl (sole (with_tree the.Meta tree keys)) 0 refl refl) refl
-rowids_asked name s at tree keys stands =
+    let shows : ShowsRowid table shown (shown_in (out-Shown (first_of_all shown tt)) tt) = record { one = first_of_all shown tt; text = _; word = _; all_is = refl; one_is = refl; expr_is = refl; names = record { unnamed = refl; rowid = refl; low = low } } in
+    select_means s (codes "meta") table at stands (rowids_text the.Meta) p refl refl sel refl
+    (record { with = refl; others = refl; order = refl; limit = refl; offset = refl }) plain [] rowid_terms (rowid_heads None) (None ∷ []) (rw low refl) refl refl
+    (rowids_named table (codes "meta") core plain _ shows refl (sole table) 0 refl refl) refl
+meta_rowids primary all (Some not_null) s at tree stands =
+    let table = table_written the.Meta tree (record { primary = primary; all = all; rowid = Some not_null }) in
+    let p = parsed (rowids_text the.Meta) in
+    let sel = selection p.statement tt in
+    let core = (out-Select sel).first in
+    let shown = (out-Core core).shown in
+    let low = is_low tree stands.low in
+    let plain : IsPlainFrom core (codes "meta") = record { source = head_of (out-Core core).from tt; from = refl; origin = refl; alias = refl; on = refl; using = refl; inner = refl; group = refl; having = refl; repeats = refl } in
+    let shows : ShowsRowid table shown (shown_in (out-Shown (first_of_all shown tt)) tt) = record { one = first_of_all shown tt; text = _; word = _; all_is = refl; one_is = refl; expr_is = refl; names = record { unnamed = refl; rowid = refl; low = low } } in
+    select_means s (codes "meta") table at stands (rowids_text the.Meta) p refl refl sel refl
+    (record { with = refl; others = refl; order = refl; limit = refl; offset = refl }) plain [] rowid_terms (rowid_heads (Some not_null)) (None ∷ []) (rw low refl) refl refl
+    (rowids_named table (codes "meta") core plain _ shows refl (sole table) 0 refl refl) refl
+
+pub rowids_asked : (name : TableName) (keys : TableKeys) → AsksRowids name keys
+unfolding everything
+rowids_asked the.Meta keys s at tree stands = meta_rowids keys.primary keys.all keys.rowid s at tree stands
+rowids_asked name keys s at tree stands =
     let p = parsed (rowids_text name) in
     let sel = selection p.statement tt in
     let core = (out-Select sel).first in
     let all = (out-Core core).shown in
     let low = is_low tree stands.low in
     let plain : IsPlainFrom core (table_for name).name = record { source = head_of (out-Core core).from tt; from = refl; origin = refl; alias = refl; on = refl; using = refl; inner = refl; group = refl; having = refl; repeats = refl } in
-    let shows : ShowsRowid (with_tree name tree keys) all (shown_in (out-Shown (first_of_all all tt)) tt) = record { one = first_of_all all tt; text = _; word = _; all_is = refl; one_is = refl; expr_is = refl; names = record { unnamed = refl; rowid = refl; low = low } } in
-    select_means s (table_for name).name (with_tree name tree keys) at stands (rowids_text name) p refl refl sel refl
-    (record { with = refl; others = refl; order = refl; limit = refl; offset = refl }) plain [] rowid_terms rowid_names (None ∷ []) (rw low refl) refl refl
-    (rowids_named (with_tree name tree keys) (table_for name).name core plain _ shows refl (sole (with_tree name tree keys)) 0 refl refl) refl
+    let shows : ShowsRowid (table_written name tree keys) all (shown_in (out-Shown (first_of_all all tt)) tt) = record { one = first_of_all all tt; text = _; word = _; all_is = refl; one_is = refl; expr_is = refl; names = record { unnamed = refl; rowid = refl; low = low } } in
+    select_means s (table_for name).name (table_written name tree keys) at stands (rowids_text name) p refl refl sel refl
+    (record { with = refl; others = refl; order = refl; limit = refl; offset = refl }) plain [] rowid_terms (rowid_heads None) (None ∷ []) (rw low refl) refl refl
+    (rowids_named (table_written name tree keys) (table_for name).name core plain _ shows refl (sole (table_written name tree keys)) 0 refl refl) refl
 
 pub rowids_typed : (name : TableName) → IsTypedTo name [] rowid_terms []
 rowids_typed the.Meta = refl

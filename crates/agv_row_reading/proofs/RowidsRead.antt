@@ -27,8 +27,8 @@ module _ (params : Row) (old new : State) (name : TableName) where
 
   read_by : (rows : List Row) → Shown (rowids_text name) params old new rows → ShowRowids name old.now rows
   read_by rows shown desk stand has =
-      let means = rowids_asked name desk.schema stand.stands.0.at (desk.tree name) stand.stands.0.keys (is_in_alone desk name stand.stands.0 stand.apart) in
-      let got = reads_as (rowids_text name) params old new desk.schema has (Select (record { lets = []; body = query_by (desk.tree name) [] rowid_terms }) rowid_names) means.is means.plain means.own rows shown in
+      let means = rowids_asked name (desk.keys name) desk.schema stand.stands.0.at (desk.tree name) (is_in_alone desk name stand.stands.0 stand.apart) in
+      let got = reads_as (rowids_text name) params old new desk.schema has (Select (record { lets = []; body = query_by (desk.tree name) [] rowid_terms }) (rowid_names name (desk.keys name))) means.is means.plain means.own rows shown in
       let found = answered_by (desk.tree name) [] rowid_terms old.now.trees params rows (got.answer Null) in
       let entries = old.now.trees (desk.tree name) in
       subst (λ xs. IsPermutation xs rows) (ap (map (λ e. eval_all rowid_terms (params ∷ e ∷ []))) (filter_nothing entries) ∙ ids_alone entries) found
@@ -42,5 +42,6 @@ pub rowids_caused : (params : Row) (old new : State) (name : TableName) (r : Res
     → IfErr r (λ e. IsOfStore e → (desk : Placing) → StandApart desk (name ∷ []) → old.now.schema ≡ desk.schema → IsCaused old new)
 rowids_caused params old new name (Ok rows) sql none text fails = tt
 rowids_caused params old new name (Err e) sql none text fails = λ stored desk stand has.
-    read_caused name [] rowid_terms rowid_names (rowids_text name) (rowids_asked name) [] (rowids_whole name) (rowids_typed name) old new e desk stand has stored
+    read_caused name [] rowid_terms (rowid_names name (desk.keys name)) (rowids_text name) [] (rowids_whole name) (rowids_typed name) old new e desk stand has
+    (rowids_asked name (desk.keys name) desk.schema stand.stands.0.at (desk.tree name) (is_in_alone desk name stand.stands.0 stand.apart)) stored
     (subst (λ p. FailsToQuery (rowids_text name) p old new e) none (subst (λ t. FailsToQuery t params old new e) text fails))

@@ -1,5 +1,5 @@
 -- What is told of the rowids of one table, and of several in turn.
-use Rattle.std.proofs.Common.{◌≡◌, ◌⊎◌, ◌↔◌, ◌∙◌, Bool, true, false, List, [], ◌∷◌, Result, Ok, Err, IsTrue, sym, subst, arith, ℕ, ap}
+use Rattle.std.proofs.Common.{◌≡◌, ◌⊎◌, ◌↔◌, ◌∙◌, Bool, true, false, List, [], ◌∷◌, Result, Ok, Err, IsTrue, sym, subst, arith, ap}
 use Rattle.std.specs.List.{AllByRecursion, AllZip}
 use Rattle.std.specs.Result.{IsErrAnd}
 use Rattle.sqlite_value.specs.Order.{Row}
@@ -10,7 +10,7 @@ use Rattle.sqlite.specs.Effect.{Database}
 use Rattle.sqlite.specs.Held.{Held, state}
 use Rattle.sqlite.specs.State.{HasCleanDisk, IsUnchanged, IsRolledBack, Survives}
 use Rattle.sqlite.proofs.StateLemmas.{survives_then}
-use Rattle.agv_schema.specs.DeskRows.{AreKeyed, HaveRows, StandApart, Placing, table_names, width_of}
+use Rattle.agv_schema.specs.DeskRows.{AreKeyed, StandApart, Placing, TableHas, table_names}
 use Rattle.agv_schema.specs.Errors.{IsOfStore, is_of_store}
 use Rattle.agv_schema.specs.Connections.{HasStorageCause}
 use Rattle.agv_row_reading.specs.OpenFault.{open_fault_of}
@@ -144,15 +144,15 @@ tells_all g old new (Err f) keyed = record {
 
 -- ---- a query about the world whose rows the tables have: it is keyed
 
-tables_keyed : (tree : TableName → ℕ) (trees : Trees) (names : List TableName) (lists : List (List Row)) → AllZip (λ name rows. HaveRows (width_of name) (trees (tree name)) rows) names lists → AllByRecursion (λ name. AreKeyed (trees (tree name))) names
-tables_keyed tree trees [] [] h = tt
-tables_keyed tree trees [] (rows ∷ lists) h = tt
-tables_keyed tree trees (name ∷ names) [] h = absurd h
-tables_keyed tree trees (name ∷ names) (rows ∷ lists) h = (h.0.0, tables_keyed tree trees names lists h.1)
+tables_keyed : (desk : Placing) (trees : Trees) (names : List TableName) (lists : List (List Row)) → AllZip (TableHas desk trees) names lists → AllByRecursion (λ name. AreKeyed (trees (desk.tree name))) names
+tables_keyed desk trees [] [] h = tt
+tables_keyed desk trees [] (rows ∷ lists) h = tt
+tables_keyed desk trees (name ∷ names) [] h = absurd h
+tables_keyed desk trees (name ∷ names) (rows ∷ lists) h = (h.0.0, tables_keyed desk trees names lists h.1)
 
 pub tells_keyed : {S : Type 0} (g : Ghosts S) (old new : Held S) (r : Result Bool OpenFault) → TellsKeyed g old new table_names r → AnswersQuery g old new r (λ world keyed. IsTrue keyed)
 tells_keyed g old new (Ok b) keyed = record {
-  told = λ clean desk world has. (keyed.told clean desk has.stands has.rows.schema_is).1 (tables_keyed desk.tree (state g old).now.trees table_names (rows_of world) has.rows.rows);
+  told = λ clean desk world has. (keyed.told clean desk has.stands has.rows.schema_is).1 (tables_keyed desk (state g old).now.trees table_names (rows_of world) has.rows.rows);
   kept = keyed.kept;
   answering = λ clean. let same = keyed.kept clean in (same.0.was_open, same.0.is_open);
   damaged = λ _. tt;

@@ -11,9 +11,10 @@ use Rattle.sqlite.specs.Effect.{Database}
 use Rattle.agv_world.specs.Changes.{changed}
 use Rattle.agv_world.specs.Maps.{Maps}
 use Rattle.agv_world.specs.declared.change.Change.{Change}
-use Rattle.agv_schema.specs.DeskRows.{Placing, Holds, HaveRows, IsDesk, table_for, table_in, table_names, width_of}
+use Rattle.agv_schema.specs.DeskRows.{Placing, Holds, HaveRows, IsDesk, TableHas, rowid_of, shown_in, table_for, table_in, table_names, width_of}
 use Rattle.agv_rows.specs.Rows.{ActsAreOfJobs, AreAlike, TellRows, listed_all, row_lists}
 use Rattle.agv_schema.specs.declared.table_name.TableName.{TableName}
+use Rattle.agv_schema.proofs.DeskPlaces.{shown_by_key}
 
 -- ---- lists
 
@@ -45,31 +46,38 @@ module _ {A : Type 0} (R : A → List Row → Type 0) where
 pub held_alike : (desk : Placing) (db : Database) (lists others : List (List Row)) → AreAlike lists others → Holds desk db lists → Holds desk db others
 held_alike desk db lists others h held = record {
   schema_is = held.schema_is;
-  rows = zip_alike (λ name rows. HaveRows (width_of name) (db.trees (desk.tree name)) rows)
+  rows = zip_alike (TableHas desk db.trees)
       (λ name xs ys moved have. (have.0, IsPermutation-trans _ _ _ (IsPermutation-sym _ _ moved) have.1)) table_names lists others h held.rows;
 }
 
 alike_held : (desk : Placing) (db : Database) (lists others : List (List Row)) → Holds desk db lists → Holds desk db others → AreAlike lists others
 alike_held desk db lists others h g =
-    alike_zip (λ name rows. HaveRows (width_of name) (db.trees (desk.tree name)) rows)
+    alike_zip (TableHas desk db.trees)
     (λ name xs ys have has. IsPermutation-trans _ _ _ have.1 (IsPermutation-sym _ _ has.1)) table_names lists others h.rows g.rows
 
--- a table of the desk has one tree in a schema
-one_tree : (desk other : Placing) → IsDesk desk → IsDesk other → desk.schema ≡ other.schema → (name : TableName) → desk.tree name ≡ other.tree name
-one_tree desk other is too schema name =
-    let first = is.stands name in
-    let second = too.stands name in
-    let at = same_Some first.at second.at (sym first.named ∙ ap (λ (s : Schema). table_named s (table_for name).name) schema ∙ second.named) in
-    let table = same_Some (table_in desk name first.keys) (table_in other name second.keys) (sym first.there ∙ (λ i. slice_get (schema i).tables (at i)) ∙ second.there) in
-    ap (λ (t : Table). t.tree) table
+-- a table of the desk is one table in a schema
+module _ (desk other : Placing) (is : IsDesk desk) (too : IsDesk other) (schema : desk.schema ≡ other.schema) (name : TableName) where
+  one_table : table_in desk name ≡ table_in other name
+  one_table =
+      let first = is.stands name in
+      let second = too.stands name in
+      let at = same_Some first.at second.at (sym first.named ∙ ap (λ (s : Schema). table_named s (table_for name).name) schema ∙ second.named) in
+      same_Some (table_in desk name) (table_in other name) (sym first.there ∙ (λ i. slice_get (schema i).tables (at i)) ∙ second.there)
+
+  one_tree : desk.tree name ≡ other.tree name
+  one_tree = ap (λ (t : Table). t.tree) one_table
+
+  shown_alike : shown_in desk name ≡ shown_in other name
+  shown_alike = shown_by_key (rowid_of name (desk.keys name)) (rowid_of name (other.keys name)) (width_of name) (ap (λ (t : Table). t.key) one_table)
 
 -- however the desk's tables are found in it, a database holds one list of rows for each
 pub one_lists : (desk other : Placing) (db : Database) (lists others : List (List Row)) → IsDesk desk → IsDesk other → Holds desk db lists → Holds other db others → AreAlike lists others
 one_lists desk other db lists others is too h g =
-    let tree = one_tree desk other is too (sym h.schema_is ∙ g.schema_is) in
+    let schema = sym h.schema_is ∙ g.schema_is in
     alike_held desk db lists others h (record {
       schema_is = h.schema_is;
-      rows = subst (λ (tree : TableName → ℕ). AllZip (λ name rows. HaveRows (width_of name) (db.trees (tree name)) rows) table_names others) (λ i name. sym (tree name) i) g.rows;
+      rows = subst (λ (it : TableName → (Row → Row) × ℕ). AllZip (λ name rows. HaveRows (it name).0 (db.trees (it name).1) rows) table_names others)
+          (λ i name. (sym (shown_alike desk other is too schema name) i, sym (one_tree desk other is too schema name) i)) g.rows;
     })
 
 -- ---- worlds

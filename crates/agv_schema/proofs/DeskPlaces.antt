@@ -1,5 +1,5 @@
 -- Where the desk's tables stand, each has a tree of its own, and a change of one leaves the others.
-use Rattle.std.proofs.Common.{◌≡◌, ◌≢◌, ◌==◌, ◌∙◌, inl, inr, ℕ, zero, suc, Bool, true, false, not, ◌&&◌, List, [], ◌∷◌, find, Some, slice_get, refl, sym, ap, subst, bytes_eq}
+use Rattle.std.proofs.Common.{◌≡◌, ◌≢◌, ◌==◌, ◌∙◌, inl, inr, ℕ, zero, suc, Bool, true, false, not, ◌&&◌, List, [], ◌∷◌, find, Option, None, Some, slice_get, refl, sym, ap, subst, bytes_eq}
 use Rattle.std.specs.List.{AllZip, AllByRecursion}
 use Rattle.std.proofs.lemmas.Bool.{cases_Bool, and_parts, not-true, eqb-true, eqb-false}
 use Rattle.std.proofs.lemmas.Slice.Eq.{bytes_eq-Decides}
@@ -8,7 +8,7 @@ use Rattle.sqlite_trees.specs.Tree.{Trees, IsAscending}
 use Rattle.sqlite_schema.specs.declared.schema.Table.{Table}
 use Rattle.sqlite_rules.specs.Lists.{Has}
 use Rattle.sqlite_rules.proofs.ListLemmas.{all_has}
-use Rattle.agv_schema.specs.DeskRows.{table_for, table_names, place_of, width_of, HasKey, Placing, SameColumns, SameKeys, TableKeys, table_in, with_keys, TableStands, IsDesk, StandApart, HaveRows, on_table, table_at}
+use Rattle.agv_schema.specs.DeskRows.{columns_in, indexed_by, key_by, row_shown, rowid_of, shown_in, table_for, table_names, place_of, width_of, HasKey, Placing, SameColumns, SameKeys, TableHas, TableKeys, table_in, table_written, TableStands, IsDesk, StandApart, on_table, table_at}
 use Rattle.agv_schema.specs.declared.table_name.TableName.{TableName}
 use Rattle.agv_schema.specs.declared.table_name.TableName.TheVariants as the
 use Rattle.agv_schema.proofs.OneTable.{IsIn}
@@ -62,23 +62,45 @@ own_key [] key there = there
 own_key (k ∷ keys) key (inl same) = inl (subst (SameColumns key) same (same_columns key))
 own_key (k ∷ keys) key (inr later) = inr (own_key keys key later)
 
-pub same_as_themselves : (keys : List (List ℕ)) → SameKeys keys keys
+same_as_themselves : (keys : List (List ℕ)) → SameKeys keys keys
 same_as_themselves keys = let all = all_among (HasKey keys) keys (own_key keys) in record { one = all; other = all }
 
 -- the keys of the table as the desk makes it
 abbrev pub own_keys : TableName → TableKeys
-own_keys name = record { primary = (table_for name).primary; all = (table_for name).uniques }
+own_keys name = record { primary = (table_for name).primary; all = (table_for name).uniques; rowid = None }
 
-pub as_made : (name : TableName) (tree : ℕ) → record (table_for name) { tree = tree } ≡ with_keys (own_keys name) (record (table_for name) { tree = tree })
+pub as_made : (name : TableName) (tree : ℕ) → record (table_for name) { tree = tree } ≡ table_written name tree (own_keys name)
 as_made the.Meta tree = refl
 as_made _ tree = refl
 
+pub own_no_rowid : (name : TableName) → rowid_of name (own_keys name) ≡ None
+own_no_rowid the.Meta = refl
+own_no_rowid _ = refl
+
+pub same_own_keys : (name : TableName) → SameKeys (own_keys name).all (indexed_by (rowid_of name (own_keys name)) (table_for name).uniques)
+same_own_keys name = subst (λ (r : Option Bool). SameKeys (table_for name).uniques (indexed_by r (table_for name).uniques)) (sym (own_no_rowid name)) (same_as_themselves (table_for name).uniques)
+
 -- ---- the desk's tables
 
-pub is_in_alone : (desk : Placing) (name : TableName) (s : TableStands desk name) → Apart desk.schema.tables → IsIn desk.schema (table_for name).name (table_in desk name s.keys) s.at
-is_in_alone desk name s apart = record { named = s.named; there = s.there; low = s.low; by_tree = found_by_tree desk.schema.tables apart s.at (table_in desk name s.keys) s.there }
+-- the first column of the table is not the rowid: so it is for all but `meta`
+abbrev pub HasNoRowid : Placing → TableName → Type 0
+HasNoRowid desk name = rowid_of name (desk.keys name) ≡ None
 
-pub is_in : (desk : Placing) (is : IsDesk desk) (name : TableName) → IsIn desk.schema (table_for name).name (table_in desk name (is.stands name).keys) (is.stands name).at
+-- then its rows are its columns
+pub shown_as_kept : (desk : Placing) (name : TableName) → HasNoRowid desk name → shown_in desk name ≡ columns_in (width_of name)
+shown_as_kept desk name none = ap (λ (r : Option Bool). row_shown r (width_of name)) none
+
+-- a row is shown as the table's key says
+pub shown_by_key : (r q : Option Bool) (width : ℕ) → key_by r ≡ key_by q → row_shown r width ≡ row_shown q width
+shown_by_key None None width same = refl
+shown_by_key None (Some b) width same = absurd (cc same)
+shown_by_key (Some a) None width same = absurd (cc same)
+shown_by_key (Some a) (Some b) width same = refl
+
+pub is_in_alone : (desk : Placing) (name : TableName) (s : TableStands desk name) → Apart desk.schema.tables → IsIn desk.schema (table_for name).name (table_in desk name) s.at
+is_in_alone desk name s apart = record { named = s.named; there = s.there; low = s.low; by_tree = found_by_tree desk.schema.tables apart s.at (table_in desk name) s.there }
+
+pub is_in : (desk : Placing) (is : IsDesk desk) (name : TableName) → IsIn desk.schema (table_for name).name (table_in desk name) (is.stands name).at
 is_in desk is name = is_in_alone desk name (is.stands name) is.apart
 
 -- each of them stands apart from the others
@@ -103,9 +125,9 @@ same_value e = cc
 
 trees_differ : (desk : Placing) → IsDesk desk → (a b : TableName) → is_same a b ≡ false → desk.tree a ≢ desk.tree b
 trees_differ desk is a b other same =
-    let here = is_among desk.schema.tables (is.stands a).at (table_in desk a (is.stands a).keys) (is.stands a).there in
-    let there = is_among desk.schema.tables (is.stands b).at (table_in desk b (is.stands b).keys) (is.stands b).there in
-    let one : table_in desk a (is.stands a).keys ≡ table_in desk b (is.stands b).keys = one_of_a_tree desk.schema.tables is.apart (table_in desk a (is.stands a).keys) (table_in desk b (is.stands b).keys) here there same in
+    let here = is_among desk.schema.tables (is.stands a).at (table_in desk a) (is.stands a).there in
+    let there = is_among desk.schema.tables (is.stands b).at (table_in desk b) (is.stands b).there in
+    let one : table_in desk a ≡ table_in desk b = one_of_a_tree desk.schema.tables is.apart (table_in desk a) (table_in desk b) here there same in
     let alike : is_same a b ≡ true = same_text (table_for a).name (table_for b).name (ap (λ (t : Table). t.name) one) in cc
 
 -- ---- the lists of their rows
@@ -127,11 +149,11 @@ in_place : (name : TableName) → slice_get table_names (place_of name) ≡ Some
 in_place the.Meta = refl
 in_place _ = refl
 
-abbrev AreRows : (TableName → ℕ) → Trees → List TableName → List (List Row) → Type 0
-AreRows tree db = AllZip (λ name rows. HaveRows (width_of name) (db (tree name)) rows)
+abbrev AreRows : Placing → Trees → List TableName → List (List Row) → Type 0
+AreRows desk db = AllZip (TableHas desk db)
 
-module _ (tree : TableName → ℕ) (db next : Trees) (name : TableName) (others : (n : TableName) → is_same n name ≡ false → next (tree n) ≡ db (tree n)) where
-  others_stay : (names : List TableName) → no_other name names ≡ true → (lists : List (List Row)) → AreRows tree db names lists → AreRows tree next names lists
+module _ (desk : Placing) (db next : Trees) (name : TableName) (others : (n : TableName) → is_same n name ≡ false → next (desk.tree n) ≡ db (desk.tree n)) where
+  others_stay : (names : List TableName) → no_other name names ≡ true → (lists : List (List Row)) → AreRows desk db names lists → AreRows desk next names lists
   others_stay [] none [] h = h
   others_stay [] none (l ∷ lists) h = h
   others_stay (n ∷ names) none [] h = h
@@ -139,36 +161,36 @@ module _ (tree : TableName → ℕ) (db next : Trees) (name : TableName) (others
       let both = and_parts _ _ none in
       (rw (others n (not-true _ both.0)) h.0, others_stay names both.1 lists h.1)
 
-  one_changes : (f : List Row → List Row) → ((rows : List Row) → HaveRows (width_of name) (db (tree name)) rows → HaveRows (width_of name) (next (tree name)) (f rows))
-      → (at : ℕ) (names : List TableName) → slice_get names at ≡ Some name → once_at name at names ≡ true → (lists : List (List Row)) → AreRows tree db names lists → AreRows tree next names (on_table at f lists)
+  one_changes : (f : List Row → List Row) → ((rows : List Row) → TableHas desk db name rows → TableHas desk next name (f rows))
+      → (at : ℕ) (names : List TableName) → slice_get names at ≡ Some name → once_at name at names ≡ true → (lists : List (List Row)) → AreRows desk db names lists → AreRows desk next names (on_table at f lists)
   one_changes f step at [] there only lists h = absurd (cc)
   one_changes f step zero (n ∷ names) there only [] h = h
   one_changes f step (suc at) (n ∷ names) there only [] h = h
   one_changes f step zero (n ∷ names) there only (l ∷ lists) h =
       let here : n ≡ name = same_value there in
       let both = and_parts (is_same n name) (no_other name names) only in
-      (subst (λ (m : TableName). HaveRows (width_of m) (next (tree m)) (f l)) (sym here) (step l (subst (λ (m : TableName). HaveRows (width_of m) (db (tree m)) l) here h.0)), others_stay names both.1 lists h.1)
+      (subst (λ (m : TableName). TableHas desk next m (f l)) (sym here) (step l (subst (λ (m : TableName). TableHas desk db m l) here h.0)), others_stay names both.1 lists h.1)
   one_changes f step (suc at) (n ∷ names) there only (l ∷ lists) h =
       let both = and_parts _ _ only in
       (rw (others n (not-true _ both.0)) h.0, one_changes f step at names there both.1 lists h.1)
 
 -- the rows of one of the desk's tables change
 pub table_changes : (desk : Placing) → IsDesk desk → (name : TableName) (db next : Trees) (f : List Row → List Row)
-    → ((rows : List Row) → HaveRows (width_of name) (db (desk.tree name)) rows → HaveRows (width_of name) (next (desk.tree name)) (f rows))
+    → ((rows : List Row) → TableHas desk db name rows → TableHas desk next name (f rows))
     → AllByRecursion (λ (t : Table). t.tree ≢ desk.tree name → next t.tree ≡ db t.tree) desk.schema.tables
-    → (lists : List (List Row)) → AreRows desk.tree db table_names lists → AreRows desk.tree next table_names (on_table (place_of name) f lists)
+    → (lists : List (List Row)) → AreRows desk db table_names lists → AreRows desk next table_names (on_table (place_of name) f lists)
 table_changes desk is name db next f step same lists h =
-    one_changes desk.tree db next name
-    (λ n other. all_has _ desk.schema.tables (table_in desk n (is.stands n).keys) same (is_among desk.schema.tables (is.stands n).at (table_in desk n (is.stands n).keys) (is.stands n).there) (trees_differ desk is n name other))
+    one_changes desk db next name
+    (λ n other. all_has _ desk.schema.tables (table_in desk n) same (is_among desk.schema.tables (is.stands n).at (table_in desk n) (is.stands n).there) (trees_differ desk is n name other))
     f step (place_of name) table_names (in_place name) (once name) lists h
 
-rows_at : (tree : TableName → ℕ) (db : Trees) (name : TableName) (at : ℕ) (names : List TableName) (lists : List (List Row)) → slice_get names at ≡ Some name → AreRows tree db names lists → HaveRows (width_of name) (db (tree name)) (table_at at lists)
-rows_at tree db name at [] lists there h = absurd (cc)
-rows_at tree db name zero (n ∷ names) [] there h = absurd h
-rows_at tree db name (suc at) (n ∷ names) [] there h = absurd h
-rows_at tree db name zero (n ∷ names) (l ∷ lists) there h = let here : n ≡ name = cc in subst (λ (m : TableName). HaveRows (width_of m) (db (tree m)) l) here h.0
-rows_at tree db name (suc at) (n ∷ names) (l ∷ lists) there h = rows_at tree db name at names lists there h.1
+rows_at : (desk : Placing) (db : Trees) (name : TableName) (at : ℕ) (names : List TableName) (lists : List (List Row)) → slice_get names at ≡ Some name → AreRows desk db names lists → TableHas desk db name (table_at at lists)
+rows_at desk db name at [] lists there h = absurd (cc)
+rows_at desk db name zero (n ∷ names) [] there h = absurd h
+rows_at desk db name (suc at) (n ∷ names) [] there h = absurd h
+rows_at desk db name zero (n ∷ names) (l ∷ lists) there h = let here : n ≡ name = cc in subst (λ (m : TableName). TableHas desk db m l) here h.0
+rows_at desk db name (suc at) (n ∷ names) (l ∷ lists) there h = rows_at desk db name at names lists there h.1
 
 -- the rows of one of them
-pub table_has : (desk : Placing) (name : TableName) (db : Trees) (lists : List (List Row)) → AreRows desk.tree db table_names lists → HaveRows (width_of name) (db (desk.tree name)) (table_at (place_of name) lists)
-table_has desk name db lists h = rows_at desk.tree db name (place_of name) table_names lists (in_place name) h
+pub table_has : (desk : Placing) (name : TableName) (db : Trees) (lists : List (List Row)) → AreRows desk db table_names lists → TableHas desk db name (table_at (place_of name) lists)
+table_has desk name db lists h = rows_at desk db name (place_of name) table_names lists (in_place name) h

@@ -1,12 +1,12 @@
 -- The desk's tables in a database that may have other tables too, and the rows that they hold.
-use Rattle.std.specs.Prelude.{◌≡◌, ◌≢◌, ◌⊎◌, ◌-◌, ◌^◌, ℕ, zero, suc, Bool, true, false, not, ◌&&◌, nat_le, List, [], ◌∷◌, length, map, drop, filter, Some, IsTrue, IsPermutation, slice_get}
+use Rattle.std.specs.Prelude.{◌≡◌, ◌≢◌, ◌⊎◌, ◌-◌, ◌^◌, ℕ, zero, suc, Bool, true, false, not, ◌&&◌, nat_le, List, [], ◌∷◌, length, map, drop, filter, Option, None, Some, option_map, IsTrue, IsPermutation, slice_get}
 use Rattle.std.specs.List.{AllZip, AllByRecursion, list_all}
 use Rattle.sqlite_value.specs.Keys.{plain}
 use Rattle.sqlite_value.specs.Order.{Row, column}
 use Rattle.sqlite_value.specs.declared.keys.Collation.TheVariants.{Binary}
 use Rattle.sqlite_value.specs.declared.value.Value.{Value}
 use Rattle.sqlite_value.specs.declared.value.Value.TheVariants.{Null, Int, Text}
-use Rattle.sqlite_trees.specs.Tree.{rowid, IsAscending}
+use Rattle.sqlite_trees.specs.Tree.{Trees, rowid, IsAscending}
 use Rattle.sqlite_trees.specs.View.{is_int}
 use Rattle.sqlite_sql.specs.declared.ops.BinaryOp.TheVariants.{Compare}
 use Rattle.sqlite_sql.specs.declared.ops.CompareOp.TheVariants.{Eq}
@@ -71,15 +71,18 @@ width_of name = length (table_for name).columns
 
 -- ---- where they stand
 
--- a schema, and the tree that each of the fourteen has in it
-pub record Placing : Type 0 where
-  pub schema : Schema
-  pub tree : TableName → ℕ
-
--- how the keys of a table are written: the PRIMARY KEY, if one is, and all of them in their order; a key is a list of columns
+-- how the keys of a table are written: the PRIMARY KEY, if one is, and all that have an index, in their order; a key is a list of columns
 pub record TableKeys : Type 0 where
   pub primary : List ℕ
   pub all : List (List ℕ)
+  -- Some where the first column is the rowid, as INTEGER PRIMARY KEY makes it; and then whether it is NOT NULL besides
+  pub rowid : Option Bool
+
+-- a schema, and the tree that each of the fourteen has in it, with its keys as they are written
+pub record Placing : Type 0 where
+  pub schema : Schema
+  pub tree : TableName → ℕ
+  pub keys : TableName → TableKeys
 
 -- the same columns, in whatever order
 pub record SameColumns (a b : List ℕ) : Type 0 where
@@ -96,13 +99,45 @@ pub record SameKeys (a b : List (List ℕ)) : Type 0 where
   pub one : AllByRecursion (HasKey b) a
   pub other : AllByRecursion (HasKey a) b
 
+-- no table but `meta` may have the rowid for its first column
+abbrev pub rowid_of : TableName → TableKeys → Option Bool
+rowid_of the.Meta keys = keys.rowid
+rowid_of _ keys = None
+
+-- what the table has by it: its key, its columns, and the keys that have an index; the rowid has none
+abbrev pub key_by : Option Bool → Option ℕ
+key_by None = None
+key_by (Some not_null) = Some 0
+
+abbrev pub columns_by : Option Bool → List Column → List Column
+columns_by None columns = columns
+columns_by (Some not_null) [] = []
+columns_by (Some not_null) (c ∷ columns) = record c { not_null = not_null } ∷ columns
+
+abbrev pub indexed_by : Option Bool → List (List ℕ) → List (List ℕ)
+indexed_by None keys = keys
+indexed_by (Some not_null) keys = []
+
 -- a table with its keys as they are written
 abbrev pub with_keys : TableKeys → Table → Table
 with_keys keys table = record table { primary = keys.primary; uniques = keys.all; orders = map (λ _. plain) keys.all }
 
--- the table of that name, with its tree, and its keys as they are written
-abbrev pub table_in : Placing → TableName → TableKeys → Table
-table_in desk name keys = with_keys keys (record (table_for name) { tree = desk.tree name })
+-- the keys of a table as they are written
+abbrev pub is_first_required : List Column → Bool
+is_first_required [] = false
+is_first_required (c ∷ columns) = c.not_null
+
+abbrev pub keys_of : Table → TableKeys
+keys_of table = record { primary = table.primary; all = table.uniques; rowid = option_map (λ _. is_first_required table.columns) table.key }
+
+-- the table of that name in this tree, with its keys as they are written
+abbrev pub table_written : TableName → ℕ → TableKeys → Table
+table_written name tree keys =
+    with_keys keys (record (table_for name) { tree = tree; key = key_by (rowid_of name keys); columns = columns_by (rowid_of name keys) (table_for name).columns })
+
+-- as it stands in the schema
+abbrev pub table_in : Placing → TableName → Table
+table_in desk name = table_written name (desk.tree name) (desk.keys name)
 
 -- no table has a key that refers to a table of that name
 abbrev pub is_unreferred : List ℕ → List Table → Bool
@@ -112,11 +147,10 @@ is_unreferred name = list_all (λ (t : Table). list_all (λ (r : Reference). not
 pub record TableStands (desk : Placing) (name : TableName) : Type 0 where
   -- SQL finds it by its name
   pub at : ℕ
-  pub keys : TableKeys
   pub named : table_named desk.schema (table_for name).name ≡ Some at
-  pub there : slice_get desk.schema.tables at ≡ Some (table_in desk name keys)
+  pub there : slice_get desk.schema.tables at ≡ Some (table_in desk name)
   -- its keys are the desk's
-  pub same_keys : SameKeys keys.all (table_for name).uniques
+  pub same_keys : SameKeys (desk.keys name).all (indexed_by (rowid_of name (desk.keys name)) (table_for name).uniques)
   -- its tree has a number that a table's may have
   pub low : nat_le (2 ^ 31) (desk.tree name) ≡ false
   pub unreferred : is_unreferred (table_for name).name desk.schema.tables ≡ true
@@ -149,14 +183,27 @@ first_columns (suc n) row = column row 0 ∷ first_columns n (drop 1 row)
 abbrev pub columns_in : ℕ → Row → Row
 columns_in width entry = first_columns width (drop 1 entry)
 
--- the entries have these rows, in some order, under rowids of their own
-abbrev pub HaveRows : ℕ → List Row → List Row → Type 0
-HaveRows width entries rows = AreKeyed entries × IsPermutation rows (map (columns_in width) entries)
+-- the row that SQL shows of an entry with so many columns: where the first is the rowid, its own place in the entry counts for nothing
+abbrev pub row_shown : Option Bool → ℕ → Row → Row
+row_shown None width entry = columns_in width entry
+row_shown (Some not_null) width entry = rowid entry ∷ drop 1 (columns_in width entry)
+
+-- and of an entry of that table
+abbrev pub shown_in : Placing → TableName → Row → Row
+shown_in desk name = row_shown (rowid_of name (desk.keys name)) (width_of name)
+
+-- the entries, each shown so, are these rows, in some order, under rowids of their own
+abbrev pub HaveRows : (Row → Row) → List Row → List Row → Type 0
+HaveRows shown entries rows = AreKeyed entries × IsPermutation rows (map shown entries)
+
+-- in these trees the table of that name has these rows
+abbrev pub TableHas : Placing → Trees → TableName → List Row → Type 0
+TableHas desk trees name rows = HaveRows (shown_in desk name) (trees (desk.tree name)) rows
 
 -- the database has this schema, and the desk's tables have these rows, one list for each table in the order of `table_names`; other tables may hold anything
 pub record Holds (desk : Placing) (db : Database) (lists : List (List Row)) : Type 0 where
   pub schema_is : db.schema ≡ desk.schema
-  pub rows : AllZip (λ name rows. HaveRows (width_of name) (db.trees (desk.tree name)) rows) table_names lists
+  pub rows : AllZip (TableHas desk db.trees) table_names lists
 
 -- all but the desk's tables is as it was
 pub record KeepsOthers (desk : Placing) (old new : Database) : Type 0 where
@@ -255,4 +302,4 @@ Answers asked old shown = (desk : Placing) → IsDesk desk → (lists : List (Li
 -- the rows that are shown are those that this table holds, in some order, also where it stands without the others
 abbrev pub AnswersAlone : TableName → State → List Row → Type 0
 AnswersAlone name old shown =
-    (desk : Placing) → StandApart desk (name ∷ []) → old.now.schema ≡ desk.schema → (rows : List Row) → HaveRows (width_of name) (old.now.trees (desk.tree name)) rows → IsPermutation rows shown
+    (desk : Placing) → StandApart desk (name ∷ []) → old.now.schema ≡ desk.schema → (rows : List Row) → TableHas desk old.now.trees name rows → IsPermutation rows shown

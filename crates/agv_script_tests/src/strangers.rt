@@ -105,7 +105,7 @@ keyed Ok(true)
 /// A table in other words: quotes, the order ascending and the collation BINARY said, NOT NULL said of a key, a rule with a
 /// name or one that the key has already, INT for INTEGER, NULL and DEFAULT NULL, the key said twice, and what a conflict
 /// does anyway; and a key with its columns in another order, also beside the first, or UNIQUE in the place of PRIMARY KEY,
-/// and the keys in another order.
+/// and the keys in another order; and the rowid as the key of `meta`.
 const ALIKE: &str = r"
 node CREATE TABLE 'node' ('id' TEXT PRIMARY KEY ASC) STRICT
 node CREATE TABLE node (id TEXT COLLATE BINARY PRIMARY KEY) STRICT
@@ -121,6 +121,9 @@ used CREATE TABLE used (kind TEXT, id TEXT, PRIMARY KEY (kind, id), UNIQUE (kind
 used CREATE TABLE used (kind TEXT, id TEXT, PRIMARY KEY (kind, id) ON CONFLICT ABORT) STRICT
 node CREATE TABLE node (id TEXT NOT NULL UNIQUE) STRICT
 meta CREATE TABLE meta (id INTEGER NOT NULL UNIQUE, schema INTEGER NOT NULL) STRICT
+meta CREATE TABLE meta (id INTEGER PRIMARY KEY, schema INTEGER NOT NULL) STRICT
+meta CREATE TABLE meta (id INTEGER, schema INTEGER NOT NULL, PRIMARY KEY (id)) STRICT
+meta CREATE TABLE meta (id INTEGER PRIMARY KEY NOT NULL, schema INT NOT NULL) STRICT
 used CREATE TABLE used (kind TEXT, id TEXT, PRIMARY KEY (id, kind)) STRICT
 used CREATE TABLE used (kind TEXT NOT NULL, id TEXT NOT NULL, UNIQUE (id, kind)) STRICT
 used CREATE TABLE used (kind TEXT, id TEXT, PRIMARY KEY (kind, id), UNIQUE (id, kind)) STRICT
@@ -169,14 +172,14 @@ node CREATE TABLE node (id TEXT COLLATE NOCASE PRIMARY KEY) STRICT
 edge CREATE TABLE edge (id TEXT PRIMARY KEY, start TEXT NOT NULL, finish TEXT NOT NULL COLLATE RTRIM) STRICT
 ";
 
-/// Other keys and rules: no key, one whose column may be NULL, INTEGER PRIMARY KEY; keys of other columns, of fewer, of more;
+/// Other keys and rules: no key, one whose column may be NULL, the rowid counted or with a key more; keys of other columns, of fewer, of more;
 /// descending or under another collation, also beside the desk's; a key more; CHECK, and foreign keys.
 const KEYS: &str = r"
 node CREATE TABLE node (id TEXT NOT NULL) STRICT
 node CREATE TABLE node (id TEXT UNIQUE) STRICT
-meta CREATE TABLE meta (id INTEGER PRIMARY KEY, schema INTEGER NOT NULL) STRICT
-meta CREATE TABLE meta (id INTEGER, schema INTEGER NOT NULL, PRIMARY KEY (id)) STRICT
 meta CREATE TABLE meta (id INTEGER PRIMARY KEY AUTOINCREMENT, schema INTEGER NOT NULL) STRICT
+meta CREATE TABLE meta (id INTEGER PRIMARY KEY UNIQUE, schema INTEGER NOT NULL) STRICT
+meta CREATE TABLE meta (id INTEGER NOT NULL, schema INTEGER PRIMARY KEY) STRICT
 leg CREATE TABLE leg (order_id TEXT, k INTEGER NOT NULL, edge TEXT, PRIMARY KEY (order_id, edge)) STRICT
 leg CREATE TABLE leg (order_id TEXT PRIMARY KEY, k INTEGER NOT NULL, edge TEXT NOT NULL) STRICT
 leg CREATE TABLE leg (order_id TEXT, k INTEGER, edge TEXT, PRIMARY KEY (order_id, k, edge)) STRICT

@@ -7,7 +7,7 @@ use Rattle.sqlite_value.specs.Order.{Row, column}
 use Rattle.sqlite_sql.specs.Term.{Term}
 use Rattle.sqlite_schema.specs.declared.schema.Kind.TheVariants as kind
 use Rattle.sqlite_tied.specs.Compute.{everything}
-use Rattle.agv_schema.specs.DeskRows.{is_of_kind, width_of}
+use Rattle.agv_schema.specs.DeskRows.{TableKeys, is_of_kind, rowid_of, table_written, width_of}
 use Rattle.agv_statements.specs.CountQueries.{columns_counted, count_text, table_counted}
 use Rattle.agv_statements.specs.RowQueries.{FitsColumns, columns_at, equal_from}
 use Rattle.agv_schema.specs.declared.rows_counted.RowsCounted.{RowsCounted}
@@ -19,7 +19,6 @@ use Rattle.agv_statements.proofs.sql.QueryRows.{passes, reads_within}
 use Rattle.agv_statements.proofs.sql.ReadFailing.{IsTypedIn, IsWholeText, fits_at, text_compares}
 use Rattle.agv_statements.proofs.sql.Selecting.{IsSelectText}
 use Rattle.agv_statements.proofs.QueryMeanings.{AsksIn}
-use Rattle.agv_statements.proofs.RowMeanings.{with_tree}
 
 -- the columns that are counted by equal the parameters
 abbrev pub count_terms : RowsCounted → List Term
@@ -40,27 +39,32 @@ count_within counted.StationLoads = refl
 count_within counted.VehicleLoads = refl
 count_within counted.TargetJobs = refl
 
+pub count_no_rowid : (query : RowsCounted) (keys : TableKeys) → rowid_of (table_counted query) keys ≡ None
+count_no_rowid counted.StationLoads keys = refl
+count_no_rowid counted.VehicleLoads keys = refl
+count_no_rowid counted.TargetJobs keys = refl
+
 -- SQL takes the text for a query of the table that shows how many rows pass
 pub count_asks : (query : RowsCounted) → AsksIn (Some counting) (table_counted query) (count_text query) (count_terms query) their_count count_names
 unfolding everything
 count_asks counted.StationLoads s at tree keys stands =
     let p = parsed (count_text counted.StationLoads) in
     let sel = selection p.statement tt in
-    select_means_in s (codes "load") (with_tree the.Load tree keys) at stands (count_text counted.StationLoads) p refl refl sel refl
+    select_means_in s (codes "load") (table_written the.Load tree keys) at stands (count_text counted.StationLoads) p refl refl sel refl
     (record { with = refl; others = refl; order = refl; limit = refl; offset = refl })
     (record { source = head_of (out-Core (out-Select sel).first).from tt; from = refl; origin = refl; alias = refl; on = refl; using = refl; inner = refl; group = refl; having = refl; repeats = refl })
     (Some counting) (count_terms counted.StationLoads) their_count count_names (None ∷ []) refl refl refl refl refl
 count_asks counted.VehicleLoads s at tree keys stands =
     let p = parsed (count_text counted.VehicleLoads) in
     let sel = selection p.statement tt in
-    select_means_in s (codes "load") (with_tree the.Load tree keys) at stands (count_text counted.VehicleLoads) p refl refl sel refl
+    select_means_in s (codes "load") (table_written the.Load tree keys) at stands (count_text counted.VehicleLoads) p refl refl sel refl
     (record { with = refl; others = refl; order = refl; limit = refl; offset = refl })
     (record { source = head_of (out-Core (out-Select sel).first).from tt; from = refl; origin = refl; alias = refl; on = refl; using = refl; inner = refl; group = refl; having = refl; repeats = refl })
     (Some counting) (count_terms counted.VehicleLoads) their_count count_names (None ∷ []) refl refl refl refl refl
 count_asks counted.TargetJobs s at tree keys stands =
     let p = parsed (count_text counted.TargetJobs) in
     let sel = selection p.statement tt in
-    select_means_in s (codes "job") (with_tree the.Job tree keys) at stands (count_text counted.TargetJobs) p refl refl sel refl
+    select_means_in s (codes "job") (table_written the.Job tree keys) at stands (count_text counted.TargetJobs) p refl refl sel refl
     (record { with = refl; others = refl; order = refl; limit = refl; offset = refl })
     (record { source = head_of (out-Core (out-Select sel).first).from tt; from = refl; origin = refl; alias = refl; on = refl; using = refl; inner = refl; group = refl; having = refl; repeats = refl })
     (Some counting) (count_terms counted.TargetJobs) their_count count_names (None ∷ []) refl refl refl refl refl

@@ -1,11 +1,11 @@
 -- A row that SQL adds had none of its key before it, since each key of a table has its index; and a row that it refuses changes nothing.
-use Rattle.std.proofs.Common.{◌≡◌, ◌≢◌, ◌∙◌, ◌&&◌, inl, inr, [], ◌∷◌, ℕ, zero, suc, ℤ, Bool, true, false, not, List, Some, Result, Ok, Err, OnOk, IfErr, IfOk, Ordering, Less, Equal, Greater, filter, length, map, slice_get, slice_index_or, refl, sym, ap, ap₂, subst}
+use Rattle.std.proofs.Common.{◌≡◌, ◌≢◌, ◌∙◌, ◌&&◌, inl, inr, [], ◌∷◌, ℕ, zero, suc, ℤ, Bool, true, false, not, List, Option, Some, Result, Ok, Err, OnOk, IfErr, IfOk, Ordering, Less, Equal, Greater, filter, length, map, slice_get, slice_index_or, refl, sym, ap, ap₂, subst}
 use Rattle.std.specs.List.{AllByRecursion, list_all, list_any}
 use Rattle.std.specs.Ordering.{is_eq, is_ne}
 use Rattle.std.proofs.lemmas.Bool.{and_from, cases_Bool, eq-eqb, false_from_ne_true, not-true}
 use Rattle.std.proofs.lemmas.List.{length-map}
 use Rattle.std.proofs.lemmas.List.Sorted.{length_permutation}
-use Rattle.sqlite_value.specs.declared.value.Value.TheVariants.{Int}
+use Rattle.sqlite_value.specs.declared.value.Value.TheVariants.{Int, Null}
 use Rattle.sqlite_value.specs.Order.{Row, value_cmp}
 use Rattle.sqlite_value.specs.declared.keys.Order.{Order}
 use Rattle.sqlite_value.specs.Keys.{first_key, plain}
@@ -19,7 +19,7 @@ use Rattle.sqlite_schema.specs.declared.schema.Table.{Table}
 use Rattle.sqlite_schema.specs.declared.schema.Schema.{Schema}
 use Rattle.sqlite_schema.specs.Rules.{agree, clashes, differ, guards}
 use Rattle.sqlite_rules.specs.Lists.{Has}
-use Rattle.sqlite_rules.specs.Edit.{are_fresh, id_in}
+use Rattle.sqlite_rules.specs.Edit.{are_fresh, id_in, next_rowid}
 use Rattle.sqlite_rules.proofs.ListLemmas.{all_has, some_from, test_has}
 use Rattle.sqlite_rules.proofs.TableLemmas.{has_put, int_is, put_all_keeps}
 use Rattle.sqlite_catalog.specs.Listing.{IsGuarded, IsSound, automatic}
@@ -30,19 +30,19 @@ use Rattle.sqlite.specs.declared.error.Error.TheVariants.{SqliteFailure}
 use Rattle.sqlite.specs.declared.error.ErrorCode.TheVariants.{ConstraintViolation}
 use Rattle.sqlite.specs.Effect.{Database, IsDatabase}
 use Rattle.sqlite.specs.State.{State, ExecutesIn, Fails, IsNotRun, IsUnchanged, shows_rows, store_error}
-use Rattle.agv_schema.specs.DeskRows.{Placing, AreKeyed, FitsTable, HasKey, Holds, IsDesk, KeepsOthers, Makes, SameColumns, columns_in, has_columns, has_key, place_of, table_at, table_for, table_in, width_of, with_put_by, with_row}
+use Rattle.agv_schema.specs.DeskRows.{Placing, AreKeyed, FitsTable, HasKey, Holds, IsDesk, KeepsOthers, Makes, SameColumns, SameKeys, has_columns, has_key, indexed_by, place_of, shown_in, table_at, table_for, table_in, with_put_by, with_row}
 use Rattle.agv_schema.specs.RowTexts.{insertion_text, is_written}
 use Rattle.agv_statements.specs.RowUpdates.{Counts, IsBrokenRule, TellsAlike}
 use Rattle.agv_schema.specs.declared.table_name.TableName.{TableName}
 use Rattle.agv_schema.specs.declared.table_name.TableName.TheVariants as the
 use Rattle.agv_schema.proofs.OnTables.{on_table-same}
-use Rattle.agv_schema.proofs.DeskPlaces.{is_among, table_has}
+use Rattle.agv_schema.proofs.DeskPlaces.{HasNoRowid, is_among, table_has}
 use Rattle.agv_statements.proofs.sql.EntryEdits.{filter_of_map}
 use Rattle.agv_schema.proofs.Truths.{truth_of}
-use Rattle.agv_statements.proofs.sql.QueryRows.{entry_passes, filter_alike, passes}
+use Rattle.agv_statements.proofs.sql.QueryRows.{entry_passes, passes}
 use Rattle.agv_statements.proofs.DeskStatements.{RunsInside, added_one, key_passes, within}
-use Rattle.agv_statements.proofs.RowForms.{Inserted, rowid_is_new, stands_with_them}
-use Rattle.agv_statements.proofs.RowMeanings.{key_terms}
+use Rattle.agv_statements.proofs.RowForms.{Inserted, new_entry, pass_alike, rowid_is_new, stands_with_them}
+use Rattle.agv_statements.proofs.RowMeanings.{key_terms, written_no_rowid}
 use Rattle.agv_statements.proofs.UpdateMeanings.{on_table-agree, remade}
 
 -- ---- keys and their indexes
@@ -85,10 +85,11 @@ placed [] key has = absurd has
 placed (k ∷ keys) key (inl same) = record { at = 0; written = k; there = refl; same = same }
 placed (k ∷ keys) key (inr later) = let it = placed keys key later in record { at = suc it.at; written = it.written; there = it.there; same = it.same }
 
-primary_at : (desk : Placing) (is : IsDesk desk) (name : TableName) → IsPlaced (is.stands name).keys.all (table_for name).primary
-primary_at desk is name =
-    let stands = is.stands name in
-    placed stands.keys.all (table_for name).primary (all_has (HasKey stands.keys.all) (table_for name).uniques (table_for name).primary stands.same_keys.other (primary_is_key name))
+primary_at : (desk : Placing) (is : IsDesk desk) (name : TableName) → HasNoRowid desk name → IsPlaced (desk.keys name).all (table_for name).primary
+primary_at desk is name none =
+    let all = (desk.keys name).all in
+    let same = subst (λ (r : Option Bool). SameKeys all (indexed_by r (table_for name).uniques)) none (is.stands name).same_keys in
+    placed all (table_for name).primary (all_has (HasKey all) (table_for name).uniques (table_for name).primary same.other (primary_is_key name))
 
 -- its index is ordered as any other
 all_plain : (keys : List (List ℕ)) (at : ℕ) → slice_index_or (map (λ (_ : List ℕ). plain) keys) at plain ≡ plain
@@ -131,25 +132,28 @@ unfolding first_key
 agrees the.Meta row e id = refl
 agrees _ row e id = refl
 
-module _ (desk : Placing) (is : IsDesk desk) (name : TableName) (old new : State) (has : old.now.schema ≡ desk.schema) (row : Row) (it : Inserted desk is name old new has row) where
+module _ (desk : Placing) (is : IsDesk desk) (name : TableName) (no_rowid : HasNoRowid desk name) (old new : State) (has : old.now.schema ≡ desk.schema) (row : Row) (it : Inserted desk is name old new has row) where
   abbrev table : Table
-  table = table_in desk name (is.stands name).keys
+  table = table_in desk name
 
   abbrev entries : List Row
   entries = old.now.trees table.tree
 
   abbrev entry : Row
-  entry = Int it.id ∷ row
+  entry = new_entry desk is name old new has row
 
   there : Has desk.schema.tables table
   there = is_among desk.schema.tables (is.stands name).at table (is.stands name).there
+
+  abbrev id : ℤ
+  id = next_rowid entries
 
   sound : IsSound desk.schema it.next
   sound = subst (λ (s : Schema). IsSound s it.next) has (subst (λ (d : Database). IsSound d.schema d.trees) it.now it.sound)
 
   -- where a key with the columns of the primary one is written
-  abbrev key : IsPlaced (is.stands name).keys.all (table_for name).primary
-  key = primary_at desk is name
+  abbrev key : IsPlaced (desk.keys name).all (table_for name).primary
+  key = primary_at desk is name no_rowid
 
   guard : (tree : ℕ) × Has desk.schema.indexes (automatic table key.at key.written tree)
   guard = all_has (IsGuarded desk.schema.indexes) desk.schema.tables table sound.lists.guarded there key.at key.written key.there
@@ -163,19 +167,19 @@ module _ (desk : Placing) (is : IsDesk desk) (name : TableName) (old new : State
   no_clash : clashes plain key.written (it.next table.tree) entry ≡ false
   no_clash =
       let rows = all_has _ desk.schema.tables table (sound.obeys.rules Unique) there in
-      let passed = all_has _ (it.next table.tree) entry rows (subst (λ es. Has es entry) (sym (stands_with_them desk is name old new has row it)) (has_put entry entries)) in
+      let passed = all_has _ (it.next table.tree) entry rows (subst (λ es. Has es entry) (sym (stands_with_them desk is name old new has (Null ∷ row) entry it)) (has_put entry entries)) in
       let free = not-true _ (test_has _ desk.schema.indexes index passed guard.1) in
       let none = subst (λ (b : Bool). (b && clashes index.order index.columns (it.next table.tree) entry) ≡ false) guards_it free in
-      subst (λ (order : Order). clashes order index.columns (it.next table.tree) entry ≡ false) (all_plain (is.stands name).keys.all key.at) none
+      subst (λ (order : Order). clashes order index.columns (it.next table.tree) entry ≡ false) (all_plain (desk.keys name).all key.at) none
 
   other_keys : AreKeyed entries → (e : Row) → Has entries e → entry_passes (key_terms name) row e ≡ false
   other_keys keyed e was =
-      let free = rowid_is_new desk is name old new has row it in
-      let stays = subst (λ es. Has es e) (sym (stands_with_them desk is name old new has row it)) (put_all_keeps (entry ∷ []) entries e (subst (λ ns. are_fresh entries ns ≡ true) it.news it.step.fresh) was) in
+      let free = rowid_is_new desk is name old new has (Null ∷ row) entry it in
+      let stays = subst (λ es. Has es e) (sym (stands_with_them desk is name old new has (Null ∷ row) entry it)) (put_all_keeps (entry ∷ []) entries e (subst (λ ns. are_fresh entries ns ≡ true) it.news it.step.fresh) was) in
       let whole = int_is (rowid e) (all_has _ entries e keyed.whole was) in
-      let apart = subst (λ v. is_eq (value_cmp v (Int it.id)) ≡ false) whole (none_is _ entries e free was) in
-      let differs : differ (rowid e) (rowid entry) ≡ true = ap (λ v. differ v (Int it.id)) whole ∙ differ_if_apart (id_in (rowid e)) it.id apart in
-      sym (agrees name row e it.id) ∙ agree_alike (table_for name).primary key.written e entry key.same ∙ left_fails _ _ (none_is _ (it.next table.tree) e no_clash stays) differs
+      let apart = subst (λ v. is_eq (value_cmp v (Int id)) ≡ false) whole (none_is _ entries e free was) in
+      let differs : differ (rowid e) (rowid entry) ≡ true = ap (λ v. differ v (Int id)) whole ∙ differ_if_apart (id_in (rowid e)) id apart in
+      sym (agrees name row e id) ∙ agree_alike (table_for name).primary key.written e entry key.same ∙ left_fails _ _ (none_is _ (it.next table.tree) e no_clash stays) differs
 
   -- no row had its key
   key_was_free : (lists : List (List Row)) → Holds desk old.now lists → 0 ≡ length (filter (has_key name row) (table_at (place_of name) lists))
@@ -185,8 +189,8 @@ module _ (desk : Placing) (is : IsDesk desk) (name : TableName) (old new : State
       let rows = table_at (place_of name) lists in
       let none : filter (entry_passes (key_terms name) row) entries ≡ [] = none_left _ entries (other_keys was.0) in
       sym (ap (λ (q : Row → Bool). length (filter q rows)) (sym (key_passes name row)) ∙ sym (length_permutation _ _ (IsPermutation-filter p _ _ was.1))
-      ∙ ap length (filter_of_map p (columns_in (width_of name)) entries) ∙ length-map (filter (λ e. p (columns_in (width_of name) e)) entries) (columns_in (width_of name))
-      ∙ ap length (sym (filter_alike (width_of name) (key_terms name) row (within name) entries)) ∙ ap length none)
+      ∙ ap length (filter_of_map p (shown_in desk name) entries) ∙ length-map (filter (λ e. p (shown_in desk name e)) entries) (shown_in desk name)
+      ∙ ap length (sym (pass_alike desk name no_rowid (key_terms name) row (within name) entries)) ∙ ap length none)
 
 pub inserts_free : (name : TableName) → is_written name ≡ true → (sql : List ℕ) → sql ≡ insertion_text name → (row : Row) → FitsTable name row → (old new : State) (r : Result ℕ Error) → RunsInside sql row old new r
     → IfOk r (λ _. Counts name (table_for name).primary row old 0)
@@ -195,7 +199,7 @@ inserts_free name written sql text row fit old new r ran = free r (subst (λ t. 
     free : (q : Result ℕ Error) → RunsInside (insertion_text name) row old new q → IfOk q (λ _. Counts name (table_for name).primary row old 0)
     free (Err e) runs = tt
     free (Ok count) runs = elim (cases_Bool old.in_transaction) [
-      | inl inside ↦ λ desk is lists h. key_was_free desk is name old new h.schema_is row (added_one name written desk is old new h.schema_is row fit count (runs.1 inside).0) lists h
+      | inl inside ↦ λ desk is lists h. key_was_free desk is name (written_no_rowid name written (desk.keys name)) old new h.schema_is row (added_one name written desk is old new h.schema_is row fit count (runs.1 inside).0) lists h
       | inr outside ↦ absurd (let e = runs.0 outside in cc)
     ]
 

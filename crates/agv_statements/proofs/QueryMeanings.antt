@@ -1,28 +1,29 @@
 -- What the texts that ask for rows mean, wherever the desk's tables stand.
-use Rattle.std.proofs.Common.{◌≡◌, ℕ, true, List, [], ◌∷◌, Option, None, codes, refl}
+use Rattle.std.proofs.Common.{◌≡◌, ℕ, zero, suc, Bool, true, List, [], ◌∷◌, Option, None, Some, codes, refl}
 use Rattle.std.specs.List.{list_all}
 use Rattle.sqlite_ast.specs.declared.Core.{out-Core}
 use Rattle.sqlite_ast.specs.declared.Select.{out-Select}
+use Rattle.sqlite_value.specs.declared.keys.Collation.TheVariants.{Binary}
 use Rattle.sqlite_value.specs.Order.{Row}
-use Rattle.sqlite_sql.specs.Term.{Term}
+use Rattle.sqlite_sql.specs.Term.{Term, col}
 use Rattle.sqlite_draft.specs.declared.query.Grouping.{Grouping}
 use Rattle.sqlite_schema.specs.declared.schema.Schema.{Schema}
 use Rattle.sqlite_schema.specs.declared.command.Command.TheVariants.{Select}
 use Rattle.sqlite_tied.specs.Compute.{everything}
-use Rattle.agv_schema.specs.DeskRows.{TableKeys, table_for, width_of}
+use Rattle.agv_schema.specs.DeskRows.{TableKeys, rowid_of, table_for, table_written, width_of}
 use Rattle.agv_statements.specs.RowQueries.{table_asked, columns_asked, equal_from, query_text, all_rows_text}
 use Rattle.agv_schema.specs.declared.rows_by.RowsBy.{RowsBy}
 use Rattle.agv_schema.specs.declared.rows_by.RowsBy.TheVariants as by
 use Rattle.agv_schema.specs.declared.table_name.TableName.{TableName}
 use Rattle.agv_schema.specs.declared.table_name.TableName.TheVariants as the
-use Rattle.agv_schema.proofs.OneTable.{IsIn, Means, parsed, selection, head_of, is_param, query_in}
+use Rattle.agv_schema.proofs.OneTable.{IsIn, Means, parsed, selection, head_of, is_param, query_by, query_in}
 use Rattle.agv_statements.proofs.sql.OneTableReads.{select_means}
 use Rattle.agv_statements.proofs.sql.QueryRows.{passes, reads_within}
-use Rattle.agv_statements.proofs.RowMeanings.{with_tree, column_terms, column_names, collations}
+use Rattle.agv_statements.proofs.RowMeanings.{collations, column_names, column_terms, from_slot}
 
 -- SQL takes the text for a query of the table that shows these terms, under these names, of the rows that pass these tests, or of the groups of these rows
 abbrev pub AsksIn : Option Grouping → TableName → List ℕ → List Term → List Term → List (List ℕ) → Type 0
-AsksIn group name sql terms project names = (s : Schema) (at tree : ℕ) (keys : TableKeys) → IsIn s (table_for name).name (with_tree name tree keys) at → Means s sql (Select (record { lets = []; body = query_in group tree terms project }) names)
+AsksIn group name sql terms project names = (s : Schema) (at tree : ℕ) (keys : TableKeys) → IsIn s (table_for name).name (table_written name tree keys) at → Means s sql (Select (record { lets = []; body = query_in group tree terms project }) names)
 
 -- of the rows themselves
 abbrev pub AsksFor : TableName → List ℕ → List Term → List Term → List (List ℕ) → Type 0
@@ -53,31 +54,63 @@ unfolding everything
 query_asks by.VehicleJourney s at tree keys stands =
     let p = parsed (query_text by.VehicleJourney) in
     let sel = selection p.statement tt in
-    select_means s (codes "journey") (with_tree the.Journey tree keys) at stands (query_text by.VehicleJourney) p refl refl sel refl
+    select_means s (codes "journey") (table_written the.Journey tree keys) at stands (query_text by.VehicleJourney) p refl refl sel refl
     (record { with = refl; others = refl; order = refl; limit = refl; offset = refl })
     (record { source = head_of (out-Core (out-Select sel).first).from tt; from = refl; origin = refl; alias = refl; on = refl; using = refl; inner = refl; group = refl; having = refl; repeats = refl })
     (query_terms by.VehicleJourney) (column_terms the.Journey) (column_names the.Journey) (collations the.Journey) refl refl refl refl refl
 query_asks query s at tree keys stands =
     let p = parsed (query_text query) in
     let sel = selection p.statement tt in
-    select_means s (table_for (table_asked query)).name (with_tree (table_asked query) tree keys) at stands (query_text query) p refl refl sel refl
+    select_means s (table_for (table_asked query)).name (table_written (table_asked query) tree keys) at stands (query_text query) p refl refl sel refl
     (record { with = refl; others = refl; order = refl; limit = refl; offset = refl })
     (record { source = head_of (out-Core (out-Select sel).first).from tt; from = refl; origin = refl; alias = refl; on = refl; using = refl; inner = refl; group = refl; having = refl; repeats = refl })
     (query_terms query) (column_terms (table_asked query)) (column_names (table_asked query)) (collations (table_asked query)) refl refl refl refl refl
 
-pub all_rows_asked : (name : TableName) → Asks name (all_rows_text name) []
+pub query_no_rowid : (query : RowsBy) (keys : TableKeys) → rowid_of (table_asked query) keys ≡ None
+query_no_rowid by.VehicleJourney keys = refl
+query_no_rowid _ keys = refl
+
+-- ---- all rows of a table
+
+-- what shows the columns of an entry: the rowid, where that is the first of them
+abbrev pub terms_by : Option Bool → ℕ → List Term
+terms_by None width = from_slot 1 1 width
+terms_by (Some not_null) zero = col 1 0 ∷ []
+terms_by (Some not_null) (suc width) = col 1 0 ∷ from_slot 1 2 width
+
+abbrev pub shown_terms : TableName → TableKeys → List Term
+shown_terms name keys = terms_by (rowid_of name keys) (width_of name)
+
+-- SQL takes the text for a query of the table that shows all its rows
+abbrev pub ShowsAll : TableName → TableKeys → Type 0
+ShowsAll name keys = (s : Schema) (at tree : ℕ) → IsIn s (table_for name).name (table_written name tree keys) at
+    → Means s (all_rows_text name) (Select (record { lets = []; body = query_by tree [] (shown_terms name keys) }) (column_names name))
+
+-- `meta`, whether its first column is the rowid or not
+meta_asked : (primary : List ℕ) (all : List (List ℕ)) (rowid : Option Bool) → ShowsAll the.Meta (record { primary = primary; all = all; rowid = rowid })
 unfolding everything
-all_rows_asked the.Meta s at tree keys stands =
+meta_asked primary all None s at tree stands =
     let p = parsed (all_rows_text the.Meta) in
     let sel = selection p.statement tt in
-    select_means s (codes "meta") (with_tree the.Meta tree keys) at stands (all_rows_text the.Meta) p refl refl sel refl
+    select_means s (codes "meta") (table_written the.Meta tree (record { primary = primary; all = all; rowid = None })) at stands (all_rows_text the.Meta) p refl refl sel refl
     (record { with = refl; others = refl; order = refl; limit = refl; offset = refl })
     (record { source = head_of (out-Core (out-Select sel).first).from tt; from = refl; origin = refl; alias = refl; on = refl; using = refl; inner = refl; group = refl; having = refl; repeats = refl })
     ([]) (column_terms the.Meta) (column_names the.Meta) (collations the.Meta) refl refl refl refl refl
-all_rows_asked name s at tree keys stands =
+meta_asked primary all (Some not_null) s at tree stands =
+    let p = parsed (all_rows_text the.Meta) in
+    let sel = selection p.statement tt in
+    select_means s (codes "meta") (table_written the.Meta tree (record { primary = primary; all = all; rowid = Some not_null })) at stands (all_rows_text the.Meta) p refl refl sel refl
+    (record { with = refl; others = refl; order = refl; limit = refl; offset = refl })
+    (record { source = head_of (out-Core (out-Select sel).first).from tt; from = refl; origin = refl; alias = refl; on = refl; using = refl; inner = refl; group = refl; having = refl; repeats = refl })
+    ([]) (terms_by (Some not_null) 2) (column_names the.Meta) (None ∷ Some Binary ∷ []) refl refl refl refl refl
+
+pub all_rows_asked : (name : TableName) (keys : TableKeys) → ShowsAll name keys
+unfolding everything
+all_rows_asked the.Meta keys s at tree stands = meta_asked keys.primary keys.all keys.rowid s at tree stands
+all_rows_asked name keys s at tree stands =
     let p = parsed (all_rows_text name) in
     let sel = selection p.statement tt in
-    select_means s (table_for name).name (with_tree name tree keys) at stands (all_rows_text name) p refl refl sel refl
+    select_means s (table_for name).name (table_written name tree keys) at stands (all_rows_text name) p refl refl sel refl
     (record { with = refl; others = refl; order = refl; limit = refl; offset = refl })
     (record { source = head_of (out-Core (out-Select sel).first).from tt; from = refl; origin = refl; alias = refl; on = refl; using = refl; inner = refl; group = refl; having = refl; repeats = refl })
     ([]) (column_terms name) (column_names name) (collations name) refl refl refl refl refl

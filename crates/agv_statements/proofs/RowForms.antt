@@ -1,5 +1,5 @@
 -- What an INSERT, an UPDATE, a DELETE and a SELECT on one of the desk's tables do to its rows.
-use Rattle.std.proofs.Common.{◌≡◌, ◌≢◌, ◌++◌, ℕ, suc, ℤ, Bool, true, false, not, MatchBool, cond, List, [], ◌∷◌, ◌/◌, length, map, drop, filter, slice_get, unwrap_or, Option, Some, None, Ok, refl, sym, ap, ap₂, subst, ◌∙◌, IsPermutation}
+use Rattle.std.proofs.Common.{◌≡◌, ◌≢◌, ◌++◌, ℕ, suc, ℤ, Bool, true, false, not, MatchBool, cond, List, [], ◌∷◌, ◌/◌, length, map, drop, filter, slice_get, unwrap_or, Option, Some, None, Ok, refl, sym, ap, subst, ◌∙◌, IsPermutation}
 use Rattle.std.specs.List.{AllByRecursion, list_all}
 use Rattle.std.proofs.lemmas.Bool.{and_parts, not-true}
 use Rattle.std.proofs.lemmas.List.{length-map}
@@ -26,11 +26,11 @@ use Rattle.sqlite_rules.specs.Calls.{ids_of}
 use Rattle.sqlite_rules.specs.declared.error.Rowids.TheVariants.{Chosen, Above, Given}
 use Rattle.sqlite_rules.specs.declared.error.Rowids.{Rowids}
 use Rattle.sqlite.specs.Effect.{Database, IsDatabase, value_rows}
-use Rattle.sqlite.specs.Rows.{Written, Task, Edited, rowids_for, count_of}
+use Rattle.sqlite.specs.Rows.{Written, Task, Edited, rowids_for, count_of, stamped}
 use Rattle.sqlite.specs.Does.{Tally, OnRows, Concludes, AtPlace}
 use Rattle.sqlite.specs.State.{State, mode_of, Executes, Shown}
 use Rattle.sqlite.proofs.Callers.{runs_as, reads_as, one_step}
-use Rattle.agv_schema.specs.DeskRows.{width_of, table_for, place_of, Placing, table_in, IsDesk, first_columns, columns_in, HaveRows, Holds, KeepsOthers, table_at, on_table, FitsTable}
+use Rattle.agv_schema.specs.DeskRows.{columns_by, shown_in, width_of, table_for, place_of, Placing, table_in, IsDesk, first_columns, HaveRows, Holds, KeepsOthers, TableHas, table_at, on_table, FitsTable}
 use Rattle.agv_schema.specs.declared.table_name.TableName.{TableName}
 use Rattle.agv_schema.proofs.OneTable.{Means, query_by}
 use Rattle.agv_statements.proofs.RowMeanings.{from_slot, row_terms, over_terms, column_terms}
@@ -39,7 +39,7 @@ use Rattle.agv_statements.proofs.sql.QueryRows.{entry_passes, passes, reads_with
 use Rattle.agv_statements.proofs.sql.EntryEdits.{filter_of_map, map_of_map, one_more_row, fewer_rows}
 use Rattle.agv_schema.proofs.OnTables.{added, added-permuted}
 use Rattle.agv_schema.proofs.ColumnValues.{same_either_way, cast_all_keeps, all_columns}
-use Rattle.agv_schema.proofs.DeskPlaces.{is_among, one_of_a_tree, table_changes, table_has}
+use Rattle.agv_schema.proofs.DeskPlaces.{HasNoRowid, is_among, one_of_a_tree, shown_as_kept, table_changes, table_has}
 use Rattle.agv_statements.proofs.sql.NoReferences.{sets_off_nothing}
 use Rattle.agv_schema.proofs.Running.{went, same_value}
 
@@ -60,11 +60,11 @@ tallied task s w tally after h =
     ap (λ (p : Tally × Database). p.0.rows) (same_value returned.2)
 
 -- a query that shows the rowid first shows those of the entries that pass
-same_ids : (width : ℕ) (terms more : List Term) (params : Row) → list_all (reads_within width) terms ≡ true → (entries answer : List Row)
+same_ids : (terms more : List Term) (params : Row) (entries passing answer : List Row) → filter (entry_passes terms params) entries ≡ passing
     → IsPermutation (map (λ e. eval_all (col 1 0 ∷ more) (params ∷ e ∷ [])) (filter (entry_passes terms params) entries)) answer
-    → IsPermutation (ids_of (filter (λ e. passes terms params (columns_in width e)) entries)) (ids_of answer)
-same_ids width terms more params within entries answer h =
-    subst (λ xs. IsPermutation xs (ids_of answer)) (map_of_map (λ e. id_in (rowid e)) (λ e. eval_all (col 1 0 ∷ more) (params ∷ e ∷ [])) (filter (entry_passes terms params) entries) ∙ ap ids_of (filter_alike width terms params within entries))
+    → IsPermutation (ids_of passing) (ids_of answer)
+same_ids terms more params entries passing answer alike h =
+    subst (λ xs. IsPermutation xs (ids_of answer)) (map_of_map (λ e. id_in (rowid e)) (λ e. eval_all (col 1 0 ∷ more) (params ∷ e ∷ [])) (filter (entry_passes terms params) entries) ∙ ap ids_of alike)
     (IsPermutation-map (λ e. id_in (rowid e)) _ _ h)
 
 cast_null : cast Integer Null ≡ Null
@@ -88,37 +88,32 @@ numbered_given entries [] = refl
 numbered_given entries (r ∷ rows) = ap (λ (more : List Row). r ∷ more) (numbered_given (put_row r entries) rows)
 
 -- entries are added one after the other
-more_rows : (width : ℕ) (news entries rows : List Row) → are_fresh entries news ≡ true → list_all (λ r. is_int (rowid r)) news ≡ true → HaveRows width entries rows → HaveRows width (put_all entries news) (added (map (columns_in width) news) rows)
-more_rows width [] entries rows fresh whole h = h
-more_rows width (r ∷ news) entries rows fresh whole h =
+more_rows : (shown : Row → Row) (news entries rows : List Row) → are_fresh entries news ≡ true → list_all (λ r. is_int (rowid r)) news ≡ true → HaveRows shown entries rows → HaveRows shown (put_all entries news) (added (map shown news) rows)
+more_rows shown [] entries rows fresh whole h = h
+more_rows shown (r ∷ news) entries rows fresh whole h =
     let free = and_parts _ _ fresh in
     let int = and_parts _ _ whole in
-    more_rows width news (put_row r entries) (columns_in width r ∷ rows) free.1 int.1 (one_more_row width r entries rows (not-true _ free.0) int.0 h)
+    more_rows shown news (put_row r entries) (shown r ∷ rows) free.1 int.1 (one_more_row shown r entries rows (not-true _ free.0) int.0 h)
 
 -- what is written over an entry, as a query shows it
-abbrev written_in : TableName → ℕ → Row → Row
-written_in name tree s = cast_row (record (table_for name) { tree = tree }) (drop 1 s)
+abbrev written_in : Table → Row → Row
+written_in table s = cast_row table (drop 1 s)
 
 -- what is written over the entries that pass is the row, each time
-copied : (name : TableName) (tree : ℕ) (row : Row) → FitsTable name row → (terms : List Term) → list_all (reads_within (width_of name)) terms ≡ true → (entries rows answer : List Row)
-    → IsPermutation rows (map (columns_in (width_of name)) entries)
-    → IsPermutation (map (λ e. eval_all (over_terms name) (row ∷ e ∷ [])) (filter (entry_passes terms row) entries)) answer
-    → IsPermutation (map (λ _. row) (filter (passes terms row) rows)) (map (λ s. columns_in (width_of name) (written_in name tree s)) answer)
-copied name tree row fit terms within entries rows answer was found =
-    let width = width_of name in
+copied : (shown : Row → Row) (table : Table) (row : Row) (over terms : List Term) → ((e : Row) → shown (written_in table (eval_all over (row ∷ e ∷ []))) ≡ row) → (entries rows answer : List Row)
+    → filter (entry_passes terms row) entries ≡ filter (λ e. passes terms row (shown e)) entries → IsPermutation rows (map shown entries)
+    → IsPermutation (map (λ e. eval_all over (row ∷ e ∷ [])) (filter (entry_passes terms row) entries)) answer
+    → IsPermutation (map (λ _. row) (filter (passes terms row) rows)) (map (λ s. shown (written_in table s)) answer)
+copied shown table row over terms each entries rows answer alike was found =
     let p = passes terms row in
-    let shown : Row → Row = λ e. eval_all (over_terms name) (row ∷ e ∷ []) in
-    let g : Row → Row = λ s. columns_in width (written_in name tree s) in
-    let whole : first_columns width row ≡ row = all_columns (table_for name).columns row fit in
-    let fits : cast_all (table_for name).columns row ≡ row = cast_all_keeps (table_for name).columns row fit in
-    let each : (e : Row) → g (shown e) ≡ row =
-    λ e. ap (λ (cells : Row). first_columns width (cast_all (table_for name).columns cells)) (params_in_turn 0 width row (e ∷ []) ∙ whole) ∙ ap (first_columns width) fits ∙ whole in
-    let same : map (λ _. row) (filter p (map (columns_in width) entries)) ≡ map g (map shown (filter (entry_passes terms row) entries)) =
-    ap (map (λ _. row)) (filter_of_map p (columns_in width) entries)
-    ∙ map_of_map (λ _. row) (columns_in width) (filter (λ e. p (columns_in width e)) entries)
-    ∙ (λ i. map (λ e. sym (each e) i) (filter (λ e. p (columns_in width e)) entries))
-    ∙ ap (map (λ e. g (shown e))) (sym (filter_alike width terms row within entries))
-    ∙ sym (map_of_map g shown (filter (entry_passes terms row) entries)) in
+    let asked : Row → Row = λ e. eval_all over (row ∷ e ∷ []) in
+    let g : Row → Row = λ s. shown (written_in table s) in
+    let same : map (λ _. row) (filter p (map shown entries)) ≡ map g (map asked (filter (entry_passes terms row) entries)) =
+    ap (map (λ _. row)) (filter_of_map p shown entries)
+    ∙ map_of_map (λ _. row) shown (filter (λ e. p (shown e)) entries)
+    ∙ (λ i. map (λ e. sym (each e) i) (filter (λ e. p (shown e)) entries))
+    ∙ ap (map (λ e. g (asked e))) (sym alike)
+    ∙ sym (map_of_map g asked (filter (entry_passes terms row) entries)) in
     IsPermutation-trans _ _ _ (IsPermutation-map (λ _. row) _ _ (IsPermutation-filter p _ _ was)) (subst (λ xs. IsPermutation xs (map g answer)) (sym same) (IsPermutation-map g _ _ found))
 
 -- what holds of each table but one of the desk's holds of each that is none of them
@@ -134,15 +129,34 @@ pub record Lands (desk : Placing) (old new : Database) (change : List (List Row)
   pub others : KeepsOthers desk old new
   pub listed : IsDatabase new
 
+module _ (desk : Placing) (name : TableName) where
+  -- the entries that pass these tests are those whose rows do
+  abbrev pub PassAlike : List Term → Row → Type 0
+  PassAlike terms params = (entries : List Row) → filter (entry_passes terms params) entries ≡ filter (λ e. passes terms params (shown_in desk name e)) entries
+
+  pub pass_alike : HasNoRowid desk name → (terms : List Term) (params : Row) → list_all (reads_within (width_of name)) terms ≡ true → PassAlike terms params
+  pass_alike none terms params within entries =
+      filter_alike (width_of name) terms params within entries ∙ ap (λ (f : Row → Row). filter (λ e. passes terms params (f e)) entries) (sym (shown_as_kept desk name none))
+
+  -- what a query shows of the entries are their rows
+  abbrev pub ShowsRows : List Term → Row → Type 0
+  ShowsRows project params = (e : Row) → eval_all project (params ∷ e ∷ []) ≡ shown_in desk name e
+
+  pub shows_columns : HasNoRowid desk name → (params : Row) → ShowsRows (column_terms name) params
+  shows_columns none params e = columns_in_turn 1 (width_of name) params e ∙ ap (λ (f : Row → Row). f e) (sym (shown_as_kept desk name none))
+
 module _ (desk : Placing) (is : IsDesk desk) (name : TableName) (old new : State) (has : old.now.schema ≡ desk.schema) where
   abbrev table : Table
-  table = table_in desk name (is.stands name).keys
+  table = table_in desk name
 
   abbrev at : ℕ
   at = (is.stands name).at
 
   abbrev width : ℕ
   width = width_of name
+
+  abbrev shown : Row → Row
+  shown = shown_in desk name
 
   abbrev task_for : Row → Task
   task_for params = record { limit = old.step_limit; keys = Enforced; schema = old.now.schema; table = table; params = params }
@@ -166,7 +180,7 @@ module _ (desk : Placing) (is : IsDesk desk) (name : TableName) (old new : State
       (subst (λ (t : Table). works old.now.schema Enforced 0 t.tree (taken_by old.now.trees edit) edit.news ≡ []) (sym here) (sets_nothing_off (taken_by old.now.trees edit) edit.news)) h
 
   lands : (edit : Edit) (next : Trees) (f : List Row → List Row) → edit.table ≡ table → Applies old.now.schema Enforced old.now.trees edit next
-      → ((rows : List Row) → HaveRows width (old.now.trees table.tree) rows → HaveRows width (next table.tree) (f rows))
+      → ((rows : List Row) → TableHas desk old.now.trees name rows → TableHas desk next name (f rows))
       → new.now ≡ record { schema = old.now.schema; trees = next } → IsDatabase new.now → Lands desk old.now new.now (on_table (place_of name) f)
   lands edit next f here a step now listed =
       let same = subst (λ s. AllByRecursion (λ (t : Table). t.tree ≢ table.tree → next t.tree ≡ old.now.trees t.tree) s.tables) has (rw here at a.tables) in
@@ -176,10 +190,10 @@ module _ (desk : Placing) (is : IsDesk desk) (name : TableName) (old new : State
         listed = listed;
       }
 
-  pub rows_deleted : (sql : List ℕ) (params : Row) (terms : List Term) → list_all (reads_within width) terms ≡ true
+  pub rows_deleted : (sql : List ℕ) (params : Row) (terms : List Term) → PassAlike desk name terms params
       → Means desk.schema sql (Delete at (record { lets = []; body = query_by table.tree terms (col 1 0 ∷ []) }))
       → (count : ℕ) → Executes sql params old new (Ok count) → Lands desk old.now new.now (on_table (place_of name) (filter (λ row. not (passes terms params row))))
-  rows_deleted sql params terms within means count ran =
+  rows_deleted sql params terms alike means count ran =
       let command = Delete at (record { lets = []; body = query_by table.tree terms (col 1 0 ∷ []) }) in
       let db = old.now.trees in
       let w = runs_as sql params old new desk.schema has command means.is means.plain count ran in
@@ -194,14 +208,14 @@ module _ (desk : Placing) (is : IsDesk desk) (name : TableName) (old new : State
       let now : new.now ≡ record { schema = old.now.schema; trees = next } = settled (task_for params) old done.0 w.tally new.now done.2 ∙ ap (λ (t : Trees). record { schema = old.now.schema; trees = t }) trees in
       let found = answered_by table.tree terms (col 1 0 ∷ []) db params queried.0 (queried.1.answer Null) in
       lands edit next (filter (λ row. not (passes terms params row))) refl a (λ rows was.
-      rw a.rows (fewer_rows width (passes terms params) (db table.tree) rows was gone (same_ids width terms [] params within (db table.tree) queried.0 found))) now w.sound
+      rw a.rows (fewer_rows shown (passes terms params) (db table.tree) rows was gone (same_ids terms [] params (db table.tree) _ queried.0 (alike (db table.tree)) found))) now w.sound
 
-  pub rows_updated : (sql : List ℕ) (row : Row) → FitsTable name row → (terms : List Term) → list_all (reads_within width) terms ≡ true
+  pub rows_updated : HasNoRowid desk name → (sql : List ℕ) (row : Row) → FitsTable name row → (terms : List Term) → list_all (reads_within width) terms ≡ true
       → Means desk.schema sql (Update at (record { lets = []; body = query_by table.tree terms (over_terms name) }))
       → (count : ℕ) → Executes sql row old new (Ok count)
       → Lands desk old.now new.now (on_table (place_of name) (λ rows. map (λ _. row) (filter (passes terms row) rows) ++ filter (λ other. not (passes terms row other)) rows))
       × ((lists : List (List Row)) → Holds desk old.now lists → count ≡ length (filter (passes terms row) (table_at (place_of name) lists)))
-  rows_updated sql row fit terms within means count ran =
+  rows_updated none sql row fit terms within means count ran =
       let command = Update at (record { lets = []; body = query_by table.tree terms (over_terms name) }) in
       let db = old.now.trees in
       let entries = db table.tree in
@@ -219,73 +233,70 @@ module _ (desk : Placing) (is : IsDesk desk) (name : TableName) (old new : State
       let now : new.now ≡ record { schema = old.now.schema; trees = next } =
       settled (task_for row) old done.0 w.tally new.now done.2 ∙ ap (λ (it : Written). record { schema = old.now.schema; trees = it.trees }) written in
       let found = answered_by table.tree terms (over_terms name) db row answer (queried.1.answer Null) in
-      let news : map (columns_in width) edit.news ≡ map (λ s. columns_in width (written_in name (desk.tree name) s)) answer =
-      ap (map (columns_in width)) (numbered_given (without_all entries gone) (map (written_in name (desk.tree name)) answer)) ∙ map_of_map (columns_in width) (written_in name (desk.tree name)) answer in
-      let copies : (rows : List Row) → HaveRows width entries rows → IsPermutation (map (λ _. row) (filter p rows)) (map (columns_in width) edit.news) =
-      λ rows was. subst (IsPermutation (map (λ _. row) (filter p rows))) (sym news) (copied name (desk.tree name) row fit terms within entries rows answer was.1 found) in (
+      let whole : first_columns width row ≡ row = all_columns (table_for name).columns row fit in
+      let fits : cast_all table.columns row ≡ row = ap (λ (r : Option Bool). cast_all (columns_by r (table_for name).columns) row) none ∙ cast_all_keeps (table_for name).columns row fit in
+      let each : (e : Row) → shown (written_in table (eval_all (over_terms name) (row ∷ e ∷ []))) ≡ row =
+      λ e. ap (λ (f : Row → Row). f (written_in table (eval_all (over_terms name) (row ∷ e ∷ [])))) (shown_as_kept desk name none)
+      ∙ ap (λ (cells : Row). first_columns width (cast_all table.columns cells)) (params_in_turn 0 width row (e ∷ []) ∙ whole) ∙ ap (first_columns width) fits ∙ whole in
+      let news : map shown edit.news ≡ map (λ s. shown (written_in table s)) answer =
+      ap (map shown) (numbered_given (without_all entries gone) (map (written_in table) answer)) ∙ map_of_map shown (written_in table) answer in
+      let alike = pass_alike desk name none terms row within entries in
+      let copies : (rows : List Row) → HaveRows shown entries rows → IsPermutation (map (λ _. row) (filter p rows)) (map shown edit.news) =
+      λ rows was. subst (IsPermutation (map (λ _. row) (filter p rows))) (sym news) (copied shown table row (over_terms name) terms each entries rows answer alike was.1 found) in (
         lands edit next (λ rows. map (λ _. row) (filter p rows) ++ filter (λ other. not (p other)) rows) refl a (λ rows was.
             let rest = filter (λ other. not (p other)) rows in
-            let fewer = fewer_rows width p entries rows was gone (same_ids width terms (col 1 0 ∷ from_slot 0 0 width) row within entries answer found) in
-            let more = more_rows width edit.news (without_all entries gone) rest a.fresh a.keyed fewer in
-            subst (λ es. HaveRows width es (map (λ _. row) (filter p rows) ++ rest)) (sym a.rows) (
+            let fewer = fewer_rows shown p entries rows was gone (same_ids terms (col 1 0 ∷ from_slot 0 0 width) row entries _ answer alike found) in
+            let more = more_rows shown edit.news (without_all entries gone) rest a.fresh a.keyed fewer in
+            subst (λ es. HaveRows shown es (map (λ _. row) (filter p rows) ++ rest)) (sym a.rows) (
               more.0,
               IsPermutation-trans _ _ _
-                  (IsPermutation-trans _ _ _ (IsPermutation-append_left rest (map (λ _. row) (filter p rows)) (map (columns_in width) edit.news) (copies rows was)) (IsPermutation-sym _ _ (added-permuted (map (columns_in width) edit.news) rest)))
+                  (IsPermutation-trans _ _ _ (IsPermutation-append_left rest (map (λ _. row) (filter p rows)) (map shown edit.news) (copies rows was)) (IsPermutation-sym _ _ (added-permuted (map shown edit.news) rest)))
                   more.1,
             )) now w.sound,
         λ lists h.
             let rows = table_at (place_of name) lists in
             w.counted ∙ ap (λ (o : Option ℕ). unwrap_or o 0) (tallied (task_for row) old done.0 w.tally new.now done.2) ∙ ap (λ (it : Written). length it.rows) written
-            ∙ sym (length-map edit.news (columns_in width)) ∙ length_permutation _ _ (copies rows (table_has desk name db lists h.rows)) ∙ length-map (filter p rows) (λ _. row),
+            ∙ sym (length-map edit.news shown) ∙ length_permutation _ _ (copies rows (table_has desk name db lists h.rows)) ∙ length-map (filter p rows) (λ _. row),
       )
 
-  -- what an INSERT of this one row leaves: the row stands under a rowid of its own
-  pub record Inserted (row : Row) : Type 0 where
+  -- what an INSERT of one row leaves: it stands as this entry, whose rowid is new
+  pub record Adds (given entry : Row) : Type 0 where
     pub next : Trees
-    pub id : ℤ
-    pub step : Applies old.now.schema Enforced old.now.trees (edit_of old.now.trees table [] Chosen 0 ((Null ∷ row) ∷ [])) next
-    pub news : (edit_of old.now.trees table [] Chosen 0 ((Null ∷ row) ∷ [])).news ≡ (Int id ∷ row) ∷ []
+    pub step : Applies old.now.schema Enforced old.now.trees (edit_of old.now.trees table [] Chosen 0 (given ∷ [])) next
+    pub news : (edit_of old.now.trees table [] Chosen 0 (given ∷ [])).news ≡ entry ∷ []
     pub now : new.now ≡ record { schema = old.now.schema; trees = next }
     pub sound : IsDatabase new.now
 
-  pub one_inserted : (sql : List ℕ) (row : Row) → FitsTable name row
-      → Means desk.schema sql (Insert at (Values (row_terms name) (suc width)))
-      → (count : ℕ) → Executes sql row old new (Ok count) → Inserted row
-  one_inserted sql row fit means count ran =
-      let command = Insert at (Values (row_terms name) (suc width)) in
+  pub one_added : (sql : List ℕ) (params : Row) (terms : List Term) (given entry : Row) → Means desk.schema sql (Insert at (Values terms (suc width)))
+      → value_rows (stamped table params) (suc width) (length terms / suc width) terms ≡ given ∷ [] → (edit_of old.now.trees table [] Chosen 0 (given ∷ [])).news ≡ entry ∷ []
+      → (count : ℕ) → Executes sql params old new (Ok count) → Adds given entry
+  one_added sql params terms given entry means is news count ran =
+      let command = Insert at (Values terms (suc width)) in
       let db = old.now.trees in
-      let w = runs_as sql row old new desk.schema has command means.is means.plain count ran in
-      let done = went (on_table_here row command (w.tally, new.now) w.changed) in
-      let given = went done.1 in
-      let counter = went given.2 in
+      let w = runs_as sql params old new desk.schema has command means.is means.plain count ran in
+      let done = went (on_table_here params command (w.tally, new.now) w.changed) in
+      let source = went done.1 in
+      let counter = went source.2 in
       let edited = went counter.2 in
       let counted = went edited.2 in
       let mid = edited.0 in
-      let whole : first_columns width row ≡ row = all_columns (table_for name).columns row fit in
-      let first = edit_of db table [] (rowids_for table (count_of counter.0)) 0 given.0 in
-      let edit = edit_of db table [] Chosen 0 ((Null ∷ row) ∷ []) in
-      let one : given.0 ≡ (Null ∷ row) ∷ [] =
-      given.1.1 ∙ ap (λ ps. value_rows ps (suc width) (length (row_terms name) / suc width) (row_terms name)) (unstamped name (desk.tree name) row) ∙ one_row name row
-      ∙ ap (λ (r : Row). (Null ∷ r) ∷ []) (params_in_turn 0 width row [] ∙ whole) in
-      let same : first ≡ edit = ap (λ (how : Rowids). edit_of db table [] how 0 given.0) (chosen table.is_counted (count_of counter.0) (uncounted name)) ∙ ap (edit_of db table [] Chosen 0) one in
+      let first = edit_of db table [] (rowids_for table (count_of counter.0)) 0 source.0 in
+      let edit = edit_of db table [] Chosen 0 (given ∷ []) in
+      let one : source.0 ≡ given ∷ [] = source.1.1 ∙ is in
+      let same : first ≡ edit = ap (λ (how : Rowids). edit_of db table [] how 0 source.0) (chosen table.is_counted (count_of counter.0) (uncounted name)) ∙ ap (edit_of db table [] Chosen 0) one in
       let quiet = second _ _ table.is_counted _ (uncounted name) counted.1 in
       let trees : done.0.trees ≡ mid = ap (λ (it : Written). it.trees) (same_value counted.2) ∙ same_value quiet in
-      let fits : cast_all table.columns row ≡ row = cast_all_keeps (table_for name).columns row fit in
       record {
         next = mid;
-        id = next_rowid (db table.tree);
         step = applied edit mid refl (subst (λ (e : Edit). Edited old.now.schema Enforced db e (Ok mid)) same edited.1);
-        news = rw (cast_null, fits);
-        now = settled (task_for row) old done.0 w.tally new.now done.2 ∙ ap (λ (t : Trees). record { schema = old.now.schema; trees = t }) trees;
+        news = news;
+        now = settled (task_for params) old done.0 w.tally new.now done.2 ∙ ap (λ (t : Trees). record { schema = old.now.schema; trees = t }) trees;
         sound = w.sound;
       }
 
-  module _ (row : Row) (it : Inserted row) where
+  module _ (given entry : Row) (it : Adds given entry) where
     abbrev entries : List Row
     entries = old.now.trees table.tree
-
-    abbrev entry : Row
-    entry = Int it.id ∷ row
 
     -- its rowid is new, and it stands with the entries that were there
     pub rowid_is_new : is_taken entries entry ≡ false
@@ -294,49 +305,63 @@ module _ (desk : Placing) (is : IsDesk desk) (name : TableName) (old new : State
     pub stands_with_them : it.next table.tree ≡ put_row entry entries
     stands_with_them = it.step.rows ∙ ap (put_all entries) it.news
 
-    lands_inserted : FitsTable name row → Lands desk old.now new.now (on_table (place_of name) (λ rows. row ∷ rows))
-    lands_inserted fit =
-        let whole : first_columns width row ≡ row = all_columns (table_for name).columns row fit in
-        lands (edit_of old.now.trees table [] Chosen 0 ((Null ∷ row) ∷ [])) it.next (λ rows. row ∷ rows) refl it.step (λ rows was.
-        subst (λ es. HaveRows width es (row ∷ rows)) (sym stands_with_them)
-        (subst (λ r. HaveRows width (put_row entry entries) (r ∷ rows)) whole (one_more_row width entry entries rows rowid_is_new refl was))) it.now it.sound
+    pub lands_added : (row : Row) → is_int (rowid entry) ≡ true → shown entry ≡ row → Lands desk old.now new.now (on_table (place_of name) (λ rows. row ∷ rows))
+    lands_added row whole is = lands (edit_of old.now.trees table [] Chosen 0 (given ∷ [])) it.next (λ rows. row ∷ rows) refl it.step (λ rows was.
+        subst (λ es. HaveRows shown es (row ∷ rows)) (sym stands_with_them)
+        (subst (λ r. HaveRows shown (put_row entry entries) (r ∷ rows)) is (one_more_row shown entry entries rows rowid_is_new whole was))) it.now it.sound
 
-  pub row_inserted : (sql : List ℕ) (row : Row) → FitsTable name row
+  -- a row under a rowid that the database chooses
+  abbrev pub new_entry : Row → Row
+  new_entry row = Int (next_rowid (old.now.trees table.tree)) ∷ row
+
+  abbrev pub Inserted : Row → Type 0
+  Inserted row = Adds (Null ∷ row) (new_entry row)
+
+  pub one_inserted : HasNoRowid desk name → (sql : List ℕ) (row : Row) → FitsTable name row
+      → Means desk.schema sql (Insert at (Values (row_terms name) (suc width)))
+      → (count : ℕ) → Executes sql row old new (Ok count) → Inserted row
+  one_inserted none sql row fit means count ran =
+      let whole : first_columns width row ≡ row = all_columns (table_for name).columns row fit in
+      let fits : cast_all table.columns row ≡ row = ap (λ (r : Option Bool). cast_all (columns_by r (table_for name).columns) row) none ∙ cast_all_keeps (table_for name).columns row fit in
+      one_added sql row (row_terms name) (Null ∷ row) (new_entry row) means
+      (ap (λ ps. value_rows ps (suc width) (length (row_terms name) / suc width) (row_terms name)) (unstamped name (desk.tree name) row) ∙ one_row name row
+      ∙ ap (λ (r : Row). (Null ∷ r) ∷ []) (params_in_turn 0 width row [] ∙ whole))
+      (rw (cast_null, fits)) count ran
+
+  pub row_inserted : HasNoRowid desk name → (sql : List ℕ) (row : Row) → FitsTable name row
       → Means desk.schema sql (Insert at (Values (row_terms name) (suc width)))
       → (count : ℕ) → Executes sql row old new (Ok count) → Lands desk old.now new.now (on_table (place_of name) (λ rows. row ∷ rows))
-  row_inserted sql row fit means count ran = lands_inserted row (one_inserted sql row fit means count ran) fit
+  row_inserted none sql row fit means count ran =
+      lands_added (Null ∷ row) (new_entry row) (one_inserted none sql row fit means count ran) row refl
+      (ap (λ (f : Row → Row). f (new_entry row)) (shown_as_kept desk name none) ∙ all_columns (table_for name).columns row fit)
 
 module _ (desk : Placing) (name : TableName) (old new : State) (has : old.now.schema ≡ desk.schema) where
   abbrev tree : ℕ
   tree = desk.tree name
 
-  abbrev shown_width : ℕ
-  shown_width = width_of name
+  abbrev shown_row : Row → Row
+  shown_row = shown_in desk name
 
   -- the rows that pass, in some order, of a table that may stand without the others
-  pub rows_shown_alone : (sql : List ℕ) (params : Row) (terms : List Term) (names : List (List ℕ)) → list_all (reads_within shown_width) terms ≡ true
-      → Means desk.schema sql (Select (record { lets = []; body = query_by tree terms (column_terms name) }) names)
-      → (rows : List Row) → Shown sql params old new rows → (there : List Row) → HaveRows shown_width (old.now.trees tree) there
+  pub rows_shown_alone : (sql : List ℕ) (params : Row) (terms project : List Term) (names : List (List ℕ)) → PassAlike desk name terms params → ShowsRows desk name project params
+      → Means desk.schema sql (Select (record { lets = []; body = query_by tree terms project }) names)
+      → (rows : List Row) → Shown sql params old new rows → (there : List Row) → TableHas desk old.now.trees name there
       → IsPermutation (filter (passes terms params) there) rows
-  rows_shown_alone sql params terms names within means rows shown there here =
-      let q = query_by tree terms (column_terms name) in
+  rows_shown_alone sql params terms project names alike each means rows shown there here =
+      let q = query_by tree terms project in
       let got = reads_as sql params old new desk.schema has (Select (record { lets = []; body = q }) names) means.is means.plain means.own rows shown in
-      let found = answered_by tree terms (column_terms name) old.now.trees params rows (got.answer Null) in
+      let found = answered_by tree terms project old.now.trees params rows (got.answer Null) in
       let entries = old.now.trees tree in
-      let same : map (λ e. eval_all (column_terms name) (params ∷ e ∷ [])) (filter (entry_passes terms params) entries) ≡ filter (passes terms params) (map (columns_in shown_width) entries) =
-      each_in_turn (filter (entry_passes terms params) entries)
-      ∙ ap (map (columns_in shown_width)) (filter_alike shown_width terms params within entries)
-      ∙ sym (filter_of_map (passes terms params) (columns_in shown_width) entries) in
+      let same : map (λ e. eval_all project (params ∷ e ∷ [])) (filter (entry_passes terms params) entries) ≡ filter (passes terms params) (map shown_row entries) =
+      (λ i. map (λ e. each e i) (filter (entry_passes terms params) entries))
+      ∙ ap (map shown_row) (alike entries)
+      ∙ sym (filter_of_map (passes terms params) shown_row entries) in
       IsPermutation-trans _ _ _ (IsPermutation-filter (passes terms params) _ _ here.1) (subst (λ xs. IsPermutation xs rows) same found)
-    where
-      each_in_turn : (es : List Row) → map (λ e. eval_all (column_terms name) (params ∷ e ∷ [])) es ≡ map (columns_in shown_width) es
-      each_in_turn [] = refl
-      each_in_turn (e ∷ es) = ap₂ ◌∷◌ (columns_in_turn 1 shown_width params e) (each_in_turn es)
 
   -- the same of one of the lists
-  pub rows_shown : (sql : List ℕ) (params : Row) (terms : List Term) (names : List (List ℕ)) → list_all (reads_within shown_width) terms ≡ true
-      → Means desk.schema sql (Select (record { lets = []; body = query_by tree terms (column_terms name) }) names)
+  pub rows_shown : (sql : List ℕ) (params : Row) (terms project : List Term) (names : List (List ℕ)) → PassAlike desk name terms params → ShowsRows desk name project params
+      → Means desk.schema sql (Select (record { lets = []; body = query_by tree terms project }) names)
       → (rows : List Row) → Shown sql params old new rows → (lists : List (List Row)) → Holds desk old.now lists
       → IsPermutation (filter (passes terms params) (table_at (place_of name) lists)) rows
-  rows_shown sql params terms names within means rows shown lists h =
-      rows_shown_alone sql params terms names within means rows shown (table_at (place_of name) lists) (table_has desk name old.now.trees lists h.rows)
+  rows_shown sql params terms project names alike each means rows shown lists h =
+      rows_shown_alone sql params terms project names alike each means rows shown (table_at (place_of name) lists) (table_has desk name old.now.trees lists h.rows)

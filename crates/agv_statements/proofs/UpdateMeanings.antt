@@ -1,5 +1,5 @@
 -- What the texts that write a row over those of its key mean, wherever the desk's tables stand, and what they do.
-use Rattle.std.proofs.Common.{◌≡◌, ◌∙◌, ◌++◌, inl, inr, [], ◌∷◌, ℕ, zero, suc, not, true, Bool, List, Result, Ok, Err, OnOk, IfOk, filter, length, map, refl, sym, ap, subst}
+use Rattle.std.proofs.Common.{◌≡◌, ◌∙◌, ◌++◌, inl, inr, [], ◌∷◌, ℕ, zero, suc, not, true, Bool, List, None, Result, Ok, Err, OnOk, IfOk, filter, length, map, refl, sym, ap, subst}
 use Rattle.std.proofs.lemmas.Bool.{cases_Bool}
 use Rattle.std.proofs.lemmas.List.Elements.{filter-append}
 use Rattle.sqlite_value.specs.Order.{Row}
@@ -8,7 +8,7 @@ use Rattle.sqlite_schema.specs.declared.command.Command.TheVariants.{Update}
 use Rattle.sqlite_tied.specs.Compute.{everything}
 use Rattle.sqlite.specs.declared.error.Error.{Error}
 use Rattle.sqlite.specs.State.{State, Executes}
-use Rattle.agv_schema.specs.DeskRows.{TableKeys, Placing, FitsTable, Holds, IsDesk, Makes, has_columns, on_table, place_of, table_at, table_for, with_put_by, with_row}
+use Rattle.agv_schema.specs.DeskRows.{TableKeys, Placing, FitsTable, Holds, IsDesk, Makes, has_columns, on_table, place_of, rowid_of, table_at, table_for, table_written, with_put_by, with_row}
 use Rattle.agv_statements.specs.RowUpdates.{Counts, IsKeyOf, is_updated, update_text, with_each}
 use Rattle.agv_schema.specs.declared.table_name.TableName.{TableName}
 use Rattle.agv_schema.specs.declared.table_name.TableName.TheVariants as the
@@ -18,12 +18,12 @@ use Rattle.agv_schema.proofs.OneTable.{IsIn, Means, parsed, query_by, update_set
 use Rattle.agv_statements.proofs.sql.OneTableWrites.{update_means}
 use Rattle.agv_statements.proofs.DeskStatements.{RunsInside, key_passes, makes, makes_then, within}
 use Rattle.agv_statements.proofs.RowForms.{Lands, rows_updated}
-use Rattle.agv_statements.proofs.RowMeanings.{key_terms, over_terms, with_tree}
+use Rattle.agv_statements.proofs.RowMeanings.{key_terms, over_terms}
 
 -- ---- the texts
 
 abbrev Updates : TableName → Type 0
-Updates name = (s : Schema) (at tree : ℕ) (keys : TableKeys) → IsIn s (table_for name).name (with_tree name tree keys) at → Means s (update_text name) (Update at (record { lets = []; body = query_by tree (key_terms name) (over_terms name) }))
+Updates name = (s : Schema) (at tree : ℕ) (keys : TableKeys) → IsIn s (table_for name).name (table_written name tree keys) at → Means s (update_text name) (Update at (record { lets = []; body = query_by tree (key_terms name) (over_terms name) }))
 
 updates : (name : TableName) → is_updated name ≡ true → Updates name
 unfolding everything
@@ -38,7 +38,11 @@ updates the.Used is s at tree keys stands = absurd (cc is)
 updates the.Capacity is s at tree keys stands = absurd (cc is)
 updates name is s at tree keys stands =
     let p = parsed (update_text name) in
-    update_means s (table_for name).name (with_tree name tree keys) at stands (update_text name) p refl refl (update_sets p.statement) (update_test p.statement) (key_terms name) (over_terms name) refl refl refl refl refl
+    update_means s (table_for name).name (table_written name tree keys) at stands (update_text name) p refl refl (update_sets p.statement) (update_test p.statement) (key_terms name) (over_terms name) refl refl refl refl refl
+
+updated_no_rowid : (name : TableName) → is_updated name ≡ true → (keys : TableKeys) → rowid_of name keys ≡ None
+updated_no_rowid the.Meta is keys = absurd (cc is)
+updated_no_rowid _ is keys = refl
 
 -- ---- inside a transaction
 
@@ -55,8 +59,8 @@ module _ (name : TableName) (updated : is_updated name ≡ true) (sql : List ℕ
   sets_rows : (desk : Placing) → IsDesk desk → old.now.schema ≡ desk.schema → (count : ℕ) → Executes (update_text name) row old new (Ok count) → SetsRows desk (has_columns columns row) count
   sets_rows desk is has count done =
       subst (λ p. SetsRows desk p count) (key_passes name row)
-      (rows_updated desk is name old new has (update_text name) row fit (key_terms name) (within name)
-      (updates name updated desk.schema (is.stands name).at (desk.tree name) (is.stands name).keys (is_in desk is name)) count done)
+      (rows_updated desk is name old new has (updated_no_rowid name updated (desk.keys name)) (update_text name) row fit (key_terms name) (within name)
+      (updates name updated desk.schema (is.stands name).at (desk.tree name) (desk.keys name) (is_in desk is name)) count done)
 
   pub updates_row : OnOk r (Makes (with_each name columns row) old new)
   updates_row = makes (with_each name columns row) (update_text name) row old new r (λ desk is has count done. (sets_rows desk is has count done).0) (subst (λ t. RunsInside t row old new r) text ran)

@@ -18,7 +18,7 @@ use Rattle.agv_row_reading.specs.WorldAnswers.{HasNoWorld, HasWorld, AnswersQuer
 use Rattle.agv_row_reading.specs.Rowids.{AreTablesKeyed, TellsKeyed}
 use Rattle.agv_row_reading.specs.TablesRead.{HasCauseOverTables, HaveAll, TellsAll}
 use Rattle.agv_world_reading.specs.WorldIn.{world_in}
-use Rattle.agv_schema.specs.DeskRows.{AreKeyed, HaveRows, Holds, Placing, columns_in, table_names, width_of}
+use Rattle.agv_schema.specs.DeskRows.{AreKeyed, Holds, Placing, TableHas, shown_in, table_names}
 use Rattle.agv_rows.specs.Rows.{HoldsWorld}
 use Rattle.agv_schema.specs.SchemaNumbers.{desk_seats}
 use Rattle.agv_creation.specs.StandingTables.{TablesStand}
@@ -46,12 +46,12 @@ TellsItsWorld = (desk : Placing) (db : Database) (world : World) → HasWorld de
 
 -- ---- the rows under keys of their own
 
--- the columns of all entries of these tables, where they lie in these trees
+-- the rows of all entries of these tables, where they lie in these trees
 abbrev lists_by : Placing → Database → List TableName → List (List Row)
-lists_by at db = map (λ (name : TableName). map (columns_in (width_of name)) (db.trees (at.tree name)))
+lists_by at db = map (λ (name : TableName). map (shown_in at name) (db.trees (at.tree name)))
 
 rows_by : (at : Placing) (db : Database) (names : List TableName) → AllByRecursion (λ name. AreKeyed (db.trees (at.tree name))) names
-    → AllZip (λ name rows. HaveRows (width_of name) (db.trees (at.tree name)) rows) names (lists_by at db names)
+    → AllZip (TableHas at db.trees) names (lists_by at db names)
 rows_by at db [] keyed = tt
 rows_by at db (name ∷ names) keyed = ((keyed.0, IsPermutation-refl _), rows_by at db names keyed.1)
 

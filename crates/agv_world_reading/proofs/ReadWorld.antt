@@ -11,7 +11,7 @@ use Rattle.agv_world.specs.Maps.{maps_of}
 use Rattle.agv_world.specs.Worlds.{World}
 use Rattle.agv_world.specs.declared.world.World.{World as Tables}
 use Rattle.agv_rows.specs.Columns.{act_columns, edge_columns, hold_columns, job_columns, journey_columns, leg_columns, load_columns, node_columns, vehicle_capacity_columns, station_columns, used_columns, vehicle_columns}
-use Rattle.agv_schema.specs.DeskRows.{Placing, HaveRows, Holds, table_at, table_names, width_of}
+use Rattle.agv_schema.specs.DeskRows.{Placing, Holds, TableHas, table_at, table_names}
 use Rattle.agv_rows.specs.Rows.{AreAlike, HoldsWorld, TellRows, row_lists, rows_for, rows_in, rows_of}
 use Rattle.agv_row_reading.specs.TablesRead.{HaveAll}
 use Rattle.agv_rows.proofs.ListsHeld.{held_alike}
@@ -52,7 +52,7 @@ rows_told desk db lists tables holds world held have keeps are =
     let capacities : IsPermutation (table_at 11 lists) (table_at 11 (rows_of world)) = subst (λ t. IsPermutation (table_at 11 lists) (rows_in vehicle_capacity_columns t)) keeps.vehicles read.capacities in
     let journeys : IsPermutation (table_at 12 lists) (table_at 12 (rows_of world)) = subst (λ t. IsPermutation (table_at 12 lists) (rows_in journey_columns (journeys_of t))) keeps.trips read.journeys in
     let acts : IsPermutation (table_at 13 lists) (table_at 13 (rows_of world)) = subst (λ t. IsPermutation (table_at 13 lists) (rows_in act_columns (acts_of t))) keeps.trips read.acts in
-    all_alike (λ name rows. HaveRows (width_of name) (db.trees (desk.tree name)) rows) table_names lists (rows_of world) held.rows refl
+    all_alike (TableHas desk db.trees) table_names lists (rows_of world) held.rows refl
     (meta, (nodes, (edges, (stations, (vehicles, (trips, (legs, (loads, (jobs, (holds, (used, (capacities, (journeys, (acts, tt))))))))))))))
 
 pub world_held : (desk : Placing) (db : Database) (lists : List (List Row)) (tables : Tables) (holds : Holders) (world : World)

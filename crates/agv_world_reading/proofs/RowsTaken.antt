@@ -53,7 +53,7 @@ same_again a b same = (record { was_open = same.0.is_open; is_open = same.0.is_o
 -- the text reads a table of the desk, and no query within it
 ends : (name : TableName) (s : State) (desk : Placing) → IsDesk desk → s.now.schema ≡ desk.schema → (c : Compiled) (db : Database) (params : Row) → IsStatement s (all_rows_text name) [] c → EndsIn c.command db params
 ends name s desk is has c db params it =
-    let means = all_rows_asked name desk.schema (is.stands name).at (desk.tree name) (is.stands name).keys (is_in desk is name) in
+    let means = all_rows_asked name (desk.keys name) desk.schema (is.stands name).at (desk.tree name) (is_in desk is name) in
     subst (λ k. EndsIn k db params) (sym (ap command_of (sym it.is ∙ ap (λ schema. understood schema (all_rows_text name)) has) ∙ means.is)) tt
 
 module _ (name : TableName) where

@@ -1,9 +1,10 @@
 -- A database that has the rows of a lawful world tells that world.
-use Rattle.std.proofs.Common.{◌≡◌, ℕ, List, [], ◌∷◌, map, Option, None, Some, Ok, Err, Result, IsPermutation, slice_get, option_and_then, unwrap_or, refl, sym, ap, subst, ◌∙◌}
+use Rattle.std.proofs.Common.{◌≡◌, ℕ, Bool, List, [], ◌∷◌, map, Option, None, Some, Ok, Err, Result, IsPermutation, slice_get, option_and_then, option_map, unwrap_or, refl, sym, ap, subst, ◌∙◌}
 use Rattle.std.specs.FinMap as finite
 use Rattle.std.specs.List.{AllZip}
 use Rattle.sqlite_value.specs.Order.{Row}
 use Rattle.sqlite_schema.specs.declared.schema.Schema.{Schema}
+use Rattle.sqlite_schema.specs.declared.schema.Table.{Table}
 use Rattle.sqlite.specs.Effect.{Database}
 use Rattle.agv_header.specs.Key.{key_cmp}
 use Rattle.agv_rows.specs.TripRows.{acts_of, journeys_of}
@@ -15,45 +16,65 @@ use Rattle.agv_world.specs.Told.{world_of}
 use Rattle.agv_world.specs.Worlds.{World}
 use Rattle.agv_world.specs.declared.row.VehicleRow.{VehicleRow}
 use Rattle.agv_world.specs.declared.world.World.{World as Tables}
-use Rattle.agv_schema.specs.DeskRows.{HaveRows, Holds, IsDesk, Placing, columns_in, place_of, table_at, table_names, width_of}
+use Rattle.agv_schema.specs.DeskRows.{Holds, IsDesk, Placing, TableHas, is_first_required, key_by, place_of, row_shown, shown_in, table_at, table_in, table_names}
 use Rattle.agv_row_reading.specs.ReadTables.{Reads}
 use Rattle.agv_rows.specs.Rows.{AreAlike, rows_of}
 use Rattle.agv_schema.specs.SchemaNumbers.{desk_seats}
 use Rattle.agv_rows.specs.DecodedTrips.{capacities_of, trips_with}
 use Rattle.agv_row_reading.specs.WorldAnswers.{HasWorld}
-use Rattle.agv_world_reading.specs.WorldIn.{acts_in, capacities_in, jobs_in, journeys_in, lists_in, placed_in, tables_in, tree_named, tree_of, world_in}
+use Rattle.agv_world_reading.specs.WorldIn.{acts_in, capacities_in, jobs_in, journeys_in, found_as, keys_found, lists_in, placed_in, tables_in, tree_of, world_in}
 use Rattle.agv_row_reading.specs.declared.open_fault.OpenFault.{OpenFault}
 use Rattle.agv_row_reading.specs.declared.open_fault.OpenFault.TheVariants as fault
 use Rattle.agv_schema.specs.declared.table_name.TableName.{TableName}
 use Rattle.agv_schema.specs.declared.table_name.TableName.TheVariants as the
 use Rattle.agv_row_reading.proofs.Asking.{Follows}
+use Rattle.agv_schema.proofs.DeskPlaces.{shown_by_key}
 use Rattle.agv_rows.proofs.ListsTell.{alike_at}
 use Rattle.agv_world_reading.proofs.TableAnswers.{reads_vehicles, tells_capacities, tells_edges, tells_jobs, tells_legs, tells_nodes, tells_places, tells_stations, tells_used_names}
 use Rattle.agv_world_reading.proofs.TripTableAnswers.{AreActValues, AreJourneyValues, tells_acts, tells_journeys}
 
 -- ---- where the tables stand
 
--- the tables of a desk stand where SQL finds them by their names
+-- the tables of a desk are those that SQL finds by their names
+found_there : (desk : Placing) → IsDesk desk → (name : TableName) → found_as desk.schema name ≡ Some (table_in desk name)
+found_there desk is name = let its = is.stands name in ap (λ (at : Option ℕ). option_and_then (slice_get desk.schema.tables) at) its.named ∙ its.there
+
 pub placed_there : (desk : Placing) → IsDesk desk → (name : TableName) → (placed_in desk.schema).tree name ≡ desk.tree name
-placed_there desk is name = let its = is.stands name in ap (λ (at : Option ℕ). tree_of (option_and_then (slice_get desk.schema.tables) at)) its.named ∙ ap tree_of its.there
+placed_there desk is name = ap tree_of (found_there desk is name)
+
+-- so their rows are shown alike
+key_is : (r : Option Bool) (required : Bool) → key_by (option_map (λ _. required) (key_by r)) ≡ key_by r
+key_is None required = refl
+key_is (Some not_null) required = refl
+
+shown_there : (desk : Placing) → IsDesk desk → (name : TableName) → shown_in (placed_in desk.schema) name ≡ shown_in desk name
+shown_there desk is the.Meta =
+    let r = (desk.keys the.Meta).rowid in
+    let required = is_first_required (table_in desk the.Meta).columns in
+    ap (λ (o : Option Table). row_shown (keys_found o).rowid 2) (found_there desk is the.Meta) ∙ shown_by_key (option_map (λ _. required) (key_by r)) r 2 (key_is r required)
+shown_there desk is _ = refl
 
 -- ---- their rows
 
--- the columns of all entries of the named tables, where they lie in these trees
-abbrev lists_by : Database → (TableName → ℕ) → List TableName → List (List Row)
-lists_by db tree = map (λ (name : TableName). map (columns_in (width_of name)) (db.trees (tree name)))
+-- the rows of all entries of the named tables, where they are shown so and lie in these trees
+abbrev lists_by : Database → (TableName → (Row → Row) × ℕ) → List TableName → List (List Row)
+lists_by db at = map (λ (name : TableName). map (at name).0 (db.trees (at name).1))
 
-alike_by : (db : Database) (tree : TableName → ℕ) (names : List TableName) (lists : List (List Row)) → AllZip (λ name rows. HaveRows (width_of name) (db.trees (tree name)) rows) names lists → AreAlike lists (lists_by db tree names)
-alike_by db tree [] [] have = tt
-alike_by db tree [] (rows ∷ lists) have = absurd have
-alike_by db tree (name ∷ names) [] have = absurd have
-alike_by db tree (name ∷ names) (rows ∷ lists) have = (have.0.1, alike_by db tree names lists have.1)
+abbrev at_desk : Placing → TableName → (Row → Row) × ℕ
+at_desk desk name = (shown_in desk name, desk.tree name)
+
+alike_by : (db : Database) (desk : Placing) (names : List TableName) (lists : List (List Row)) → AllZip (TableHas desk db.trees) names lists → AreAlike lists (lists_by db (at_desk desk) names)
+alike_by db desk [] [] have = tt
+alike_by db desk [] (rows ∷ lists) have = absurd have
+alike_by db desk (name ∷ names) [] have = absurd have
+alike_by db desk (name ∷ names) (rows ∷ lists) have = (have.0.1, alike_by db desk names lists have.1)
 
 pub lists_alike : (desk : Placing) (db : Database) (lists : List (List Row)) → IsDesk desk → Holds desk db lists → AreAlike lists (lists_in db)
 unfolding lists_in
 lists_alike desk db lists is held =
-    let there : (name : TableName) → tree_named db.schema name ≡ desk.tree name = λ name. ap (λ (s : Schema). tree_named s name) held.schema_is ∙ placed_there desk is name in
-    subst (λ (tree : TableName → ℕ). AreAlike lists (lists_by db tree table_names)) (λ i name. sym (there name) i) (alike_by db desk.tree table_names lists held.rows)
+    let same : at_desk (placed_in db.schema) ≡ at_desk desk =
+    ap (λ (s : Schema). at_desk (placed_in s)) held.schema_is ∙ (λ i name. (shown_there desk is name i, placed_there desk is name i)) in
+    subst (λ (at : TableName → (Row → Row) × ℕ). AreAlike lists (lists_by db at table_names)) (sym same) (alike_by db desk table_names lists held.rows)
 
 -- ---- the tables that they tell
 

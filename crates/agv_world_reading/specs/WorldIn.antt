@@ -1,5 +1,5 @@
 -- The world that the desk's tables tell in a database: one for each database, whatever it has.
-use Rattle.std.specs.Prelude.{ℕ, List, map, Option, None, Some, option_and_then, slice_get, unwrap_or}
+use Rattle.std.specs.Prelude.{ℕ, List, [], map, Option, None, Some, option_and_then, slice_get, unwrap_or}
 use Rattle.std.specs.FinMap as finite
 use Rattle.std.specs.FinSet as set
 use Rattle.std.specs.declared.cmp.Ordering.{Ordering}
@@ -19,7 +19,7 @@ use Rattle.agv_world.specs.declared.row.JobRow.{JobRow}
 use Rattle.agv_world.specs.declared.world.World.{World as Tables}
 use Rattle.agv_rows.specs.declared.capacity_row.CapacityRow.{CapacityRow}
 use Rattle.agv_rows.specs.Columns.{act_in, capacity_in, edge_in, job_in, journey_in, leg_in, load_in, node_in, station_in, used_in}
-use Rattle.agv_schema.specs.DeskRows.{Placing, columns_in, place_of, table_at, table_for, table_names, width_of}
+use Rattle.agv_schema.specs.DeskRows.{Placing, TableKeys, keys_of, place_of, shown_in, table_at, table_for, table_names}
 use Rattle.agv_row_reading.specs.ReadTables.{read_members, read_rows}
 use Rattle.agv_rows.specs.DecodedTrips.{trips_with, vehicle_with}
 use Rattle.agv_schema.specs.declared.table_name.TableName.{TableName}
@@ -27,24 +27,28 @@ use Rattle.agv_schema.specs.declared.table_name.TableName.TheVariants as the
 
 -- ---- where the tables stand
 
--- the tree of a table that is found; no tree of a table is 0
+-- the tree of a table that is found, and how its keys are written; no tree of a table is 0
 abbrev pub tree_of : Option Table → ℕ
 tree_of None = 0
 tree_of (Some table) = table.tree
 
--- the tree of the table that SQL finds by that name
-abbrev pub tree_named : Schema → TableName → ℕ
-tree_named schema name = tree_of (option_and_then (slice_get schema.tables) (table_named schema (table_for name).name))
+abbrev pub keys_found : Option Table → TableKeys
+keys_found None = record { primary = []; all = []; rowid = None }
+keys_found (Some table) = keys_of table
+
+-- the table that SQL finds by that name
+abbrev pub found_as : Schema → TableName → Option Table
+found_as schema name = option_and_then (slice_get schema.tables) (table_named schema (table_for name).name)
 
 -- where the fourteen stand in the schema, if they do
 abbrev pub placed_in : Schema → Placing
-placed_in schema = record { schema = schema; tree = tree_named schema }
+placed_in schema = record { schema = schema; tree = λ name. tree_of (found_as schema name); keys = λ name. keys_found (found_as schema name) }
 
 -- ---- what they have
 
--- the columns of all entries of each of the fourteen, in the order of `table_names`
+-- the rows of all entries of each of the fourteen, in the order of `table_names`
 unfoldable pub lists_in : Database → List (List Row)
-lists_in db = map (λ (name : TableName). map (columns_in (width_of name)) (db.trees ((placed_in db.schema).tree name))) table_names
+lists_in db = map (λ (name : TableName). map (shown_in (placed_in db.schema) name) (db.trees ((placed_in db.schema).tree name))) table_names
 
 -- ---- what that tells
 

@@ -1,5 +1,5 @@
 -- The rows of a table where an entry is added, and where the entries of some rowids are taken out.
-use Rattle.std.proofs.Common.{◌≡◌, ℕ, ℤ, Bool, true, false, not, ◌&&◌, ◌||◌, cond, List, [], ◌∷◌, map, filter, Ordering, Less, Equal, Greater, refl, sym, ap, subst, ◌∙◌, inl, inr, IsPermutation}
+use Rattle.std.proofs.Common.{◌≡◌, ℤ, Bool, true, false, not, ◌&&◌, ◌||◌, cond, List, [], ◌∷◌, map, filter, Ordering, Less, Equal, Greater, refl, sym, ap, subst, ◌∙◌, inl, inr, IsPermutation}
 use Rattle.std.specs.List.{list_any}
 use Rattle.std.specs.Ordering.{is_eq, match_ordering}
 use Rattle.std.proofs.lemmas.Bool.{cases_Bool, or_parts, false_from_ne_true}
@@ -15,7 +15,7 @@ use Rattle.sqlite_rules.specs.Calls.{ids_of}
 use Rattle.sqlite_rules.specs.Edit.{id_in, is_taken, without_all}
 use Rattle.sqlite_rules.proofs.ListLemmas.{has_filtered, has_kept, some_has, some_from, all_has}
 use Rattle.sqlite_rules.proofs.TableLemmas.{int_is}
-use Rattle.agv_schema.specs.DeskRows.{AreKeyed, columns_in, HaveRows}
+use Rattle.agv_schema.specs.DeskRows.{AreKeyed, HaveRows}
 use Rattle.agv_schema.proofs.KeyedEntries.{keyed_put, keyed_filter, same_by_id, tied_ids}
 
 -- ---- lists
@@ -60,10 +60,10 @@ beside_others new (e ∷ entries) free = go (value_cmp (rowid e) (rowid new)) (o
     go Equal other later = absurd (cc)
     go Greater other later = IsPermutation-refl _
 
-pub one_more_row : (width : ℕ) (new : Row) (entries rows : List Row) → is_taken entries new ≡ false → is_int (rowid new) ≡ true → HaveRows width entries rows → HaveRows width (put_row new entries) (columns_in width new ∷ rows)
-one_more_row width new entries rows free whole h = (
+pub one_more_row : (shown : Row → Row) (new : Row) (entries rows : List Row) → is_taken entries new ≡ false → is_int (rowid new) ≡ true → HaveRows shown entries rows → HaveRows shown (put_row new entries) (shown new ∷ rows)
+one_more_row shown new entries rows free whole h = (
   keyed_put new entries whole free h.0,
-  IsPermutation-trans _ _ _ (IsPermutation-cons (columns_in width new) _ _ h.1) (IsPermutation-map (columns_in width) _ _ (beside_others new entries free)),
+  IsPermutation-trans _ _ _ (IsPermutation-cons (shown new) _ _ h.1) (IsPermutation-map shown _ _ (beside_others new entries free)),
 )
 
 -- ---- entries are taken out
@@ -99,9 +99,9 @@ module _ (p : Row → Bool) (entries : List Row) (keyed : AreKeyed entries) wher
   others_stay : (ids : List ℤ) → IsPermutation (ids_of (filter p entries)) ids → without_all entries ids ≡ filter (λ e. not (p e)) entries
   others_stay ids are = taken_by_ids ids entries ∙ same_filter _ _ entries (λ e there. ap not (sym (list_any-IsPermutation (λ id. has_rowid id e) _ _ are) ∙ id_passes e there))
 
-pub fewer_rows : (width : ℕ) (p : Row → Bool) (entries rows : List Row) → HaveRows width entries rows → (ids : List ℤ) → IsPermutation (ids_of (filter (λ e. p (columns_in width e)) entries)) ids
-    → HaveRows width (without_all entries ids) (filter (λ row. not (p row)) rows)
-fewer_rows width p entries rows h ids are = rw (others_stay (λ e. p (columns_in width e)) entries h.0 ids are) (
+pub fewer_rows : (shown : Row → Row) (p : Row → Bool) (entries rows : List Row) → HaveRows shown entries rows → (ids : List ℤ) → IsPermutation (ids_of (filter (λ e. p (shown e)) entries)) ids
+    → HaveRows shown (without_all entries ids) (filter (λ row. not (p row)) rows)
+fewer_rows shown p entries rows h ids are = rw (others_stay (λ e. p (shown e)) entries h.0 ids are) (
   keyed_filter _ entries h.0,
-  subst (IsPermutation (filter (λ row. not (p row)) rows)) (filter_of_map (λ row. not (p row)) (columns_in width) entries) (IsPermutation-filter (λ row. not (p row)) _ _ h.1),
+  subst (IsPermutation (filter (λ row. not (p row)) rows)) (filter_of_map (λ row. not (p row)) shown entries) (IsPermutation-filter (λ row. not (p row)) _ _ h.1),
 )

@@ -1,5 +1,5 @@
 -- Why a look-up fails, where its error is a fault of the store.
-use Rattle.std.proofs.Common.{◌≡◌, ◌≤◌, ◌&&◌, ◌∙◌, inl, inr, ℕ, zero, suc, pos, slice_get, true, List, [], ◌∷◌, length, Option, None, Some, Ok, Err, Result, IfErr, option_map, option_and_then, Vec, Global, refl, sym, ap, subst, append-nil, lit≤}
+use Rattle.std.proofs.Common.{◌≡◌, ◌≤◌, ◌&&◌, ◌∙◌, inl, inr, ℕ, zero, suc, pos, slice_get, Bool, true, List, [], ◌∷◌, length, map, Option, None, Some, Ok, Err, Result, IfErr, option_map, option_and_then, Vec, Global, refl, sym, ap, subst, append-nil, lit≤}
 use Rattle.sqlite_value.specs.Order.{Row, column}
 use Rattle.sqlite_value.specs.declared.value.Value.{Value}
 use Rattle.sqlite_value.specs.declared.value.Value.TheVariants.{Null, Int, Real, Text, Blob}
@@ -12,7 +12,7 @@ use Rattle.sqlite_sql.specs.declared.ops.BinaryOp.TheVariants.{Compare}
 use Rattle.sqlite_sql.specs.declared.ops.CompareOp.TheVariants.{Eq}
 use Rattle.sqlite_schema.specs.declared.schema.Kind.TheVariants as kind
 use Rattle.sqlite_tied.specs.Compute.{everything}
-use Rattle.sqlite_typing.specs.Types.{class_of, column_class, binary_class, accepts_after, accepts_program, row_classes, is_count}
+use Rattle.sqlite_typing.specs.Types.{class_in, class_of, column_class, binary_class, accepts_after, accepts_program, row_classes, is_count}
 use Rattle.sqlite_schema.specs.declared.schema.Column.{Column}
 use Rattle.sqlite_schema.specs.declared.command.Command.TheVariants.{Select}
 use Rattle.sqlite.specs.declared.error.Error.{Error}
@@ -21,18 +21,18 @@ use Rattle.sqlite.specs.Listing.{understood, reads_listing, IsSourceOf}
 use Rattle.sqlite.specs.State.{State, IsNotRun, FailsToQuery}
 use Rattle.sqlite.proofs.Callers.{IsPlain, command_of}
 use Rattle.std.proofs.lemmas.Bool.{and_parts}
-use Rattle.agv_schema.specs.DeskRows.{table_for, Placing, IsDesk, StandApart, is_of_kind, fits}
+use Rattle.agv_schema.specs.DeskRows.{TableKeys, columns_by, rowid_of, table_for, Placing, IsDesk, StandApart, is_of_kind, fits}
 use Rattle.agv_schema.specs.Errors.{IsOfStore}
 use Rattle.agv_schema.specs.declared.table_name.TableName.{TableName}
 use Rattle.agv_schema.specs.declared.table_name.TableName.TheVariants as the
-use Rattle.agv_schema.proofs.OneTable.{Means, parsed, query_in, compiled_as}
-use Rattle.agv_schema.proofs.DeskPlaces.{is_in_alone, one_stands}
+use Rattle.agv_schema.proofs.OneTable.{Means, parsed, query_by, query_in, compiled_as}
+use Rattle.agv_schema.proofs.DeskPlaces.{is_in, is_in_alone, one_stands}
 use Rattle.agv_statements.proofs.sql.Failing.{IsCaused, IsWhole, caused, is_statement}
 use Rattle.agv_schema.specs.RowTexts.{is_looked_up, look_up_text}
 use Rattle.agv_statements.specs.RowQueries.{table_asked, columns_asked, columns_at, FitsColumns, query_text, all_rows_text}
 use Rattle.agv_schema.specs.declared.rows_by.RowsBy.{RowsBy}
 use Rattle.agv_schema.specs.declared.rows_by.RowsBy.TheVariants as by
-use Rattle.agv_statements.proofs.QueryMeanings.{AsksFor, AsksIn, query_terms, query_asks, all_rows_asked}
+use Rattle.agv_statements.proofs.QueryMeanings.{query_terms, query_asks, all_rows_asked, shown_terms, terms_by}
 use Rattle.agv_statements.proofs.RowMeanings.{key_terms, looks_up, column_terms, column_names}
 
 -- ---- types
@@ -144,9 +144,13 @@ query_typed by.LoadJobs params h =
     let k1 : is_of_kind kind.Text (column params 1) ≡ true = fits_at (columns_at the.Job (columns_asked by.LoadJobs)) params h 1 _ refl in
     rw (text_compares (column params 0) k0, text_compares (column params 1) k1)
 
-all_typed : (name : TableName) → IsTypedFor name [] []
-all_typed the.Meta = refl
-all_typed _ = refl
+all_typed : (name : TableName) (keys : TableKeys) → IsTypedTo name [] (shown_terms name keys) []
+all_typed the.Meta keys = meta_typed keys.rowid
+  where
+    meta_typed : (r : Option Bool) → IsTypedTo the.Meta [] (terms_by r 2) []
+    meta_typed None = refl
+    meta_typed (Some not_null) = refl
+all_typed _ keys = refl
 
 -- ---- why it fails
 
@@ -158,14 +162,20 @@ IsWholeText sql n = (length sql ≤ (parsed sql).tail) × (length (parsed sql).n
 abbrev pub NeverOverflows : Option Grouping → Type 0
 NeverOverflows group = (all : List Env) → ¬ Overflows (option_map grouping_of group) all
 
-module _ (group : Option Grouping) (fit : NeverOverflows group) (name : TableName) (terms project : List Term) (names : List (List ℕ)) (sql : List ℕ) (asks : AsksIn group name sql terms project names)
-    (params : Row) (whole : IsWholeText sql (length params)) (typed : IsTypedIn group name terms project params)
-    (old new : State) (e : Error) (desk : Placing) (stand : StandApart desk (name ∷ [])) (has : old.now.schema ≡ desk.schema) where
-  abbrev means : Means desk.schema sql (Select (record { lets = []; body = query_in group (desk.tree name) terms project }) names)
-  means = asks desk.schema stand.stands.0.at (desk.tree name) stand.stands.0.keys (is_in_alone desk name stand.stands.0 stand.apart)
+-- the rowid is of the class of the column that it is
+same_classes : (r : Option Bool) (columns : List Column) → map class_in (columns_by r columns) ≡ map class_in columns
+same_classes None columns = refl
+same_classes (Some not_null) [] = refl
+same_classes (Some not_null) (c ∷ columns) = refl
 
+module _ (group : Option Grouping) (fit : NeverOverflows group) (name : TableName) (terms project : List Term) (names : List (List ℕ)) (sql : List ℕ)
+    (params : Row) (whole : IsWholeText sql (length params)) (typed : IsTypedIn group name terms project params)
+    (old new : State) (e : Error) (desk : Placing) (stand : StandApart desk (name ∷ [])) (has : old.now.schema ≡ desk.schema)
+    (means : Means desk.schema sql (Select (record { lets = []; body = query_in group (desk.tree name) terms project }) names)) where
   accepted : accepts_program desk.schema [] (query_in group (desk.tree name) terms project) params ≡ true
-  accepted = let here = is_in_alone desk name stand.stands.0 stand.apart in rw (here.low, here.by_tree, typed)
+  accepted =
+      let here = is_in_alone desk name stand.stands.0 stand.apart in
+      rw (here.low, here.by_tree, same_classes (rowid_of name (desk.keys name)) (table_for name).columns, typed)
 
   refused : (db : Database) → db.schema ≡ desk.schema → RefusesToRead old.step_limit (Select (record { lets = []; body = query_in group (desk.tree name) terms project }) names) db params e → IsCaused old new
   refused db schema (inl untyped) = absurd (let wrong = sym (ap (λ s. accepts_program s [] (query_in group (desk.tree name) terms project) params) schema ∙ accepted) ∙ untyped.1 in cc)
@@ -188,8 +198,9 @@ module _ (group : Option Grouping) (fit : NeverOverflows group) (name : TableNam
       refused shows.0 schema (subst (λ k. RefusesToRead old.step_limit k shows.0 params e) (ap command_of known ∙ means.is) shows.2)
 
 -- the same with nothing grouped
-pub read_caused : (name : TableName) (terms project : List Term) (names : List (List ℕ)) (sql : List ℕ) → AsksFor name sql terms project names → (params : Row) → IsWholeText sql (length params)
+pub read_caused : (name : TableName) (terms project : List Term) (names : List (List ℕ)) (sql : List ℕ) (params : Row) → IsWholeText sql (length params)
     → IsTypedTo name terms project params → (old new : State) (e : Error) (desk : Placing) → StandApart desk (name ∷ []) → old.now.schema ≡ desk.schema
+    → Means desk.schema sql (Select (record { lets = []; body = query_by (desk.tree name) terms project }) names)
     → IsOfStore e → FailsToQuery sql params old new e → IsCaused old new
 read_caused = read_caused_in None (λ all none. none)
 
@@ -225,17 +236,20 @@ module _ (params : Row) (old new : State) (r : Result (Vec Row Global) Error) (s
   pub key_caused : (name : TableName) → is_looked_up name ≡ true → sql ≡ look_up_text name
       → IfErr r (λ e. IsOfStore e → (desk : Placing) → IsDesk desk → old.now.schema ≡ desk.schema → FitsColumns name (table_for name).primary params → IsCaused old new)
   key_caused name looked_up text = on_err_all r (λ e h stored desk is has fit.
-      read_caused name (key_terms name) (column_terms name) (column_names name) (look_up_text name) (looks_up name looked_up) params (subst (IsWholeText (look_up_text name)) (sym (fits_length _ params fit)) (key_whole name looked_up)) (key_typed name params fit) old new e desk (one_stands desk is name) has stored
+      read_caused name (key_terms name) (column_terms name) (column_names name) (look_up_text name) params (subst (IsWholeText (look_up_text name)) (sym (fits_length _ params fit)) (key_whole name looked_up)) (key_typed name params fit) old new e desk (one_stands desk is name) has
+      (looks_up name looked_up desk.schema (is.stands name).at (desk.tree name) (desk.keys name) (is_in desk is name)) stored
       (subst (λ t. FailsToQuery t params old new e) text h)) fails
 
   -- by other columns
   pub query_caused : (query : RowsBy) → sql ≡ query_text query → IfErr r (λ e. IsOfStore e → (desk : Placing) → IsDesk desk → old.now.schema ≡ desk.schema → FitsColumns (table_asked query) (columns_asked query) params → IsCaused old new)
   query_caused query text = on_err_all r (λ e h stored desk is has fit.
-      read_caused (table_asked query) (query_terms query) (column_terms (table_asked query)) (column_names (table_asked query)) (query_text query) (query_asks query) params (subst (IsWholeText (query_text query)) (sym (fits_length _ params fit)) (query_whole query)) (query_typed query params fit) old new e desk (one_stands desk is (table_asked query)) has stored
+      read_caused (table_asked query) (query_terms query) (column_terms (table_asked query)) (column_names (table_asked query)) (query_text query) params (subst (IsWholeText (query_text query)) (sym (fits_length _ params fit)) (query_whole query)) (query_typed query params fit) old new e desk (one_stands desk is (table_asked query)) has
+      (query_asks query desk.schema (is.stands (table_asked query)).at (desk.tree (table_asked query)) (desk.keys (table_asked query)) (is_in desk is (table_asked query))) stored
       (subst (λ t. FailsToQuery t params old new e) text h)) fails
 
   -- all rows
   pub all_caused : (name : TableName) → params ≡ [] → sql ≡ all_rows_text name → IfErr r (λ e. IsOfStore e → (desk : Placing) → StandApart desk (name ∷ []) → old.now.schema ≡ desk.schema → IsCaused old new)
   all_caused name none text = on_err_all r (λ e h stored desk stand has.
-      read_caused name [] (column_terms name) (column_names name) (all_rows_text name) (all_rows_asked name) [] (all_whole name) (all_typed name) old new e desk stand has stored
+      read_caused name [] (shown_terms name (desk.keys name)) (column_names name) (all_rows_text name) [] (all_whole name) (all_typed name (desk.keys name)) old new e desk stand has
+      (all_rows_asked name (desk.keys name) desk.schema stand.stands.0.at (desk.tree name) (is_in_alone desk name stand.stands.0 stand.apart)) stored
       (subst (λ p. FailsToQuery (all_rows_text name) p old new e) none (subst (λ t. FailsToQuery t params old new e) text h))) fails

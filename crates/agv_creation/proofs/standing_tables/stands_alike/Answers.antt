@@ -2,8 +2,8 @@ use Rattle.std.proofs.Common.{rules, ◌≡◌, ◌∙◌, ◌^◌, false, ℕ, 
 use Rattle.std.proofs.lemmas.Option.{same_Some}
 use Rattle.sqlite_schema.specs.Names.{table_named}
 use Rattle.sqlite_schema.specs.declared.schema.Table.{Table}
-use Rattle.agv_schema.specs.DeskRows.{SameKeys, TableKeys, with_keys}
-use Rattle.agv_creation.specs.StandingTables.{IsAlike, keys_of}
+use Rattle.agv_schema.specs.DeskRows.{SameKeys, TableKeys, keys_of, with_keys}
+use Rattle.agv_creation.specs.StandingTables.{IsAlike}
 use Rattle.agv_creation.proofs.standing_tables.stands_alike.Goals as goal
 
 -- a table with the keys of another, however written, is alike
