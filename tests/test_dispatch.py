@@ -8,8 +8,9 @@ from programs import PATIENCE
 from test_program import Serving, over_sockets
 
 from nulvrader.client import Desk
-from nulvrader.dispatch.dispatcher import BY_ITSELF, Course, Dispatcher
+from nulvrader.dispatch.dispatcher import Dispatcher
 from nulvrader.dispatch.memory import Memory
+from nulvrader.dispatch.shut_in import BY_ITSELF, Course, ShutIn, is_on_course
 from nulvrader.dispatch.traffic import Judge, Still, Traffic
 from nulvrader.dispatch.ways import Ways
 from nulvrader.layouts import read_layout
@@ -310,25 +311,39 @@ class Pure(unittest.TestCase):
 
     def test_what_was_to_be(self):
         """Whether a vehicle does what it was to do at the end of the turn before."""
-        dispatcher = Dispatcher(Desk('127.0.0.1:1'), read_layout(LAYOUT))
         way, end = tuple('abcd'), tuple('d')
-        for course, asked, order, left, wanted in (
+        for before, asked, order, left, wanted in (
             (Course('O1', way, 3), None, 'O1', way[1:], True),
             (Course('O1', way, 3), None, 'O1', tuple('abx'), False),
             (Course('O1', way, 3), None, None, way[1:], False),  # it was cancelled
             (Course('O1', way, 3), None, None, end, False),  # somebody has placed it at its end
-            (Course('O1', end, 0), None, None, end, True),
-            (Course(None, end, 0), None, None, end, True),
-            (Course(None, end, 0), None, None, tuple('c'), False),
-            (Course(None, end, 0), None, 'O2', tuple('dc'), False),  # a person's order
-            (Course(None, end, 0), ('O2', True), 'O2', tuple('dc'), True),  # this dispatcher's, though no answer came
-            (Course(None, end, 0), ('O2', False), 'O2', tuple('dc'), False),
+            (Course('O1', end), None, None, end, True),
+            (Course(None, end), None, None, end, True),
+            (Course(None, end), None, None, tuple('c'), False),
+            (Course(None, end), None, 'O2', tuple('dc'), False),  # a person's order
+            (Course(None, end), ('O2', True), 'O2', tuple('dc'), True),  # this dispatcher's, though no answer came
+            (Course(None, end), ('O2', False), 'O2', tuple('dc'), False),
             (None, None, None, end, False),
         ):
-            dispatcher._courses = {} if course is None else {'v': course}
-            dispatcher._memory['v'] = Memory(asked=asked)
-            with self.subTest(course=course, asked=asked, order=order):
-                self.assertEqual(dispatcher._is_on_course('v', order, left), wanted)
+            with self.subTest(before=before, asked=asked, order=order):
+                self.assertEqual(is_on_course(before, Course(order, left), asked), wanted)
+
+    def test_what_a_short_look_misses_in_the_first_turn(self):
+        """Four vehicles on a ring of five nodes with two bays can all finish. A look at one state does not find how; the first one of a
+        dispatcher is longer, and the moves that it has found are kept."""
+        ways = {'v0': ('r0', 'r1', 'r2', 'r3', 'r4'), 'v1': ('r4', 'r0', 'r1', 'r2', 'r3'), 'v2': ('r2', 'r3', 'r4', 'r0'),
+                'v3': ('b1', 'r1', 'r2', 'r3', 'b3')}
+        traffic, judge = Traffic(ways), Judge(deep=1)
+        self.assertLess(judge.finish_later(traffic), ways.keys())
+        for first in (True, False):
+            judge = Judge(deep=1)
+            shut_in = ShutIn(judge, {name: Memory(order='O') for name in ways})
+            if not first:
+                shut_in.end_turn(traffic, 0.0)
+            judge.begin_turn()
+            shut_in.begin_turn(traffic)
+            self.assertEqual(shut_in.end_turn(traffic, 1.0), [])
+            self.assertEqual(shut_in.told() == {}, first)
 
     def test_one_that_stands_still_is_not_shut_in(self):
         """KIT/0001 is paused at b and goes to e by the single track c, d. KIT/0002 comes from e and ends at c: it waits, since the

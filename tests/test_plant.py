@@ -16,7 +16,7 @@ if os.path.join(ROOT, 'examples') not in sys.path:
     sys.path.insert(0, os.path.join(ROOT, 'examples'))
 assert TOOLS in sys.path
 
-from nulvrader.dispatch.dispatcher import BEFORE, BY_ITSELF  # noqa: E402
+from nulvrader.dispatch.shut_in import BEFORE, BY_ITSELF  # noqa: E402
 from simulation.day import TIME_OVER, Day  # noqa: E402
 from simulation.plan import CALM, Habits, Line, Nature, Plan, Trouble  # noqa: E402
 from simulation.plant import Plant  # noqa: E402

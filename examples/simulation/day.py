@@ -5,7 +5,7 @@ from collections import Counter
 from collections.abc import Callable
 from dataclasses import dataclass, field
 
-from nulvrader.dispatch.dispatcher import BEFORE, BY_ITSELF, SHUT_IN
+from nulvrader.dispatch.shut_in import BEFORE, BY_ITSELF, SHUT_IN
 
 LONG = 300.0
 """A wait of more seconds is kept with its reason; so is the longest, however long it is."""

@@ -11,7 +11,7 @@ from collections.abc import Callable, Mapping
 from typing import Protocol
 
 from nulvrader.client import Desk, NoAnswer
-from nulvrader.dispatch.dispatcher import BEFORE
+from nulvrader.dispatch.shut_in import BEFORE
 from nulvrader.names import VehicleKey
 from nulvrader.questions import who_waits
 from nulvrader.reports import Stock, read_holds, read_loads, read_stock

@@ -17,39 +17,12 @@ from .choose import Chooser, Proposal
 from .jobs import JobBook, Waiting
 from .lines import Lines
 from .memory import Memory
+from .shut_in import MOST_TIMES, ShutIn
 from .snapshot import Seen, Snapshot, take
 from .traffic import Judge, Still, Traffic
 from .ways import Ways
 
-MOST_TIMES = 64
-"""The look is given more states where nothing moves, up to so many times as many."""
-
-SHUT_IN = 60.0
-"""An order that has not left its first node, and can't finish for so many seconds, is cancelled, though others move."""
-
-LONGER = 4
-"""The look that has to find this too has so many times as many states."""
-
 NONE_FREE = 'no vehicle is free'
-
-BY_ITSELF = 'by this dispatcher itself'
-"""Why vehicles are shut in where nothing but what the dispatcher has done can have led to it: that is not to happen."""
-
-BEFORE = 'before this dispatcher began'
-"""Why they are where they were so in its first turn."""
-
-
-@dataclass(frozen=True)
-class Course:
-    """What a vehicle was to do at the end of a turn: its order if it goes on with one, its way, and how many edges are not released."""
-
-    order: str | None
-    way: Sequence[str]
-    left: int
-
-    def leads_to(self, way: Sequence[str]) -> bool:
-        """Whether this is its way still, or what is left of it."""
-        return tuple(self.way[-len(way) :]) == tuple(way)
 
 
 @dataclass(frozen=True)
@@ -89,7 +62,7 @@ class Dispatcher:
         self._waits: Mapping[str, str] = {}
         self._last: Snapshot | None = None
         self._memory: dict[str, Memory] = {}
-        self._courses: Mapping[str, Course] | None = None  # of all vehicles, at the end of the last turn
+        self._shut_in = ShutIn(self.judge, self._memory)
 
     def turn(self) -> bool:
         """One look at the desk, and what follows. Whether the desk answered; where it did not, or has a fault, the next turn may."""
@@ -107,8 +80,7 @@ class Dispatcher:
 
     def shut_in(self) -> Mapping[str, tuple[float, str]]:
         """The vehicles that others shut in, as of the last turn: since when, and why."""
-        found = ((name, memory.shut_in, memory.shut_by) for name, memory in self._memory.items())
-        return {name: (since, why) for name, since, why in found if since is not None and why is not None}
+        return self._shut_in.told()
 
     def _turn(self) -> None:
         now = self.clock()
@@ -121,18 +93,14 @@ class Dispatcher:
         held = {**{'node ' + node: str(key) for node, key in seen.holds.nodes.items()},
                 **{'edge ' + edge: str(key) for edge, key in seen.holds.edges.items()}}
         reasons: dict[str, str] = {}
-        changed = self._changes(seen, traffic)
         self.judge.begin_turn()
-        finish = self.judge.finish_later(traffic)
+        self._shut_in.begin_turn(traffic)
         self.chooser.begin_turn()
         released, traffic = self._release(seen, traffic, held, reasons, now)
         idle = {name: one for name, one in seen.vehicles.items() if one.order is None and self._out_of_use(one, now) is None}
         started, traffic = self._start(idle, traffic, held, reasons)
         self._look_deeper(seen, traffic, bool(released or started))
-        self._untangle(seen, traffic, lambda name: BY_ITSELF if name in finish else changed, now)
-        parked, left = traffic.parked, {name: memory.left for name, memory in self._memory.items()}
-        orders = {name: None if name in parked else memory.order for name, memory in self._memory.items()}
-        self._courses = {name: Course(orders[name], way, left[name]) for name, way in traffic.ways_later().items()}
+        self._untangle(seen, traffic, now)
         self._tell_waits(reasons, now)
         self._tell_none_free(seen, idle, now)
         self.book.note(reasons)
@@ -345,47 +313,11 @@ class Dispatcher:
         elif moved:
             self.judge.times = 1
 
-    def _changes(self, seen: Snapshot, traffic: Traffic) -> str:
-        """Why vehicles are shut in that were not so at the end of the turn before: which of them are not on the course that they had then,
-        by what the dispatcher has not done."""
-        if self._courses is None:
-            return BEFORE
-        found = []
-        for name, way in traffic.ways_later().items():
-            order = None if name in traffic.parked else seen.vehicles[name].order
-            if self._is_on_course(name, None if order is None else order.name, way):
-                continue
-            if order is None:
-                found.append('%s stands at %s' % (name, way[0]))
-            else:
-                unknown = self._memory[name].asked == (order.name, False)
-                found.append('%s%s goes on to %s' % (name, ', whose target was not known,' if unknown else '', order.nodes[-1].name))
-        return 'since ' + ', '.join(sorted(found, key=natural)) if found else BY_ITSELF
-
-    def _is_on_course(self, name: str, order: str | None, way: Sequence[str]) -> bool:
-        """Whether a vehicle with this order and way does what it was to do: it goes on with its order, or has just the order that the
-        dispatcher has asked for; or it stands where it stood, or where its order has ended."""
-        assert self._courses is not None
-        course = self._courses.get(name)
-        if order is not None and (course is None or course.order != order):
-            return self._memory[name].asked == (order, True)
-        if course is None or order is None and course.order is not None and course.left > 0:
-            return False
-        return course.leads_to(way)
-
-    def _untangle(self, seen: Snapshot, traffic: Traffic, why: Callable[[str], str], now: float) -> None:
+    def _untangle(self, seen: Snapshot, traffic: Traffic, now: float) -> None:
         """Where vehicles with orders shut one another in, cancels an order of these that has not left its first node: at once where
         nothing moves, else where it has been so for a while. It comes to that by orders whose targets were not known when they were
-        given, and by people who place a vehicle in a dead end. Where there is no such order it says so. `why` tells of one that is shut
-        in from this turn on why it is so."""
-        shut_in = traffic.ways.keys() - self.judge.finish_later(traffic)
-        for name, memory in self._memory.items():
-            if name not in shut_in:
-                memory.shut_in = memory.shut_by = None
-                continue
-            memory.shut_in = now if memory.shut_in is None else memory.shut_in
-            memory.shut_by = memory.shut_by or why(name)
-        stay = [seen.vehicles[name] for name in sorted(shut_in, key=natural) if self._stays_so(name, traffic, now)]
+        given, and by people who place a vehicle in a dead end. Where there is no such order it says so."""
+        stay = [seen.vehicles[name] for name in self._shut_in.end_turn(traffic, now)]
         for vehicle in stay:
             fresh = vehicle.row.sent == vehicle.row.confirmed == 0 and vehicle.edges == 0 and not vehicle.loads
             if fresh and vehicle.row.pending is None and self._cancel(vehicle):
@@ -393,18 +325,6 @@ class Dispatcher:
         told = ['%s is shut in, %s' % (vehicle.name, self._memory[vehicle.name].shut_by) for vehicle in stay]
         if self.lines.lasts('shut in', '; '.join(told) or None, now):
             self.say('%s: cancel the order of one' % '; '.join(told))
-
-    def _stays_so(self, name: str, traffic: Traffic, now: float) -> bool:
-        """Whether a vehicle that is shut in does not get free: nothing moves, or it has been so for a while, by a longer look too."""
-        if self.judge.times >= MOST_TIMES:
-            return True
-        since = self._memory[name].shut_in
-        if since is None or now - since < SHUT_IN:
-            return False
-        if name not in self.judge.look_longer(traffic, LONGER):
-            return True
-        self._memory[name].shut_in = self._memory[name].shut_by = None
-        return False
 
     def _cancel(self, vehicle: Seen) -> bool:
         """Cancels an order. The others may get free by it."""

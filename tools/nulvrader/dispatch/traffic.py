@@ -112,8 +112,7 @@ class Judge:
         self._kept: dict[object, Found] = {}
         self._moves: tuple[Moves, Moves] = (), ()  # that were found last, now and later
         self._turn = 0
-        nobody: frozenset[str] = frozenset()
-        self._found = [(-ANEW, 0, nobody), (-ANEW, 0, nobody)]  # in which turn it was looked last, now and later, how far, and who was found
+        self._found: dict[tuple[bool, int], tuple[int, frozenset[str]]] = {}  # by now or later, and states: the last look's turn, and who was found
         self._granted: tuple[Traffic, Found, Found] | None = None  # what was allowed last, and who finishes then
         self._last: tuple[Traffic, int, Outlook] | None = None
 
@@ -139,14 +138,14 @@ class Judge:
         """Moves by which as many finish as are found. Where those that were found last still finish, no look is made for others for
         some turns, if the dispatcher counts these."""
         most, hint = self.times * self.deep, self._moves[later]
-        turn, budget, before = self._found[later]
-        if self._turn - turn < ANEW and budget == most:
+        turn, before = self._found.get((later, most), (-ANEW, frozenset()))
+        if self._turn - turn < ANEW:
             told = along(ways, walls, hint, self._ground)
             if told.finishing >= before & ways.keys():
-                self._found[later] = turn, budget, told.finishing
+                self._found[later, most] = turn, told.finishing
                 return told
         found = self.find(ways, walls, most, hint)
-        self._found[later] = self._turn or -ANEW, most, found.finishing
+        self._found[later, most] = self._turn or -ANEW, found.finishing
         return found
 
     def outlook(self, traffic: Traffic) -> Outlook:
@@ -170,11 +169,12 @@ class Judge:
         return self.outlook(traffic).later.finishing
 
     def look_longer(self, traffic: Traffic, times: int) -> frozenset[str]:
-        """Who finishes later, by looks of so many times as many states."""
-        before, self.times, self._granted = self.times, max(self.times, times), None
-        found = self.finish_later(traffic)
+        """Who finishes later, by a look of so many times as many states. The moves that it finds are tried first from here on."""
+        before, self.times = self.times, max(self.times, times)
+        found = self.all_that_finish(traffic.ways_later(), (), True)
         self.times = before
-        return found
+        self._moves, self._last, self._granted = (self._moves[0], found.moves), None, None
+        return found.finishing
 
     def keeps(self, traffic: Traffic, after: Traffic, vehicle: str | None = None, last: bool = False) -> bool:
         """Whether each vehicle that could finish before can after, now and later, and this one too, which has begun its way. Whether it
