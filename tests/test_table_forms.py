@@ -48,6 +48,7 @@ SAME = {
     'its key as one of others': typed('meta', 'UNIQUE (id)'),
     'its key that is the rowid': typed('meta', id='INTEGER PRIMARY KEY'),
     'its key that is the rowid and NOT NULL': typed('meta', 'PRIMARY KEY (id)'),
+    'its key that is the rowid, whatever the order': typed('meta', 'PRIMARY KEY (id DESC)'),
     'quotes, capitals and a comment': typed('job', id='text -- CHECK (1)\nprimary key').replace('target', '"target"').replace('CREATE', 'create'),
     'what is so anyhow': typed('load', 'PRIMARY KEY (id ASC)', id='TEXT NULL COLLATE BINARY', station='TEXT DEFAULT NULL'),
 }
@@ -60,6 +61,7 @@ SAME_SECOND = {
 }
 OTHER = {
     'a key that is the rowid, counted': typed('meta', id='INTEGER PRIMARY KEY AUTOINCREMENT'),
+    'a key that falls, and so is no rowid': typed('meta', id='INTEGER PRIMARY KEY DESC'),
     'a key that is the rowid, and a key more': typed('meta', id='INTEGER PRIMARY KEY UNIQUE'),
     'no key of the job': typed('trip', ORDER, VEHICLE),
     'no key of the vehicle': typed('trip', ORDER, JOB),
