@@ -329,20 +329,18 @@ class Pure(unittest.TestCase):
                 self.assertEqual(is_on_course(before, Course(order, left), asked), wanted)
 
     def test_what_a_short_look_misses_in_the_first_turn(self):
-        """Four vehicles on a ring of five nodes with two bays can all finish. A look at one state does not find how; the first one of a
-        dispatcher is longer, and the moves that it has found are kept."""
-        ways = {'v0': ('r0', 'r1', 'r2', 'r3', 'r4'), 'v1': ('r4', 'r0', 'r1', 'r2', 'r3'), 'v2': ('r2', 'r3', 'r4', 'r0'),
-                'v3': ('b1', 'r1', 'r2', 'r3', 'b3')}
+        """Three vehicles on a ring of four nodes can all finish. A look at one state does not find how; the first one of a dispatcher is
+        longer, and the moves that it has found are kept."""
+        ways = {'v0': ('r2', 'r3', 'r0'), 'v1': ('r1', 'r2', 'r3', 'r0'), 'v2': ('r0', 'r1', 'r2', 'r3')}
         traffic, judge = Traffic(ways), Judge(deep=1)
         self.assertLess(judge.finish_later(traffic), ways.keys())
         for first in (True, False):
             judge = Judge(deep=1)
             shut_in = ShutIn(judge, {name: Memory(order='O') for name in ways})
-            if not first:
-                shut_in.end_turn(traffic, 0.0)
-            judge.begin_turn()
-            shut_in.begin_turn(traffic)
-            self.assertEqual(shut_in.end_turn(traffic, 1.0), [])
+            if first:
+                judge.begin_turn()
+                shut_in.begin_turn(traffic)
+            self.assertEqual(shut_in.end_turn(traffic, 0.0), [])
             self.assertEqual(shut_in.told() == {}, first)
 
     def test_one_that_stands_still_is_not_shut_in(self):

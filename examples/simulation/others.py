@@ -25,6 +25,9 @@ class NoLook(Judge):
     def finish_later(self, traffic: Traffic) -> frozenset[str]:
         return frozenset(traffic.ways_later())
 
+    def look_longer(self, traffic: Traffic, times: int) -> frozenset[str]:
+        return self.finish_later(traffic)
+
     def may_release(self, traffic: Traffic, vehicle: str, nodes: int) -> bool:
         return True
 

@@ -69,6 +69,7 @@ class Dispatcher:
         try:
             self._turn()
         except (NoAnswer, Refused, BadReport) as fault:
+            self._shut_in.turn_failed()
             self.lines.once('desk', 'the desk does not answer: %s' % fault)
             return False
         self.lines.once('desk', None, over='the desk answers again')

@@ -12,8 +12,8 @@ Whether all can finish is NP-hard in general, so the look goes in three parts:
   there are any. The time is polynomial, and on a layout with places to wait it mostly is all.
 - **A search for the rest.** Where vehicles are left that can only go to nodes that others want too, such moves are tried, one after
   another, and behind each of them those of the second kind; but none after which some two vehicles could not both finish, were they
-  alone, as two that meet on a single track. Groups that have no node in common are searched one by one, and of each at most `budget`
-  states are looked at. A budget that is used up counts as a no.
+  alone, as two that meet on a single track. Groups that have no node in common are searched one by one, in several tries with the
+  vehicles in another order each time, and of each at most `budget` states are looked at. A budget that is used up counts as a no.
 
 So a yes is always right, since moves were found. A no may be wrong only where the budget was used up.
 
@@ -21,6 +21,8 @@ Sets of nodes are whole numbers here, with a bit for each node, so that a look i
 """
 from __future__ import annotations
 
+import itertools
+import random
 from collections.abc import Collection, Iterable, Iterator, Mapping, Sequence
 from dataclasses import dataclass
 
@@ -32,6 +34,9 @@ Moves = Sequence[tuple[str, int]]
 
 BUDGET = 300
 """So many states are looked at where a look does not say another number."""
+
+TRY = 20
+"""So many states a try looks at, or one for each vehicle: each second try twice as many, each fourth one four times, and so on."""
 
 KEPT = 5_000
 """So many ways are kept as bits."""
@@ -302,26 +307,45 @@ class Floor:
 
     def search(self, first: State, group: Sequence[int], goal: frozenset[int], budget: int) -> State:
         """A state behind this one, after moves of the group alone, in which those of the goal have finished; or, where none is found in
-        so many, that in which the most have."""
-        best, most = first, sum(1 for vehicle in group if first.at[vehicle] == self.lanes[vehicle].end)
-        seen, rows = {tuple(first.at)}, [self.steps(first, group, goal)]
-        while not self.has_all(best, goal) and rows and budget > 0:
+        so many, that in which the most have. It is tried again and again, with the vehicles in another order each time: a search that has
+        begun badly takes long to get out of it, and one in another order seldom begins so. Each second try is longer."""
+        chance, order, best = random.Random(0), list(group), first
+        for n in itertools.count(1):
+            found, looked, is_all = self.tried(first, order, goal, min(max(TRY, len(order)) * (n & -n), budget))
+            if self.count(found, group) > self.count(best, group) or self.has_all(found, goal):
+                best = found
+            budget -= looked
+            if is_all or budget <= 0 or self.has_all(best, goal):
+                break
+            chance.shuffle(order)
+        return best
+
+    def tried(self, first: State, order: Sequence[int], goal: frozenset[int], most: int) -> tuple[State, int, bool]:
+        """The best state that is found in so many, with those vehicles first that come first here; how many were looked at; and
+        whether there are no others."""
+        best, count, looked = first, self.count(first, order), 0
+        seen, rows = {tuple(first.at)}, [self.steps(first, order, goal)]
+        while not self.has_all(best, goal) and rows and looked < most:
             state = next(rows[-1], None)
             if state is None:
                 rows.pop()
                 continue
-            self.settle(state, group)
+            self.settle(state, order)
             key = tuple(state.at)
             if key in seen:
                 continue
             seen.add(key)
-            budget -= 1
-            over = sum(1 for vehicle in group if state.at[vehicle] == self.lanes[vehicle].end)
-            if over > most or self.has_all(state, goal):
-                best, most = state, over
+            looked += 1
+            over = self.count(state, order)
+            if over > count or self.has_all(state, goal):
+                best, count = state, over
             if goal.isdisjoint(self.waiting_for_good(state)):
-                rows.append(self.steps(state, group, goal))
-        return best
+                rows.append(self.steps(state, order, goal))
+        return best, looked, not rows
+
+    def count(self, state: State, among: Iterable[int]) -> int:
+        """How many of these have finished."""
+        return sum(1 for vehicle in among if state.at[vehicle] == self.lanes[vehicle].end)
 
     def found(self, state: State) -> Found:
         lanes, names = self.lanes, self.names

@@ -2,7 +2,7 @@
 from __future__ import annotations
 
 from collections.abc import Mapping, Sequence
-from dataclasses import dataclass
+from dataclasses import dataclass, replace
 
 from ..names import natural
 from .memory import Memory
@@ -14,7 +14,7 @@ MOST_TIMES = 64
 SHUT_IN = 60.0
 """Nor does one that has been shut in for so many seconds, if a longer look finds nothing either."""
 
-LONGER = 16
+LONGER = 4
 """That look has so many times as many states, as has the first one of all."""
 
 BY_ITSELF = 'by this dispatcher itself'
@@ -45,7 +45,8 @@ def is_on_course(before: Course | None, now: Course, asked: tuple[str, bool] | N
 
 
 def changes(before: Mapping[str, Course], now: Mapping[str, Course], asked: Mapping[str, tuple[str, bool] | None]) -> str:
-    """Which vehicles are not on the course that they had, by what the dispatcher has not done."""
+    """Which vehicles are not on the course that they had: by people, by what has failed, by an order of unknown target, or since the
+    dispatcher has cancelled their order."""
     found = []
     for name, course in now.items():
         if is_on_course(before.get(name), course, asked[name]):
@@ -86,6 +87,14 @@ class ShutIn:
         else:
             self._could = self.judge.finish_later(traffic)
             self._changes = changes(self._courses, self._courses_now(traffic), {name: one.asked for name, one in self.memory.items()})
+
+    def turn_failed(self) -> None:
+        """Notes what was released in a turn that has ended early."""
+        if self._courses is not None:
+            self._courses = {name: self._with_less(course, self.memory[name]) for name, course in self._courses.items()}
+
+    def _with_less(self, course: Course, one: Memory) -> Course:
+        return replace(course, left=min(course.left, one.left)) if course.order == one.order else course
 
     def end_turn(self, traffic: Traffic, now: float) -> list[str]:
         """The vehicles with orders that are shut in and do not get free."""

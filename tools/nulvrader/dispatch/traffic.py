@@ -112,7 +112,8 @@ class Judge:
         self._kept: dict[object, Found] = {}
         self._moves: tuple[Moves, Moves] = (), ()  # that were found last, now and later
         self._turn = 0
-        self._found: dict[tuple[bool, int], tuple[int, frozenset[str]]] = {}  # by now or later, and states: the last look's turn, and who was found
+        nobody: frozenset[str] = frozenset()
+        self._found = [(-ANEW, 0, nobody), (-ANEW, 0, nobody)]  # in which turn it was looked last, now and later, how far, and who was found
         self._granted: tuple[Traffic, Found, Found] | None = None  # what was allowed last, and who finishes then
         self._last: tuple[Traffic, int, Outlook] | None = None
 
@@ -138,14 +139,14 @@ class Judge:
         """Moves by which as many finish as are found. Where those that were found last still finish, no look is made for others for
         some turns, if the dispatcher counts these."""
         most, hint = self.times * self.deep, self._moves[later]
-        turn, before = self._found.get((later, most), (-ANEW, frozenset()))
-        if self._turn - turn < ANEW:
+        turn, budget, before = self._found[later]
+        if self._turn - turn < ANEW and budget == most:
             told = along(ways, walls, hint, self._ground)
             if told.finishing >= before & ways.keys():
-                self._found[later, most] = turn, told.finishing
+                self._found[later] = turn, budget, told.finishing
                 return told
         found = self.find(ways, walls, most, hint)
-        self._found[later, most] = self._turn or -ANEW, found.finishing
+        self._found[later] = self._turn or -ANEW, most, found.finishing
         return found
 
     def outlook(self, traffic: Traffic) -> Outlook:
@@ -170,10 +171,8 @@ class Judge:
 
     def look_longer(self, traffic: Traffic, times: int) -> frozenset[str]:
         """Who finishes later, by a look of so many times as many states. The moves that it finds are tried first from here on."""
-        before, self.times = self.times, max(self.times, times)
-        found = self.all_that_finish(traffic.ways_later(), (), True)
-        self.times = before
-        self._moves, self._last, self._granted = (self._moves[0], found.moves), None, None
+        found = self.find(traffic.ways_later(), (), max(self.times, times) * self.deep, self._moves[True])
+        self._moves, self._last, self._granted = (self._moves[False], found.moves), None, None
         return found.finishing
 
     def keeps(self, traffic: Traffic, after: Traffic, vehicle: str | None = None, last: bool = False) -> bool:
