@@ -31,7 +31,7 @@ LAYOUT = 'kind,id,from,to\n' + ''.join('node,N%d,,\n' % n for n in NODES) + ''.j
 FINISHED = 'FINISHED'
 
 # Each table but `trip`, which stays empty, gets rows of each kind: a load at each kind of place, a job of each phase, an open trip, a vehicle
-# that left its order on the way, one whose action is pending and which has room for three, and used names.
+# that left its order on the way, one whose action is pending and which carries up to three, and used names.
 FILLED = [
     ok('PUT /layout', LAYOUT), vehicle('0001', 'N1'), vehicle('0002', 'N7'), vehicle('0003', 'N6', 3), accepted(state(1)),
     accepted(state(1, node='N7', serial='0002')), accepted(state(1, node='N6', serial='0003')),

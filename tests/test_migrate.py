@@ -63,7 +63,7 @@ BEGUN_MOVED = {
     'capacity': [('KIT', '0001', 1)],
     'journey': [('O1', 'KIT', '0001', 'N1', 0, 1, 0, None, 0)],
     'act': [('O1', 0, 'J1', 'pick', 0, 'WAITING'), ('O1', 1, 'J1', 'drop', 2, 'WAITING')]}
-# The open trips of a file of the second schema as the first has them, where each vehicle has room for one load.
+# The open trips of a file of the second schema as the first has them, where each vehicle carries one load.
 OLD_TRIPS = '''
 SELECT order_id, j.manufacturer, j.serial, p.job, j.start, j.first, j.base, j.sent, j.confirmed, j.seen, p.place_at, d.place_at, p.status, d.status
 FROM journey j JOIN act p USING (order_id) JOIN act d USING (order_id) WHERE p.kind = 'pick' AND d.kind = 'drop'
@@ -101,7 +101,7 @@ def committed(log):
 
 
 def for_more(lines):
-    """Whether a vehicle gets room for more than one load."""
+    """Whether a vehicle gets a capacity of more than one load."""
     return any(isinstance(body, dict) and body.get('capacity', 1) > 1 and status == 200 for _, body, status, _ in lines)
 
 
@@ -287,7 +287,7 @@ class Migrate(unittest.TestCase):
                 self.check(load('L1'), stands('L1', 'checking'))
 
     def take_back(self, second):
-        """Writes a file of the first schema with the rows of one of the second, in which each vehicle has room for one load. It gives its trips."""
+        """Writes a file of the first schema with the rows of one of the second, in which each vehicle carries one load. It gives its trips."""
         rows, base = {}, sqlite3.connect(second)
         for table in TABLES:
             if table not in ('meta', 'trip') + SECOND:

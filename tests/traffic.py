@@ -44,7 +44,7 @@ class Traffic:
         return call, answer
 
     def begin(self, vehicles):
-        """The layout, and so many vehicles, in bays as long as there are some, with room for one to four loads."""
+        """The layout, and so many vehicles, in bays as long as there are some, for one to four loads each."""
         yield self.asked(calls.layout(self.streets.rows()))
         nodes = [node for part in (self.streets.bays, self.streets.streets) for node in self.chance.sample(part, len(part))]
         for number, node in enumerate(nodes[:vehicles], 1):
@@ -261,7 +261,7 @@ class Traffic:
 
     def order(self, serial):
         """An order for some of the jobs that wait, mostly for near ones to which the way is free, and for no more
-        than the vehicle has room for."""
+        than the vehicle can carry."""
         chance, vehicle = self.chance, self.sight.vehicle(serial)
         self.look_for_jobs()
         if not self.waiting and not self.happens(0.1):

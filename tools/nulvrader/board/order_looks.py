@@ -71,7 +71,7 @@ def start_order(scene: Scene, said: Mapping[str, str]) -> Look:
         look.warn(vehicle['order_name'] is not None, '%s has the order %s.' % (name, vehicle['order_name']))
         look.warn(bool(vehicle['astray']), '%s left its last order on the way, and has to be placed first.' % name)
         carried = len({stop.job for stop in stops}) + len(vehicle['loads'])
-        look.warn(carried > vehicle['capacity'], '%s has room for %d.' % (name, vehicle['capacity']))
+        look.warn(carried > vehicle['capacity'], '%s carries %d at most.' % (name, vehicle['capacity']))
     return look
 
 
