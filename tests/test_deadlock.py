@@ -8,9 +8,12 @@ import time
 import unittest
 
 HERE = os.path.dirname(os.path.abspath(__file__))
-sys.path.insert(0, os.path.join(HERE, '..', 'tools'))
+sys.path[:0] = [os.path.join(HERE, '..', 'tools'), os.path.join(HERE, '..', 'examples')]
 
 from nulvrader.dispatch.look import Floor, Ground, after_release, along, finishing, look  # noqa: E402
+from nulvrader.dispatch.traffic import Judge, Traffic  # noqa: E402
+from nulvrader.dispatch.ways import Ways  # noqa: E402
+from simulation.floors import large  # noqa: E402
 
 PLENTY = 10 ** 9
 CASES = int(os.environ.get('LOOKS', '3000'))
@@ -287,6 +290,57 @@ class Released(unittest.TestCase):
                 seen[name] += 1
             else:
                 base[name] += 1
+
+
+class AfterAStart(unittest.TestCase):
+    def test_a_judge_that_knows_no_moves(self):
+        """Twenty vehicles on the floor of the simulated plant are started and released as a judge allows it, so that all can finish
+        all the while. One that has just begun, and knows none of the moves, finds how. (A search in one order alone does not in turns
+        10, 15 and 40 of these.)"""
+        for seed in (3, 5, 7):
+            with self.subTest(seed):
+                self.drive(random.Random(seed), large(), 45)
+
+    def drive(self, chance, floor, turns):
+        layout = floor.layout()
+        ways = Ways(layout)
+        stations = [station.node for station in layout.stations.values()]
+        names = ['v%02d' % n for n in range(20)]
+        parked = {name: frozenset([bay]) for name, bay in zip(names, chance.sample(floor.bays, 20))}
+        traffic = Traffic({}, {}, parked, {node: ways.way_out(node) for node in layout.nodes})
+        judge = Judge()
+        for turn in range(turns):
+            judge.begin_turn()
+            everyone = traffic.ways_later().keys()
+            self.assertEqual(judge.finish_later(traffic), everyone)
+            if turn % 5 == 0:
+                self.assertEqual(Judge().finish_later(traffic), everyone, turn)
+            traffic = self.started(self.ended(self.released(traffic, judge, chance), chance), judge, chance, ways, stations)
+        self.assertGreater(len(traffic.ways), 10)
+
+    def released(self, traffic, judge, chance):
+        for name in chance.sample(sorted(traffic.ways), len(traffic.ways)):
+            way = traffic.ways[name]
+            taken = traffic.walls | {other[0] for key, other in traffic.ways.items() if key != name}
+            if len(way) > 1 and way[1] not in taken and chance.random() < 0.85 and judge.may_release(traffic, name, 1):
+                traffic = traffic.released(name, 1)
+        return traffic
+
+    def ended(self, traffic, chance):
+        """Some of those at the end of their way have no order then."""
+        for name, way in list(traffic.ways.items()):
+            if len(way) == 1 and chance.random() < 0.1:
+                others = {key: other for key, other in traffic.ways.items() if key != name}
+                traffic = Traffic(others, {}, {**traffic.parked, name: frozenset(way)}, traffic.out)
+        return traffic
+
+    def started(self, traffic, judge, chance, ways, stations):
+        for name, held in list(traffic.parked.items()):
+            for _ in range(3):
+                way = ways.way((*held, chance.choice(stations), chance.choice(stations)))
+                if way is not None and len(way) > 1 and name in traffic.parked and judge.may_start(traffic, name, way):
+                    traffic = traffic.started(name, way)
+        return traffic
 
 
 if __name__ == '__main__':
