@@ -10,7 +10,8 @@ import unittest
 HERE = os.path.dirname(os.path.abspath(__file__))
 sys.path[:0] = [os.path.join(HERE, '..', 'tools'), os.path.join(HERE, '..', 'examples')]
 
-from nulvrader.dispatch.look import Floor, Ground, after_release, along, finishing, look  # noqa: E402
+from nulvrader.dispatch.lanes import Ground  # noqa: E402
+from nulvrader.dispatch.look import Floor, after_release, along, finishing, look  # noqa: E402
 from nulvrader.dispatch.traffic import Judge, Traffic  # noqa: E402
 from nulvrader.dispatch.ways import Ways  # noqa: E402
 from simulation.floors import large  # noqa: E402

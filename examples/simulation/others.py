@@ -7,7 +7,7 @@ from collections.abc import Callable, Mapping
 
 from nulvrader.client import Desk, NoAnswer, Refused, Stop
 from nulvrader.dispatch.jobs import JobBook, Waiting
-from nulvrader.dispatch.look import Way
+from nulvrader.dispatch.lanes import Way
 from nulvrader.dispatch.snapshot import Seen, take
 from nulvrader.dispatch.traffic import Judge, Traffic
 from nulvrader.dispatch.ways import Ways

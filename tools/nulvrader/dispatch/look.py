@@ -17,7 +17,7 @@ Whether all can finish is NP-hard in general, so the look goes in three parts:
 
 So a yes is always right, since moves were found. A no may be wrong only where the budget was used up.
 
-Sets of nodes are whole numbers here, with a bit for each node, so that a look is quick.
+Sets of nodes are whole numbers here, with a bit for each node (`lanes.py`), so that a look is quick.
 """
 from __future__ import annotations
 
@@ -26,8 +26,7 @@ import random
 from collections.abc import Collection, Iterable, Iterator, Mapping, Sequence
 from dataclasses import dataclass
 
-Way = Sequence[str]
-"""The nodes of a vehicle: the one where it stands, or the last of those that it holds, and then all that it still has to pass."""
+from .lanes import Ground, Way
 
 Moves = Sequence[tuple[str, int]]
 """Moves one after another: a vehicle, and how many nodes of its way are before it afterwards."""
@@ -37,72 +36,6 @@ BUDGET = 300
 
 TRY = 20
 """So many states a try looks at, or one for each vehicle: each second try twice as many, each fourth one four times, and so on."""
-
-KEPT = 5_000
-"""So many ways are kept as bits."""
-
-
-class Lane:
-    """A way as bits: `bits` has that of each node, `rest` of each index those of the nodes behind it, and `all` those of the whole way.
-    `lefts` has of each node how many nodes are behind it on the way, each number as a bit."""
-
-    __slots__ = ('bits', 'rest', 'all', 'end', 'lefts')
-
-    def __init__(self, bits: list[int]) -> None:
-        self.bits, self.end = bits, len(bits) - 1
-        self.rest, self.lefts = [0] * len(bits), dict.fromkeys(bits, 0)
-        for index in range(self.end, 0, -1):
-            self.rest[index - 1] = self.rest[index] | bits[index]
-        for index, bit in enumerate(bits):
-            self.lefts[bit] |= 1 << self.end - index
-        self.all = self.rest[0] | bits[0]
-
-    def passes(self, other: Lane) -> list[int]:
-        """From where a vehicle on this way and one on the other both finish, were they alone: of each number of nodes that are left to
-        this one the numbers that may be left to the other, as bits."""
-        rows, whole, before = [], (2 << other.end) - 1, 1
-        for bit in reversed(self.bits):
-            free = whole & ~other.lefts.get(bit, 0)
-            begun = before & free
-            before = (free + begun ^ free | begun) & free  # and so on from each of these, as long as it is free
-            rows.append(before)
-        return rows
-
-
-class Ground:
-    """Which bit each node has, and the ways as bits that were asked for. One of it may serve for many looks."""
-
-    def __init__(self) -> None:
-        self._bits: dict[str, int] = {}
-        self._lanes: dict[Way, Lane] = {}
-        self._passes: dict[tuple[Lane, Lane], list[int]] = {}
-
-    def bit(self, node: str) -> int:
-        return self._bits.setdefault(node, 1 << len(self._bits))
-
-    def bits(self, nodes: Iterable[str]) -> int:
-        found = 0
-        for node in nodes:
-            found |= self.bit(node)
-        return found
-
-    def lane(self, way: Way) -> Lane:
-        way = tuple(way)
-        lane = self._lanes.get(way)
-        if lane is None:
-            if len(self._lanes) >= KEPT:
-                self._lanes.clear()
-                self._passes.clear()
-            lane = self._lanes[way] = Lane([self.bit(node) for node in way])
-        return lane
-
-    def passes(self, one: Lane, other: Lane) -> list[int]:
-        found = self._passes.get((one, other))
-        if found is None:
-            if len(self._passes) >= KEPT:
-                self._passes.clear()
-            found = self._passes[one, other] = one.passes(other)
-        return found
 
 
 class State:

@@ -6,7 +6,8 @@ from collections.abc import Collection, Mapping
 from dataclasses import dataclass, field, replace
 from functools import cached_property
 
-from .look import Found, Ground, Moves, Way, after_release, along, look
+from .lanes import Ground, Way
+from .look import Found, Moves, after_release, along, look
 
 KEPT = 2_000
 """So many answers of the look are kept."""
