@@ -18,9 +18,10 @@ assert TOOLS in sys.path
 
 from nulvrader.dispatch.shut_in import BEFORE, BY_ITSELF  # noqa: E402
 from simulation.day import TIME_OVER, Day  # noqa: E402
+from simulation.desks import Wire  # noqa: E402
 from simulation.plan import CALM, Habits, Line, Nature, Plan, Trouble  # noqa: E402
 from simulation.plant import Plant  # noqa: E402
-from simulation.reasons import BY_DISPATCHER, BY_PERSON  # noqa: E402
+from simulation.reasons import BY_DISPATCHER, BY_PERSON, Killed  # noqa: E402
 from simulation.truth import Wrong  # noqa: E402
 from simulation.vehicles import Vehicle  # noqa: E402
 from simulation.words import run, told  # noqa: E402
@@ -32,6 +33,7 @@ HAPPENS = (
     'empty batteries', 'orders cancelled', 'stocktakes', 'loads carried by hand', 'vehicles placed', 'audits',
 )
 SEEDS = 1, 2
+WHY = 'since KIT/0002 stands at N1'
 CIRCLE = r'^a circle from \d+ s on, for 1[23]\d s: (KIT/\d+ waits at \S+ for (node|edge) \S+, which KIT/\d+ holds(; )?){2,}$'
 
 
@@ -148,6 +150,20 @@ class Demo(unittest.TestCase):
         self.assertRegex(done.stdout, r'(?m)^[12] jobs done and [01] stopped, in ')
 
 
+class WhyShutIn(unittest.TestCase):
+    def test_one_that_was_so_before_a_start(self):
+        """A dispatcher that was started anew says what the one before has said, also where the desk does not answer its first turn."""
+        made = mock.Mock()
+        plant = Plant(SMALL, mock.Mock(address='127.0.0.1:1', wire=Wire(1)), lambda *_: made)
+        for turn, why, wanted in (
+            (True, WHY, WHY), (Killed(True), None, WHY), (False, None, WHY), (True, BEFORE, WHY), (True, None, None), (True, BEFORE, BEFORE),
+        ):
+            made.turn.side_effect = [turn]
+            made.shut_in.return_value = {} if why is None else {'KIT/0001': (1.0, why)}
+            plant.dispatch()
+            self.assertEqual(plant.shut_by.get('KIT/0001'), wanted)
+
+
 class TheBench(unittest.TestCase):
     """`bench/day` over runs of an hour that are made up: in two days 9 jobs are done, and in the calm runs as many as are named."""
 
@@ -171,7 +187,7 @@ class TheBench(unittest.TestCase):
 
     def test_vehicles_that_the_dispatcher_has_shut_in(self):
         """An order that the dispatcher cancels is no fault, unless nothing but the dispatcher has led to it."""
-        for why, status in (('since KIT/0002 stands at N1', 0), (BEFORE, 1), (BY_ITSELF, 1)):
+        for why, status in ((WHY, 0), (BEFORE, 1), (BY_ITSELF, 1)):
             line = 'KIT/0001: cancels order O1, of J1: it and others block one another, ' + why
             with self.subTest(why):
                 found, said = self.bench(5, 4, None, [line])
@@ -179,7 +195,7 @@ class TheBench(unittest.TestCase):
 
     def test_how_long_vehicles_were_shut_in(self):
         """For a while nobody knows whether the look was only too short."""
-        for seconds, why, wanted in ((60.0, BY_ITSELF, 0), (70.0, BY_ITSELF, 1), (70.0, BEFORE, 1), (70.0, 'since KIT/0002 stands at N1', 0)):
+        for seconds, why, wanted in ((60.0, BY_ITSELF, 0), (70.0, BY_ITSELF, 1), (70.0, BEFORE, 1), (70.0, WHY, 0)):
             day = Day(shut={('KIT/0001', 5.0): (seconds, why)})
             with self.subTest((seconds, why)):
                 self.assertEqual(len(day.made()), wanted)

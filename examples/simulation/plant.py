@@ -69,7 +69,7 @@ class Plant:
         self.since: dict[str, float] = {}  # since when each vehicle waits
         self.reason: dict[str, str] = {}  # and why, as far as the dispatcher has said since then
         self.heard: dict[str, str] = {}  # by vehicle the last line of the dispatcher
-        self.shut_by: dict[str, str] = {}  # why vehicles are shut in, as of the last moment
+        self.shut_by: dict[str, str] = {}  # why vehicles are shut in, as of the last turn
         self.over, self.fetches = False, 0
         self.reasons = Reasons()
         self.people = People(
@@ -171,7 +171,8 @@ class Plant:
             self.dispatcher = self.make(self.mortal, self.hear, lambda: self.clock.now)
             self.day.counts['starts of the dispatcher'] += 1
         try:
-            self.dispatcher.turn()
+            if self.dispatcher.turn():
+                self.note_shut_in(self.dispatcher.shut_in())
             self.day.counts['turns of the dispatcher'] += 1
         except Killed:
             self.dispatcher = None
@@ -223,8 +224,6 @@ class Plant:
     def measure(self) -> None:
         """Who has an order and waits, and the last reason that the dispatcher had for it, or else its last line about the vehicle."""
         told = self.waits() or {}
-        if self.dispatcher is not None:
-            self.note_shut_in(self.dispatcher.shut_in())
         for name, vehicle in self.vehicles.items():
             has_order = not vehicle.is_done() and not vehicle.by_hand
             if has_order:

@@ -35,9 +35,9 @@ class Memory:
             self.header, self.heard = header, now
 
     def begin(self, order: str | None, jobs: tuple[Waiting, ...] = (), left: int = 0, end: str | None = None) -> None:
-        """From here on it has this order, or none."""
+        """From here on it has this order, or none. Where it is shut in the reason stays the same."""
         self.order, self.jobs, self.left, self.end = order, jobs, left, end
-        self.done, self.waits, self.shut_in, self.shut_by, self.cancelled = set(), None, None, None, False
+        self.done, self.waits, self.shut_in, self.cancelled = set(), None, None, False
 
     def follow(self, seen: Seen, places: Mapping[str, str]) -> None:
         """What the order of this turn shows: where its jobs lead, and which are done."""

@@ -97,16 +97,18 @@ class ShutIn:
         return replace(course, left=min(course.left, one.left)) if course.order == one.order else course
 
     def end_turn(self, traffic: Traffic, now: float) -> list[str]:
-        """The vehicles with orders that are shut in and do not get free."""
+        """The vehicles that go on with an order, are shut in and do not get free. One that stands still, or has no order, is seen to be
+        shut in at once, not only when it goes on: what was done just before is the reason."""
         self._courses = self._courses_now(traffic)
-        found = traffic.ways.keys() - self.judge.finish_later(traffic)
+        found = self._courses.keys() - self.judge.finish_later(traffic)
         for name, one in self.memory.items():
             if name not in found:
                 one.shut_in = one.shut_by = None
                 continue
             one.shut_in = now if one.shut_in is None else one.shut_in
             one.shut_by = one.shut_by or (BY_ITSELF if name in self._could else self._changes)
-        return [name for name in sorted(found, key=natural) if self._stays_so(name, traffic, now)]
+        stay = [name for name in sorted(found, key=natural) if self._stays_so(name, traffic, now)]
+        return [name for name in stay if name in traffic.ways]
 
     def _stays_so(self, name: str, traffic: Traffic, now: float) -> bool:
         """Whether a vehicle that is shut in does not get free: nothing moves, or it has been so for a while, by a longer look too."""
