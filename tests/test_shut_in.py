@@ -85,6 +85,20 @@ class Why(unittest.TestCase):
                 wanted = {'ahead': (2.0, WHY), 'behind': (2.0, WHY)}
                 self.assertEqual(told, {**wanted, 'one': (1.0 + turns, BY_ITSELF), 'two': (1.0 + turns, BY_ITSELF)})
 
+    def test_a_release_that_the_desk_refuses(self):
+        """C finishes where X goes ahead, and D where Z does, but not both: X and Y face one another, and so do Z and W. D came first. Z
+        may go ahead and does not: D still finishes by the moves that were known before."""
+        ways = {'D': 'dpm1', 'W': 'sqp2', 'X': 'nmt3', 'Y': 'tmn4', 'Z': 'pqs5', 'C': 'cnq6'}
+        before, traffic = (Traffic({name: tuple(ways[name]) for name in names}) for names in ('DWXYZ', 'CDWXYZ'))
+        self.assertEqual(Judge().finish_later(traffic), {'C'})
+        judge = Judge()
+        for one in (before, traffic):
+            judge.begin_turn()
+            self.assertEqual(judge.finish_later(one), {'D'})
+        self.assertTrue(judge.may_release(traffic, 'Z', 1))
+        judge.begin_turn()
+        self.assertEqual(judge.finish_later(Traffic(traffic.ways)), {'D'})
+
 
 if __name__ == '__main__':
     unittest.main()

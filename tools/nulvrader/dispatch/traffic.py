@@ -2,6 +2,7 @@
 over the look of `look.py`."""
 from __future__ import annotations
 
+from collections import deque
 from collections.abc import Collection, Mapping
 from dataclasses import dataclass, field, replace
 from functools import cached_property
@@ -14,6 +15,10 @@ KEPT = 2_000
 
 QUICK, DEEP = 50, 300
 """So many states are looked at."""
+
+KNOWN = 8
+"""So many of the moves that were found last are tried first. The last ones may be behind what was allowed and then not done, since the
+desk has refused it or has not answered."""
 
 ANEW = 5
 """After so many turns it is looked for more vehicles that finish, where some don't."""
@@ -111,7 +116,7 @@ class Judge:
         self.quick, self.deep, self.times, self.looks = quick, deep, 1, 0
         self._ground = Ground()
         self._kept: dict[object, Found] = {}
-        self._moves: tuple[Moves, Moves] = (), ()  # that were found last, now and later
+        self._moves: deque[tuple[Moves, Moves]] = deque([((), ())], KNOWN)  # that were found last, now and later, the last ones first
         self._turn = 0
         nobody: frozenset[str] = frozenset()
         self._found = [(-ANEW, 0, nobody), (-ANEW, 0, nobody)]  # in which turn it was looked last, now and later, how far, and who was found
@@ -139,13 +144,12 @@ class Judge:
     def all_that_finish(self, ways: Mapping[str, Way], walls: Collection[str], later: bool) -> Found:
         """Moves by which as many finish as are found. Where those that were found last still finish, no look is made for others for
         some turns, if the dispatcher counts these."""
-        most, hint = self.times * self.deep, self._moves[later]
-        turn, budget, before = self._found[later]
-        if self._turn - turn < ANEW and budget == most:
-            told = along(ways, walls, hint, self._ground)
-            if told.finishing >= before & ways.keys():
-                self._found[later] = turn, budget, told.finishing
-                return told
+        most, (turn, budget, before) = self.times * self.deep, self._found[later]
+        tried = ((moves[later], along(ways, walls, moves[later], self._ground)) for moves in self._moves)
+        hint, told = next((one for one in tried if one[1].finishing >= before & ways.keys()), (self._moves[0][later], None))
+        if told is not None and self._turn - turn < ANEW and budget == most:
+            self._found[later] = turn, budget, told.finishing
+            return told
         found = self.find(ways, walls, most, hint)
         self._found[later] = self._turn or -ANEW, most, found.finishing
         return found
@@ -158,7 +162,7 @@ class Judge:
             else:
                 now = self.all_that_finish(traffic.ways, traffic.walls, False)
                 later = self.all_that_finish(ways, (), True)
-            self._moves = now.moves, later.moves
+            self._moves.appendleft((now.moves, later.moves))
             self._last = traffic, self.times, Outlook(now, later, ways, _ends(traffic.ways, now), _ends(ways, later))
         return self._last[2]
 
@@ -172,8 +176,10 @@ class Judge:
 
     def look_longer(self, traffic: Traffic, times: int) -> frozenset[str]:
         """Who finishes later, by a look of so many times as many states. The moves that it finds are tried first from here on."""
-        found = self.find(traffic.ways_later(), (), max(self.times, times) * self.deep, self._moves[True])
-        self._moves, self._last, self._granted = (self._moves[False], found.moves), None, None
+        hint_now, hint = self._moves[0]
+        found = self.find(traffic.ways_later(), (), max(self.times, times) * self.deep, hint)
+        self._moves.appendleft((hint_now, found.moves))
+        self._last = self._granted = None
         return found.finishing
 
     def keeps(self, traffic: Traffic, after: Traffic, vehicle: str | None = None, last: bool = False) -> bool:
@@ -189,7 +195,7 @@ class Judge:
             found.append(self.find(ways, walls, most, hint, wanted))
             if not wanted <= found[-1].finishing:
                 return False
-        self._moves = found[0].moves, found[1].moves
+        self._moves.appendleft((found[0].moves, found[1].moves))
         self._granted = after, found[0], found[1]
         return True
 
