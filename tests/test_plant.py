@@ -2,6 +2,7 @@
 cancel, count and carry; a small one with a dispatcher that does not look, in which vehicles come to wait for each other; and one that
 releases whole ways, which does less. And runs that end since something is wrong in them; test_plant_parts has the plant's parts
 without a desk. PLANT_JOBS sets the jobs of the part of a day."""
+import contextlib
 import dataclasses
 import os
 import subprocess
@@ -16,6 +17,7 @@ if os.path.join(ROOT, 'examples') not in sys.path:
     sys.path.insert(0, os.path.join(ROOT, 'examples'))
 assert TOOLS in sys.path
 
+from nulvrader.client import NoAnswer  # noqa: E402
 from nulvrader.dispatch.shut_in import BEFORE, BY_ITSELF  # noqa: E402
 from simulation.day import TIME_OVER, Day  # noqa: E402
 from simulation.desks import Wire  # noqa: E402
@@ -162,6 +164,25 @@ class WhyShutIn(unittest.TestCase):
             made.shut_in.return_value = {} if why is None else {'KIT/0001': (1.0, why)}
             plant.dispatch()
             self.assertEqual(plant.shut_by.get('KIT/0001'), wanted)
+
+
+class Pauses(unittest.TestCase):
+    def test_a_pause_that_comes_late(self):
+        """The gateway of a vehicle is away for longer than a person wants it to be paused. It goes on nevertheless: once the pause has
+        reached it, it is told so; also where the desk did not answer the person."""
+        for answer in (None, NoAnswer('no answer', True)):
+            with self.subTest(answer=answer):
+                plant = Plant(SMALL, mock.Mock(address='127.0.0.1:1'), None)
+                vehicle, row, desk = mock.Mock(paused=False), mock.Mock(pending='startPause'), mock.Mock()
+                plant.people.desk, plant.people.some_vehicle = desk, lambda with_order: vehicle
+                desk.vehicle.return_value, desk.pause.side_effect = row, answer
+                desk.resume.side_effect = lambda key: vehicle.configure_mock(paused=False)
+                plant.clock.after(200, lambda: (vehicle.configure_mock(paused=True), row.configure_mock(pending=None)))
+                with contextlib.suppress(NoAnswer):
+                    plant.people.pause()
+                plant.clock.run(lambda: plant.clock.now > 1000)
+                self.assertEqual((vehicle.paused, desk.resume.call_count), (False, 1))
+                self.assertLess(plant.clock.now, 221)
 
 
 class TheBench(unittest.TestCase):

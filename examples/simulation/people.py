@@ -120,19 +120,21 @@ class People:
     def pause(self) -> None:
         vehicle = self.some_vehicle(True)
         if vehicle is not None:
+            # (the desk may have told it so though no answer comes)
+            self.clock.after(self.chance.uniform(20, 90), functools.partial(self.resume, vehicle))
             self.desk.pause(vehicle.key)
             self.counts['pauses'] += 1
-            self.clock.after(self.chance.uniform(20, 90), functools.partial(self.resume, vehicle))
 
     def resume(self, vehicle: Vehicle) -> None:
-        """Until it goes on."""
+        """Until it goes on, and no pause is still to reach it, as where its gateway is away."""
         try:
             if vehicle.paused:
                 self.desk.resume(vehicle.key)
+            elif self.desk.vehicle(vehicle.key).pending != 'startPause':
+                return
         except (NoAnswer, Refused):
             pass
-        if vehicle.paused:
-            self.clock.after(10, lambda: self.resume(vehicle))
+        self.clock.after(10, functools.partial(self.resume, vehicle))
 
     def take_back(self) -> None:
         live = [load for load, place in self.goods.places().items() if place.startswith('station ')]
