@@ -131,18 +131,56 @@ class Files(WhyTest):
             ("DROP TABLE used; CREATE TABLE used (kind TEXT, id TEXT DEFAULT 'a', PRIMARY KEY (kind, id)) STRICT", "with the default 'a'"),
             ('DROP TABLE node; CREATE TABLE node (id TEXT COLLATE NOCASE PRIMARY KEY) STRICT', 'the table node has'),
             ('DROP TABLE node; CREATE TABLE NODE (id TEXT PRIMARY KEY) STRICT', "the table NODE has a name of a desk's table"),
-            ('DROP TABLE meta; CREATE TABLE meta (id INTEGER PRIMARY KEY UNIQUE, schema INTEGER NOT NULL) STRICT; INSERT INTO meta VALUES (1, 2)',
-             'the table meta has the keys (id), (id), and not (id)'),
+            ('DROP TABLE meta; CREATE TABLE meta (id INTEGER PRIMARY KEY, schema INTEGER NOT NULL UNIQUE) STRICT; INSERT INTO meta VALUES (1, 2)',
+             'the table meta has the keys (id), (schema), and not (id)'),
             ('DROP TABLE used; CREATE VIEW used AS SELECT id AS kind, id FROM node', "the view used has a name of a desk's table"),
         ):
             with self.subTest(text):
                 self.fill(statements)
                 self.check_fault('Damaged', text)
 
+    def test_what_the_tables_may_not_have(self):
+        for statements, text in (
+            ('CREATE TRIGGER mine AFTER INSERT ON load BEGIN SELECT 1; END', 'the table load has the trigger mine'),
+            ('CREATE TRIGGER "MINE" AFTER DELETE ON JOB BEGIN SELECT 1; END', 'the table job has the trigger MINE'),
+            ("CREATE INDEX mine ON job (load) WHERE phase <> 'done'", 'the table job has the index mine with WHERE'),
+            ('CREATE INDEX mine ON job (load, length(id))', 'the table job has the index mine on an expression'),
+        ):
+            with self.subTest(text):
+                self.fill(statements)
+                self.check_fault('Damaged', text)
+
+    def test_what_no_file_may_have(self):
+        """Things of others that keep the desk's SQL from reading any of the file."""
+        parent = 'CREATE TABLE above (id INTEGER PRIMARY KEY); CREATE TABLE "be""low" (above INTEGER REFERENCES above); '
+        for statements, *texts in (
+            ('CREATE VIRTUAL TABLE mine USING fts5(text)', 'the virtual table mine'),
+            ('CREATE VIEW mine AS SELECT id FROM load; CREATE TRIGGER more INSTEAD OF INSERT ON mine BEGIN SELECT 1; END', 'the trigger more on the view mine'),
+            ('CREATE TABLE mine (a); CREATE TRIGGER MINE AFTER INSERT ON mine BEGIN SELECT 1; END', 'the trigger MINE with the name of a table'),
+            (parent + 'INSERT INTO "be""low" VALUES (7)', 'a row of the table be"low, rowid 1, that refers to no row of above'),
+            (parent + 'CREATE TRIGGER more AFTER INSERT ON "be""low" BEGIN SELECT 1; END', 'the table be"low, which refers to another one and has the trigger more'),
+            (parent + 'CREATE INDEX more ON "be""low" (above) WHERE above > 7', 'be"low, which refers to another one and has the index more with WHERE'),
+            ('PRAGMA journal_mode = DELETE; PRAGMA auto_vacuum = FULL; VACUUM', 'auto-vacuum', '`PRAGMA auto_vacuum = NONE; VACUUM`'),
+            ('CREATE TABLE mine (a); INSERT INTO mine VALUES (1); ALTER TABLE mine ADD COLUMN b DEFAULT 7', None),
+        ):
+            with self.subTest(statements):
+                self.fill(statements)
+                self.assertEqual(run('report', '--db', self.db, 'holds'), (1, b'', b'fault: Storage\n'))
+                if texts == [None]:
+                    self.assertIn("Not a desk's: mine. If a desk says `fault: Storage` for no other reason", self.look(expected=0))
+                else:
+                    self.check_fault('Storage', *texts)
+
+    def test_a_file_in_utf_16(self):
+        with contextlib.closing(sqlite3.connect(self.db)) as base:
+            base.executescript("PRAGMA encoding = 'UTF-16'; CREATE TABLE mine (a)")
+        self.check_fault('Storage', 'its texts in UTF-16')
+
     def test_what_makes_no_difference(self):
         """Other ways to write the same tables, and what else may lie beside them."""
         for statements in (
             'CREATE TABLE notes (a); CREATE VIEW more AS SELECT * FROM load; CREATE INDEX mine ON load (kind)',
+            'CREATE TABLE notes (a); CREATE TRIGGER more AFTER INSERT ON notes BEGIN SELECT 1; END; CREATE INDEX mine ON notes (a) WHERE a > 1',
             'ALTER TABLE used RENAME TO old; create table "used" (kind text not null, id text default null -- CHECK (1)\n'
             ', constraint k primary key (kind, id), unique (kind, id)) strict; INSERT INTO used SELECT * FROM old; DROP TABLE old',
             'DROP INDEX load_station; DROP INDEX job_load',

@@ -164,15 +164,50 @@ def tables_of(base: sqlite3.Connection) -> Tables:
     return Tables(others, [name for name in TABLES if name not in tables], odd)
 
 
-def others_on_tables(base: sqlite3.Connection) -> list[str]:
-    """Unique indexes and triggers of others on a desk's tables, by which SQL may refuse a row of the desk's."""
-    triggers = base.execute("SELECT name, tbl_name FROM sqlite_master WHERE type = 'trigger'").fetchall()
-    found = ['the trigger %s on the table %s' % row for row in triggers if row[1] in TABLES]
-    for table in TABLES:
-        for _, name, unique, origin, _ in base.execute('PRAGMA index_list("%s")' % table):
-            if unique and origin == 'c':
-                found.append('the unique index %s on the table %s' % (name, table))
-    return found
+def unique_indexes(base: sqlite3.Connection) -> list[str]:
+    """Unique indexes of others on a desk's tables, by which SQL may refuse a row of the desk's."""
+    return [
+        'the unique index %s on the table %s' % (name, table)
+        for table in TABLES
+        for _, name, unique, origin, _ in base.execute('PRAGMA index_list("%s")' % table)
+        if unique and origin == 'c'
+    ]
+
+
+def unread(base: sqlite3.Connection) -> Iterator[tuple[str, str]]:
+    """What keeps a desk's SQL from reading the file at all, in whosever tables it is, and what to do."""
+    names = {kind: set[str]() for kind in ('table', 'view', 'trigger', 'index')}
+    for kind, name in base.execute('SELECT type, lower(name) FROM sqlite_master'):
+        names[kind].add(name)
+    for name, in base.execute("SELECT name FROM sqlite_master WHERE type = 'table' AND sql LIKE 'CREATE VIRTUAL%'"):
+        yield 'the virtual table %s' % name, 'drop it'
+    for name, table in base.execute("SELECT name, tbl_name FROM sqlite_master WHERE type = 'trigger'"):
+        if table.lower() in names['view']:
+            yield 'the trigger %s on the view %s' % (name, table), 'drop it'
+        elif name.lower() in names['table'] | names['view']:
+            yield 'the trigger %s with the name of a table or a view' % name, 'make it under another name'
+    for name, text in base.execute("SELECT name, sql FROM sqlite_master WHERE type = 'table'").fetchall():
+        frozen = next(_unread_on(base, name), None)
+        if frozen and 'references' in text.lower():
+            yield 'the table %s, which refers to another one and %s' % (name, frozen), 'drop that'
+    with contextlib.suppress(sqlite3.OperationalError):  # of a key that refers to no key
+        for table, row, parent, _ in base.execute('PRAGMA foreign_key_check'):
+            yield 'a row of the table %s, rowid %s, that refers to no row of %s' % (table, row, parent), 'delete it'
+    if base.execute('PRAGMA auto_vacuum').fetchone()[0]:
+        yield 'auto-vacuum', 'turn it off by `PRAGMA auto_vacuum = NONE; VACUUM`'
+    if base.execute('PRAGMA encoding').fetchone()[0] != 'UTF-8':
+        yield 'its texts in UTF-16', 'copy its tables into a new file'
+
+
+def _unread_on(base: sqlite3.Connection, table: str) -> Iterator[str]:
+    """What on a table keeps a desk's SQL from reading it."""
+    for name, in base.execute("SELECT name FROM sqlite_master WHERE type = 'trigger' AND lower(tbl_name) = ?", (table.lower(),)):
+        yield 'has the trigger %s' % name
+    for _, name, _, _, is_partial in base.execute('PRAGMA index_list("%s")' % table.replace('"', '""')).fetchall():
+        if is_partial:
+            yield 'has the index %s with WHERE' % name
+        elif any(column == -2 for _, column, *_ in base.execute('PRAGMA index_xinfo("%s")' % name.replace('"', '""'))):
+            yield 'has the index %s on an expression' % name
 
 
 def _oddities(base: sqlite3.Connection, table: str) -> Iterator[str]:
@@ -192,8 +227,8 @@ def _oddities(base: sqlite3.Connection, table: str) -> Iterator[str]:
             yield 'has the column %s with the default %s' % (name, default)
         if hidden:
             yield 'has the column %s that is generated' % name
-    written, by_rowid = _keys(base, table)
-    if {frozenset(key) for key in written} != {frozenset(key.split()) for key in keys} or by_rowid and len(written) > 1:
+    written = _keys(base, table)
+    if {frozenset(key) for key in written} != {frozenset(key.split()) for key in keys}:
         yield 'has the keys %s, and not %s' % tuple(
             ', '.join('(%s)' % ', '.join(key) for key in said) for said in (written, [key.split() for key in keys])
         )
@@ -205,11 +240,12 @@ def _oddities(base: sqlite3.Connection, table: str) -> Iterator[str]:
     if base.execute('PRAGMA foreign_key_list("%s")' % table).fetchall():
         yield 'has a foreign key'
     yield from _rules_in_text(base, table)
+    yield from _unread_on(base, table)
 
 
-def _keys(base: sqlite3.Connection, table: str) -> tuple[list[list[str]], bool]:
-    """The primary key and the other ones, in their order, each its columns; `desc` and a collation are told with it. And whether the
-    primary key is the rowid, which has no index."""
+def _keys(base: sqlite3.Connection, table: str) -> list[list[str]]:
+    """The primary key, if that is the rowid, which has no index, and the keys with an index, in their order, each its columns; `DESC`
+    and a collation are told with it."""
     found = []
     indexes = base.execute('PRAGMA index_list("%s")' % table).fetchall()
     for _, name, _, origin, _ in indexes:
@@ -224,7 +260,7 @@ def _keys(base: sqlite3.Connection, table: str) -> tuple[list[list[str]], bool]:
     rowid = [row[1] for row in base.execute('PRAGMA table_xinfo("%s")' % table) if row[5]]
     if any(origin == 'pk' for _, _, _, origin, _ in indexes):
         rowid = []
-    return [*([rowid] if rowid else []), *(said for _, said in sorted(found))], bool(rowid)
+    return [*([rowid] if rowid else []), *(said for _, said in sorted(found))]
 
 
 def _rules_in_text(base: sqlite3.Connection, table: str) -> Iterator[str]:

@@ -187,7 +187,15 @@ def _look_at_tables(told: Told, path: str, base: sqlite3.Connection, rows_of_a_r
         text = '%s is damaged, as SQLite says (`fault: Storage` or `Damaged`). Put a copy back: %s.%s'
         told.reasons.append(text % (path, COPY, ''.join('\n  ' + line for line in damage)))
         return
+    text = 'A desk reads no file that has %s (`fault: Storage`): %s.'
+    told.reasons += [text % one for one in database.unread(base)]
     found = database.tables_of(base)
+    if found.others:
+        text = (
+            "Not a desk's: %s. If a desk says `fault: Storage` for no other reason, its SQL can't read one of these, such "
+            'as a view in words of SQL that it lacks, or rows that are older than a column with a default.'
+        )
+        told.notes.append(text % ', '.join(found.others))
     if found.is_bare:
         told.notes.append('%s is a database without a table: a desk that is started makes its tables in it.' % path)
     elif found.is_foreign:
@@ -202,7 +210,7 @@ def _look_at_tables(told: Told, path: str, base: sqlite3.Connection, rows_of_a_r
         rows = read_rows(base)
         _look_at_rows(told, path, breaches(rows), rows_of_a_rule)
         text = '%s may refuse a row of the desk (`fault: Storage`): drop it.'
-        told.reasons += [text % other for other in database.others_on_tables(base)]
+        told.reasons += [text % other for other in database.unique_indexes(base)]
         counts = len(rows.load), len(rows.job), len(rows.vehicle), len(rows.journey)
         text = (
             '%s is of the second schema, so there is nothing to migrate, and has %d loads, %d jobs, %d vehicles and %d '
