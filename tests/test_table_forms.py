@@ -49,6 +49,8 @@ SAME = {
     'its key that is the rowid': typed('meta', id='INTEGER PRIMARY KEY'),
     'its key that is the rowid and NOT NULL': typed('meta', 'PRIMARY KEY (id)'),
     'its key that is the rowid, whatever the order': typed('meta', 'PRIMARY KEY (id DESC)'),
+    'its key that is the rowid and UNIQUE': typed('meta', id='INTEGER PRIMARY KEY UNIQUE'),
+    'its key that is the rowid, NOT NULL and UNIQUE twice': typed('meta', 'UNIQUE (id)', id='INTEGER NOT NULL UNIQUE PRIMARY KEY'),
     'quotes, capitals and a comment': typed('job', id='text -- CHECK (1)\nprimary key').replace('target', '"target"').replace('CREATE', 'create'),
     'what is so anyhow': typed('load', 'PRIMARY KEY (id ASC)', id='TEXT NULL COLLATE BINARY', station='TEXT DEFAULT NULL'),
 }
@@ -62,7 +64,8 @@ SAME_SECOND = {
 OTHER = {
     'a key that is the rowid, counted': typed('meta', id='INTEGER PRIMARY KEY AUTOINCREMENT'),
     'a key that falls, and so is no rowid': typed('meta', id='INTEGER PRIMARY KEY DESC'),
-    'a key that is the rowid, and a key more': typed('meta', id='INTEGER PRIMARY KEY UNIQUE'),
+    'a key that is the rowid, and a key more': typed('meta', 'UNIQUE (schema)', id='INTEGER PRIMARY KEY'),
+    'a key that is the rowid, and UNIQUE in falling order': typed('meta', 'UNIQUE (id DESC)', id='INTEGER PRIMARY KEY'),
     'no key of the job': typed('trip', ORDER, VEHICLE),
     'no key of the vehicle': typed('trip', ORDER, JOB),
     'one key in place of two': typed('trip', ORDER, 'UNIQUE (manufacturer, serial, job)'),

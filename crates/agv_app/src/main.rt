@@ -1,8 +1,8 @@
 //! The program of the desk. `main` reads the arguments and passes on the standard streams. `agv_command_line` parses the
 //! arguments (`line_of`), and `agv_program` runs the line that they are (`run_line`) and says how a run ends.
 //!
-//! It exits with 0; with 1 after a line `fault: ..` on standard error; and with 2 if the arguments are wrong, and for `--help`,
-//! with the text on standard error.
+//! It exits with 0; with 1 after a line `fault: ..` on standard error; and with 2 if the arguments are wrong, and for
+//! `--help`, with the text on standard error.
 #![tactic(auto)]
 
 ghost use Rattle.std.specs.Prelude.{◌≡◌, drop, IfErr};

@@ -16,10 +16,10 @@ use sqlite::{Alter, Connection, Error, ErrorCode};
 /// the rows before them or after all of them, and an opening finds these ([`change_laws`](crate::change_laws)).
 ///
 /// # Errors
-/// [`Fault::Memory`] when out of memory, and [`Fault::Storage`] for any other error of the database: the store failed or was
-/// closed by an earlier failure, or the connection limits the steps of its queries. No clause says that the disk has failed
-/// then: SQL refuses a row too, where the changes would give two open trips one vehicle, or two acts one job and one kind,
-/// or where a unique index that isn't the desk's forbids it.
+/// [`Fault::Memory`] when out of memory, and [`Fault::Storage`] for any other error of the database: the store failed or
+/// was closed by an earlier failure, or the connection limits the steps of its queries. No clause says that the disk has
+/// failed then: SQL refuses a row too, where the changes would give two open trips one vehicle, or two acts one job and one
+/// kind, or where a unique index that isn't the desk's forbids it.
 pub fn write_changes<S: Alter>(conn: &mut Connection<S>, changes: &[Change]) -> Result<(), Fault>
     requires { conn.old.in_transaction ≡ false }
     ensures made { HasCleanDisk (state S.Store conn.new) → OnOk result (MakesChanges changes.now (state S.Store conn.old).now (state S.Store conn.new).committed) }

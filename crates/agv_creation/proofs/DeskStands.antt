@@ -24,11 +24,11 @@ use Rattle.agv_schema.specs.declared.table_name.TableName.{TableName}
 use Rattle.agv_schema.specs.declared.table_name.TableName.TheVariants as the
 use Rattle.agv_schema.specs.Schema.{desk_tables, desk_indexes, PlainIndex}
 use Rattle.agv_creation.specs.DeskSchema.{sequence_table, with_sequence, with_new_table, with_new_index, index_on, with_desk}
-use Rattle.agv_schema.specs.DeskRows.{Placing, TableHas, TableStands, table_for, place_of, row_shown, width_of, table_at, is_unreferred, first_columns, columns_in, HaveRows}
+use Rattle.agv_schema.specs.DeskRows.{Placing, RowidColumn, TableHas, TableStands, table_for, place_of, row_shown, width_of, table_at, is_unreferred, first_columns, columns_in, HaveRows}
 use Rattle.agv_creation.specs.DeskTables.{HasTable, HasDesk, first_rows}
 use Rattle.agv_creation.specs.DeskTables.{HasRows}
 use Rattle.agv_creation.specs.NewDesk.{StandsNew, MadeDesksStand, TreesTellTables}
-use Rattle.agv_schema.proofs.DeskPlaces.{as_made, own_keys, own_no_rowid, same_own_keys}
+use Rattle.agv_schema.proofs.DeskPlaces.{as_made, own_keys, own_no_rowid_column, same_own_keys}
 use Rattle.agv_schema.proofs.KeyedEntries.{shaped_are_keyed}
 use Rattle.agv_creation.proofs.TablesKept.{has_got}
 
@@ -136,7 +136,7 @@ pub stands_new : (db : Database) → IsDatabase db → HasDesk db first_rows →
 stands_new db listed h allowed =
     let d = desk db h in
     let have : (name : TableName) → AreWide (width_of name) (table_at (place_of name) first_rows) → TableHas d db.trees name (table_at (place_of name) first_rows) =
-    λ name wide. subst (λ (r : Option Bool). HaveRows (row_shown r (width_of name)) (db.trees (d.tree name)) (table_at (place_of name) first_rows)) (sym (own_no_rowid name))
+    λ name wide. subst (λ (r : Option RowidColumn). HaveRows (row_shown r (width_of name)) (db.trees (d.tree name)) (table_at (place_of name) first_rows)) (sym (own_no_rowid_column name))
     (have_rows (width_of name) (db.trees (d.tree name)) (table_at (place_of name) first_rows) wide (has_table db h name).rows_are) in (
       d,
       record { stands = λ name. stands db h listed name (allowed name).unreferred; apart = (allowed the.Meta).apart },

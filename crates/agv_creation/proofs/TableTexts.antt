@@ -10,7 +10,7 @@ use Rattle.sqlite_resolve.specs.Compile.{first, table_defined_by}
 use Rattle.sqlite_schema.specs.declared.schema.Table.{Table}
 use Rattle.sqlite_tied.specs.Compute.{everything}
 use Rattle.agv_schema.specs.Schema.{meta_table, node_table, edge_table, station_table, vehicle_table, trip_table, leg_table, place_table, job_table, hold_table, used_table, capacity_table, journey_table, act_table, desk_tables}
-use Rattle.agv_creation.specs.SchemaTexts.{meta_texts, table_texts, DefineTables}
+use Rattle.agv_creation.specs.SchemaTexts.{meta_forms_texts, table_texts, DefineTables}
 use Rattle.agv_creation.specs.StandingTables.{meta_forms}
 use Rattle.agv_creation.proofs.Creations.{DefinesTable}
 
@@ -18,9 +18,9 @@ pub all_defined : DefineTables
 unfolding everything
 all_defined = (refl, (refl, (refl, (refl, (refl, (refl, (refl, (refl, (refl, (refl, (refl, (refl, (refl, (refl, tt))))))))))))))
 
-pub meta_defined_so : AllZip (λ text (table : Table). table_defined_by text ≡ Ok table) meta_texts meta_forms
+pub meta_defined_so : AllZip (λ text (table : Table). table_defined_by text ≡ Ok table) meta_forms_texts meta_forms
 unfolding everything
-meta_defined_so = (refl, (refl, (refl, tt)))
+meta_defined_so = (refl, (refl, (refl, (refl, (refl, tt)))))
 
 -- ---- the parts of a text
 

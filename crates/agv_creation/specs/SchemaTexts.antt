@@ -25,12 +25,14 @@ table_texts =
     ∷ codes "CREATE TABLE journey (order_id TEXT PRIMARY KEY, manufacturer TEXT NOT NULL, serial TEXT NOT NULL, start TEXT NOT NULL, first INTEGER NOT NULL, base INTEGER NOT NULL, sent INTEGER NOT NULL, confirmed INTEGER, seen INTEGER NOT NULL, UNIQUE (manufacturer, serial)) STRICT"
     ∷ codes "CREATE TABLE act (order_id TEXT, n INTEGER, job TEXT NOT NULL, kind TEXT NOT NULL, place_at INTEGER NOT NULL, status TEXT NOT NULL, PRIMARY KEY (order_id, n), UNIQUE (job, kind)) STRICT" ∷ []
 
--- the texts of the tables that are taken for `meta`
-abbrev pub meta_texts : List (List ℕ)
-meta_texts =
+-- the texts of the tables that are taken for `meta`, one for each of `meta_forms`
+abbrev pub meta_forms_texts : List (List ℕ)
+meta_forms_texts =
     codes "CREATE TABLE meta (id INT PRIMARY KEY, schema INTEGER NOT NULL) STRICT"
     ∷ codes "CREATE TABLE meta (id INTEGER PRIMARY KEY, schema INTEGER NOT NULL) STRICT"
-    ∷ codes "CREATE TABLE meta (id INTEGER PRIMARY KEY NOT NULL, schema INTEGER NOT NULL) STRICT" ∷ []
+    ∷ codes "CREATE TABLE meta (id INTEGER PRIMARY KEY NOT NULL, schema INTEGER NOT NULL) STRICT"
+    ∷ codes "CREATE TABLE meta (id INTEGER PRIMARY KEY UNIQUE, schema INTEGER NOT NULL) STRICT"
+    ∷ codes "CREATE TABLE meta (id INTEGER PRIMARY KEY NOT NULL UNIQUE, schema INTEGER NOT NULL) STRICT" ∷ []
 
 -- the text that gives `meta` its row
 abbrev pub meta_text : List ℕ

@@ -7,7 +7,7 @@ use Rattle.sqlite_schema.specs.declared.schema.Column.{Column}
 use Rattle.sqlite_schema.specs.declared.schema.Schema.{Schema}
 use Rattle.sqlite_schema.specs.declared.schema.Table.{Table}
 use Rattle.sqlite_schema.specs.Names.{table_named}
-use Rattle.agv_schema.specs.DeskRows.{Placing, IsDesk, SameKeys, TableKeys, columns_by, key_by, keys_of, with_keys}
+use Rattle.agv_schema.specs.DeskRows.{Placing, IsDesk, RowidColumn, SameKeys, TableKeys, columns_by, indexed_by, key_by, keys_of, with_keys}
 use Rattle.agv_schema.specs.Schema.{meta_table}
 
 -- in some trees the desk's tables stand in the schema
@@ -21,21 +21,32 @@ pub record StandsAlike (schema : Schema) (table : Table) : Type 0 where
   pub keys : TableKeys
   pub named : table_named schema table.name ≡ Some at
   pub there : slice_get schema.tables at ≡ Some (with_keys keys (record table { tree = tree }))
-  pub same_keys : SameKeys keys.all table.uniques
+  pub same_keys : SameKeys keys.indexed table.uniques
   pub low : nat_le (2 ^ 31) tree ≡ false
 
--- the tables that are taken for `meta`: its first column may be the rowid
-abbrev pub meta_form : Option Bool → Table
+-- the tables that are taken for `meta`: its first column, `id`, may be the rowid
+abbrev pub meta_form : Option RowidColumn → Table
 meta_form None = meta_table
-meta_form (Some not_null) = record meta_table { key = key_by (Some not_null); columns = columns_by (Some not_null) meta_table.columns; primary = 0 ∷ []; uniques = []; orders = [] }
+meta_form (Some first) =
+    let indexed = indexed_by (Some first) meta_table.uniques in
+    record meta_table { key = key_by (Some first); columns = columns_by (Some first) meta_table.columns; primary = 0 ∷ []; uniques = indexed; orders = map (λ _. plain) indexed }
+
+-- the rowid, NOT NULL or not, UNIQUE besides or not
+abbrev pub a_rowid : Bool → Bool → Option RowidColumn
+a_rowid not_null is_unique = Some (record { not_null = not_null; is_unique = is_unique })
 
 abbrev pub meta_forms : List Table
-meta_forms = meta_form None ∷ meta_form (Some false) ∷ meta_form (Some true) ∷ []
+meta_forms =
+    meta_form None
+    ∷ meta_form (a_rowid false false)
+    ∷ meta_form (a_rowid true false)
+    ∷ meta_form (a_rowid false true)
+    ∷ meta_form (a_rowid true true) ∷ []
 
 -- one of these tables stands alike
-abbrev pub OneStands : Schema → List Table → Type 0
-OneStands schema [] = ⊥
-OneStands schema (t ∷ tables) = StandsAlike schema t ⊎ OneStands schema tables
+abbrev pub AnyStands : Schema → List Table → Type 0
+AnyStands schema [] = ⊥
+AnyStands schema (t ∷ tables) = StandsAlike schema t ⊎ AnyStands schema tables
 
 -- no column has a default
 abbrev pub HaveNoDefaults : List Column → Type 0

@@ -3,10 +3,10 @@ ghost use Rattle.std.specs.Prelude.{◌≡◌, ◌↔◌, IfOk, IsTrue, List, Ok
 ghost use Rattle.std.specs.List.{AllByRecursion, AllZip};
 ghost use Rattle.sqlite_schema.specs.declared.schema.Table.{Table};
 ghost use Rattle.sqlite_resolve.specs.Compile.{table_defined_by};
-ghost use Rattle.agv_creation.specs.StandingTables.{IsPlain, OneStands, StandsAlike, TablesStand, meta_forms};
+ghost use Rattle.agv_creation.specs.StandingTables.{IsPlain, AnyStands, StandsAlike, TablesStand, meta_forms};
 
 use crate::table_match::same_table;
-use crate::table_texts::{creation_texts, meta_texts};
+use crate::table_texts::{creation_texts, meta_forms_texts};
 use crate::tables_beside::allows_desk;
 use agv_header::Memory;
 use sqlite_resolve::define_table;
@@ -18,8 +18,8 @@ use std::alloc::Global;
 const MAX_TREES: u32 = 1 << 31;
 
 /// Whether the desk's fourteen tables stand in a database, in whatever trees: each with just its columns and keys, however
-/// these are written, and no rule more, no foreign key referring to one of them, and no two tables of the database in one tree. Tables of other
-/// names, views and plain indexes may stand beside them.
+/// these are written, and no rule more, no foreign key referring to one of them, and no two tables of the database in one
+/// tree. Tables of other names, views and plain indexes may stand beside them.
 ///
 /// # Errors
 /// [`Memory`] when out of memory.
@@ -38,15 +38,15 @@ pub fn tables_stand(alloc: Global, schema: &Schema) -> Result<bool, Memory>
 
 /// Whether `meta` stands in one of its forms.
 pub fn meta_stands(alloc: Global, schema: &Schema) -> Result<bool, Memory>
-    ensures { IfOk result (λ stands. IsTrue stands ↔ OneStands schema.now meta_forms) }
+    ensures { IfOk result (λ stands. IsTrue stands ↔ AnyStands schema.now meta_forms) }
 {
-    one_stands(alloc, schema, &meta_texts())
+    any_stands(alloc, schema, &meta_forms_texts())
 }
 
 // Whether one of the tables that the texts define stands just so under its name.
-fn one_stands(alloc: Global, schema: &Schema, texts: &[&str]) -> Result<bool, Memory>
+fn any_stands(alloc: Global, schema: &Schema, texts: &[&str]) -> Result<bool, Memory>
     ensures { (tables : List Table) → AllZip (λ text (table : Table). table_defined_by text ≡ Ok table) (map (λ text. text.now) texts.now) tables → AllByRecursion IsPlain tables
-        → IfOk result (λ stands. IsTrue stands ↔ OneStands schema.now tables) }
+        → IfOk result (λ stands. IsTrue stands ↔ AnyStands schema.now tables) }
 {
     let [text, others @ ..] = texts else {
         return Ok(false);
@@ -54,7 +54,7 @@ fn one_stands(alloc: Global, schema: &Schema, texts: &[&str]) -> Result<bool, Me
     if stands_by(alloc, schema, text)? {
         return Ok(true);
     }
-    one_stands(alloc, schema, others)
+    any_stands(alloc, schema, others)
 }
 
 // Whether each table that the texts define stands just so under its name.

@@ -1,7 +1,7 @@
 //! The texts of SQL that make the tables of the desk.
 ghost use Rattle.std.specs.Prelude.{◌≡◌, not, map};
 ghost use Rattle.sqlite_catalog.specs.Change.{is_used};
-ghost use Rattle.agv_creation.specs.SchemaTexts.{table_texts, making_steps, meta_texts, DefineTables};
+ghost use Rattle.agv_creation.specs.SchemaTexts.{table_texts, making_steps, meta_forms_texts, DefineTables};
 
 use sqlite_catalog::layout::is_used;
 use sqlite_schema::schema::Schema;
@@ -55,14 +55,17 @@ pub fn creation_texts() -> [&'static str; 14]
     ]
 }
 
-/// The texts of the tables that are taken for `meta`: its first column may be the rowid, and then NOT NULL or not.
-pub(crate) fn meta_texts() -> [&'static str; 3]
-    ensures { map (λ text. text.now) result ≡ meta_texts }
+/// The texts of the tables that are taken for `meta`: its first column may be the rowid, and then NOT NULL or not, UNIQUE
+/// besides or not.
+pub(crate) fn meta_forms_texts() -> [&'static str; 5]
+    ensures { map (λ text. text.now) result ≡ meta_forms_texts }
 {
     [
         META,
         "CREATE TABLE meta (id INTEGER PRIMARY KEY, schema INTEGER NOT NULL) STRICT",
         "CREATE TABLE meta (id INTEGER PRIMARY KEY NOT NULL, schema INTEGER NOT NULL) STRICT",
+        "CREATE TABLE meta (id INTEGER PRIMARY KEY UNIQUE, schema INTEGER NOT NULL) STRICT",
+        "CREATE TABLE meta (id INTEGER PRIMARY KEY NOT NULL UNIQUE, schema INTEGER NOT NULL) STRICT",
     ]
 }
 

@@ -24,8 +24,8 @@ const KEPT_PAGES: usize = 16_000;
 const CANNOT_OPEN: Error = Error::SqliteFailure(ErrorCode::CannotOpen);
 
 /// Opens the database in the file. Where there is no file it makes one, and where the file has no database yet, an empty
-/// one with pages of 512 bytes. Another file keeps the pages that it has; one that a stop left half made, with pages of 4,096
-/// bytes, gets those.
+/// one with pages of 512 bytes. Another file keeps the pages that it has; one that a stop left half made, with pages of
+/// 4,096 bytes, gets those.
 ///
 /// A path `:memory:` and one that begins with `file:`, which other programs take for no file's name, are refused.
 ///
@@ -78,12 +78,12 @@ fn random_number(rt: &HostRuntime) -> Result<u64, Error>
     }
 }
 
-/// Opens the database that these files hold; where they have none, it makes an empty one, as [`open_file`] does. `seed` is a
-/// number drawn at random, for the salts of the log.
+/// Opens the database that these files hold; where they have none, it makes an empty one, as [`open_file`] does. `seed` is
+/// a number drawn at random, for the salts of the log.
 ///
 /// # Errors
-/// `NotADatabase` or `DatabaseCorrupt` where the files have something else than a sound database, `OutOfMemory` where memory
-/// runs out, and others where the files fail.
+/// `NotADatabase` or `DatabaseCorrupt` where the files have something else than a sound database, `OutOfMemory` where
+/// memory runs out, and others where the files fail.
 pub fn open_files<D: Disk + Drop>(
     alloc: Global,
     mut files: Files<D>,

@@ -3,8 +3,8 @@
 //! [`open_in_memory`] gives a new one, whose calls cost the same at any size. It is the store over files, with its log,
 //! its pages and its indexes, over two [`MemoryFile`]s: files that a program keeps in memory, which meet the contract of
 //! `sqlite_disk`'s `Disk` as those of the system do. Nothing of them outlives the connection. Such a store is always clean
-//! ([`laws`]). [`open_file`] opens the database that a file has, and makes one where it has none; [`open_files`] does so over
-//! files that are open.
+//! ([`laws`]). [`open_file`] opens the database that a file has, and makes one where it has none; [`open_files`] does so
+//! over files that are open.
 #![tactic(auto)]
 
 mod file;

@@ -25,8 +25,8 @@ use agv_track::{Pending, Progress, judge, judge_idle};
 use agv_world::{Change, Fault, Floor, VehicleRow};
 use std::alloc::Global;
 
-/// A state message of a vehicle. Where the trip is larger than any of a lawful world it is refused with `Limit`, of which the
-/// clause says nothing.
+/// A state message of a vehicle. Where the trip is larger than any of a lawful world it is refused with `Limit`, of which
+/// the clause says nothing.
 pub(crate) fn take_state<F: Floor>(
     alloc: Global,
     floor: &mut F,

@@ -36,9 +36,9 @@ use std::alloc::Global;
 /// Takes stock: each known load that was found at a counted station is there from now on, and each one that
 /// stood there and was not found is at the checking place.
 ///
-/// The floor is asked three times for each counted station, and once for each found load that stands at none of them and for
-/// each load that moves. All else takes time in proportion to the rows and to the loads at the counted stations, times the
-/// logarithm of their number.
+/// The floor is asked three times for each counted station, and once for each found load that stands at none of them and
+/// for each load that moves. All else takes time in proportion to the rows and to the loads at the counted stations, times
+/// the logarithm of their number.
 pub(crate) fn take_stock<F: Floor>(
     alloc: Global,
     floor: &mut F,

@@ -1,4 +1,4 @@
-//! The rows of a vehicle that is written.
+//! The changes that give a vehicle, its order and its rest their rows.
 ghost use Rattle.std.specs.Prelude.{◌≡◌, ◌≤◌, ◌++◌, Some, length, IfOk, OnOk};
 ghost use Rattle.agv_track.specs.Footprints.{footprint_of};
 ghost use Rattle.agv_world.specs.Maps.{trip_row};

@@ -11,8 +11,8 @@
 //!   then knows, whatever the reads and writes are cut into. It is the theorem of this crate; what is written at each end
 //!   is defined by `agv_http` (its `StreamEnds`), whose module `laws::streams` joins the requests of a stream to lists of
 //!   calls, so that what `agv_desk` says of these holds of streams.
-//! - `specs/StreamCalls.antt` says what the calls of a stream make of the desk, and what a crash leaves of its tables; [`laws`]
-//!   joins a stream to what `agv_desk` says of lists of calls.
+//! - `specs/StreamCalls.antt` says what the calls of a stream make of the desk, and what a crash leaves of its tables;
+//!   [`laws`] joins a stream to what `agv_desk` says of lists of calls.
 //! - `specs/Replies.antt` says what one request comes to, `specs/Nexts.antt` the next one of a buffer, `specs/Bytes.antt`
 //!   bytes that are read or written, `specs/Refusals.antt` the refusal for a fault of the machine, and
 //!   `specs/CountingIo.antt` has the words on failures.

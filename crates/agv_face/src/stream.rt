@@ -63,21 +63,20 @@ pub fn serve_stream<S: Alter + Drop, R: Read, W: Write>(
 /// committed before it is answered.
 ///
 /// `IsStreamEnd` (`specs/StreamEnd.antt`) says for each end which input has arrived, what was written, and which world the
-/// desk then knows: the output of `agv_http`, complete, or a prefix of it, or a prefix of it and the refusal for a fault of the
-/// machine. Where the store has failed as the stream ends, `failed` says by which end. No clause says that an answer is
+/// desk then knows: the output of `agv_http`, complete, or a prefix of it, or a prefix of it and the refusal for a fault of
+/// the machine. Where the store has failed as the stream ends, `failed` says by which end. No clause says that an answer is
 /// written before more is read; a test does.
 ///
 /// Which requests were answered, and how many, holds whatever the disk answers (`counts`). It says besides what their calls
-/// have made of the desk (`specs/StreamCalls.antt`): a call is answered only by a desk that knew a lawful world, and a crash
-/// leaves the rows of the world after the requests that were answered; after a fault of the machine possibly those after one
-/// more request. A request whose answer is cut is done. At each other end, where a call was answered, the store is open, and
-/// the desk knows the world that is left; where none was, the desk is as it was. So it is, too, where no memory could be
-/// reserved.
+/// have made of the desk (`specs/StreamCalls.antt`): a call is answered only by a desk that knew a lawful world, and a
+/// crash leaves the rows of the world after the requests that were answered; after a fault of the machine possibly those
+/// after one more request. A request whose answer is cut is done. At each other end, where a call was answered, the store
+/// is open, and the desk knows the world that is left; where none was, the desk is as it was.
 ///
 /// However the stream ends, the store is still open if it was open before, unless its disk had a fault meanwhile, and if it
 /// is open it was open before: so another stream can go on from the world that is known (`later`, and
-/// [`laws::streams_leave_the_store_open`](crate::laws::streams_leave_the_store_open)). A desk that had failed before stays as
-/// it is and serves no call: the first one is answered `Storage`, and the stream ends.
+/// [`laws::streams_leave_the_store_open`](crate::laws::streams_leave_the_store_open)). A desk that had failed before stays
+/// as it is and serves no call: the first one is answered `Storage`, and the stream ends.
 ///
 /// # Errors
 /// `Read` where a read failed, or the most reads were made and one more is needed. `Write` where a write failed or took no

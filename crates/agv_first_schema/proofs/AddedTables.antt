@@ -15,7 +15,7 @@ use Rattle.agv_schema.specs.declared.table_name.TableName.{TableName}
 use Rattle.agv_schema.specs.declared.table_name.TableName.TheVariants as the
 use Rattle.agv_first_schema.specs.FirstRows.{FirstHolds, IsFirstDesk, first_names, is_first}
 use Rattle.agv_first_schema.specs.Moved.{added_tables}
-use Rattle.agv_schema.specs.DeskRows.{HaveRows, Holds, IsDesk, Placing, SameKeys, TableHas, TableKeys, TableStands, indexed_by, is_unreferred, row_shown, rowid_of, table_for, table_in, table_written, width_of}
+use Rattle.agv_schema.specs.DeskRows.{HaveRows, Holds, IsDesk, Placing, SameKeys, TableHas, TableKeys, TableStands, indexed_by, is_unreferred, row_shown, rowid_column_of, table_for, table_in, table_written, width_of}
 use Rattle.agv_creation.specs.DeskSchema.{sequence_table, with_new_table}
 use Rattle.agv_creation.specs.DeskTables.{HasTable}
 use Rattle.agv_schema.proofs.DeskPlaces.{as_made, is_among, own_keys, same_own_keys}
@@ -56,7 +56,7 @@ stands_still desk later name s longer tree keys unreferred = record {
       (position_kept (λ (u : Table). same_name u.name (table_for name).name) 0 s.at desk.schema.tables longer.more s.named);
   there = subst (λ ts. slice_get ts s.at ≡ Some (table_in later name)) (sym longer.is)
       (got_kept desk.schema.tables longer.more s.at (table_in later name) (s.there ∙ (λ i. Some (table_written name (sym tree i) (sym keys i)))));
-  same_keys = subst (λ (ks : TableKeys). SameKeys ks.all (indexed_by (rowid_of name ks) (table_for name).uniques)) (sym keys) s.same_keys;
+  same_keys = subst (λ (ks : TableKeys). SameKeys ks.indexed (indexed_by (rowid_column_of name ks) (table_for name).uniques)) (sym keys) s.same_keys;
   low = subst (λ n. nat_le (2 ^ 31) n ≡ false) (sym tree) s.low;
   unreferred = unreferred;
 }
@@ -70,7 +70,7 @@ stands_new db listed tree keys name rows h same own unreferred =
       at = h.at;
       named = h.named;
       there = there ∙ ap Some (as_made name (tree name)) ∙ ap (λ (ks : TableKeys). Some (table_written name (tree name) ks)) (sym own);
-      same_keys = subst (λ (ks : TableKeys). SameKeys ks.all (indexed_by (rowid_of name ks) (table_for name).uniques)) (sym own) (same_own_keys name);
+      same_keys = subst (λ (ks : TableKeys). SameKeys ks.indexed (indexed_by (rowid_column_of name ks) (table_for name).uniques)) (sym own) (same_own_keys name);
       low = low_tree db listed _ (has_got db.schema.tables h.at _ there);
       unreferred = unreferred;
     }
@@ -177,7 +177,7 @@ module _ (first : Placing) (old mid : Database) (added : AreAdded first old mid)
   first_rows_stay [] are (rows ∷ lists) h = h
   first_rows_stay (name ∷ names) are [] h = h
   first_rows_stay (name ∷ names) are (rows ∷ lists) h =
-      (subst (λ (it : TableKeys × List Row). HaveRows (row_shown (rowid_of name it.0) (width_of name)) it.1 rows) (λ i. (sym (keys_are name are.0) i, sym (trees_stay name are.0) i)) h.0, first_rows_stay names are.1 lists h.1)
+      (subst (λ (it : TableKeys × List Row). HaveRows (row_shown (rowid_column_of name it.0) (width_of name)) it.1 rows) (λ i. (sym (keys_are name are.0) i, sym (trees_stay name are.0) i)) h.0, first_rows_stay names are.1 lists h.1)
 
   -- the fourteen have the rows of the eleven, and the three have none
   pub second_holds : (lists : List (List Row)) → FirstHolds first old lists → Holds second mid (lists ++ [] ∷ [] ∷ [] ∷ [])

@@ -16,7 +16,7 @@ use Rattle.agv_schema.specs.declared.table_name.TableName.{TableName}
 use Rattle.agv_schema.specs.declared.table_name.TableName.TheVariants as the
 use Rattle.agv_first_schema.specs.Moved.{without_all}
 use Rattle.agv_rows.specs.Columns.{meta_columns}
-use Rattle.agv_schema.specs.DeskRows.{IsDesk, Makes, Placing, TableKeys, columns_by, on_table, place_of, row_shown, table_for, table_written, with_row}
+use Rattle.agv_schema.specs.DeskRows.{IsDesk, Makes, Placing, RowidColumn, TableKeys, columns_by, on_table, place_of, row_shown, table_for, table_written, with_row}
 use Rattle.agv_schema.specs.Schema.{meta_table, number}
 use Rattle.agv_schema.proofs.ColumnValues.{cast_all_keeps}
 use Rattle.agv_schema.specs.SchemaNumbers.{schema_number}
@@ -64,23 +64,23 @@ abbrev number_text : List ℕ
 number_text = codes "INSERT INTO meta (id, schema) VALUES (?1, ?2)"
 
 -- its values: the rowid, which the database chooses where it is no column, and the columns
-abbrev number_terms : Option Bool → List Term
+abbrev number_terms : Option RowidColumn → List Term
 number_terms None = row_terms the.Meta
-number_terms (Some not_null) = col 0 0 ∷ lit Null ∷ col 0 1 ∷ []
+number_terms (Some first) = col 0 0 ∷ lit Null ∷ col 0 1 ∷ []
 
 abbrev InsertsNumber : TableKeys → Type 0
-InsertsNumber keys = (s : Schema) (at tree : ℕ) → IsIn s (codes "meta") (table_written the.Meta tree keys) at → Means s number_text (Insert at (Values (number_terms keys.rowid) 3))
+InsertsNumber keys = (s : Schema) (at tree : ℕ) → IsIn s (codes "meta") (table_written the.Meta tree keys) at → Means s number_text (Insert at (Values (number_terms keys.rowid_column) 3))
 
-inserts_number : (primary : List ℕ) (all : List (List ℕ)) (rowid : Option Bool) → InsertsNumber (record { primary = primary; all = all; rowid = rowid })
+inserts_number : (primary : List ℕ) (indexed : List (List ℕ)) (rowid : Option RowidColumn) → InsertsNumber (record { primary = primary; indexed = indexed; rowid_column = rowid })
 unfolding everything
-inserts_number primary all None s at tree stands =
+inserts_number primary indexed None s at tree stands =
     let p = parsed number_text in
-    insert_means s (codes "meta") (table_written the.Meta tree (record { primary = primary; all = all; rowid = None })) at stands number_text p refl refl
+    insert_means s (codes "meta") (table_written the.Meta tree (record { primary = primary; indexed = indexed; rowid_column = None })) at stands number_text p refl refl
     (insertion_columns p.statement) (insertion_rows p.statement) (number_terms None) 3 refl refl refl
-inserts_number primary all (Some not_null) s at tree stands =
+inserts_number primary indexed (Some first) s at tree stands =
     let p = parsed number_text in
-    insert_means s (codes "meta") (table_written the.Meta tree (record { primary = primary; all = all; rowid = Some not_null })) at stands number_text p refl refl
-    (insertion_columns p.statement) (insertion_rows p.statement) (number_terms (Some not_null)) 3 refl refl refl
+    insert_means s (codes "meta") (table_written the.Meta tree (record { primary = primary; indexed = indexed; rowid_column = Some first })) at stands number_text p refl refl
+    (insertion_columns p.statement) (insertion_rows p.statement) (number_terms (Some first)) 3 refl refl refl
 
 abbrev meta_row : Row
 meta_row = meta_columns 1 schema_number
@@ -89,9 +89,9 @@ meta_row = meta_columns 1 schema_number
 abbrev number_entry : Row
 number_entry = Int (pos 1) ∷ Null ∷ Int (pos schema_number) ∷ []
 
-entry_kept : (r : Option Bool) → cast_all (number (codes "id") ∷ columns_by r meta_table.columns) number_entry ≡ number_entry
+entry_kept : (r : Option RowidColumn) → cast_all (number (codes "id") ∷ columns_by r meta_table.columns) number_entry ≡ number_entry
 entry_kept None = cast_all_keeps (number (codes "id") ∷ meta_table.columns) number_entry refl
-entry_kept (Some not_null) = cast_all_keeps (number (codes "id") ∷ columns_by (Some not_null) meta_table.columns) number_entry refl
+entry_kept (Some first) = cast_all_keeps (number (codes "id") ∷ columns_by (Some first) meta_table.columns) number_entry refl
 
 module _ (desk : Placing) (is : IsDesk desk) (old new : State) (has : old.now.schema ≡ desk.schema) (count : ℕ) (done : Executes number_text meta_row old new (Ok count)) where
   abbrev keys : TableKeys
@@ -100,22 +100,22 @@ module _ (desk : Placing) (is : IsDesk desk) (old new : State) (has : old.now.sc
   abbrev at : ℕ
   at = (is.stands the.Meta).at
 
-  means : Means desk.schema number_text (Insert at (Values (number_terms keys.rowid) 3))
-  means = inserts_number keys.primary keys.all keys.rowid desk.schema at (desk.tree the.Meta) (is_in desk is the.Meta)
+  means : Means desk.schema number_text (Insert at (Values (number_terms keys.rowid_column) 3))
+  means = inserts_number keys.primary keys.indexed keys.rowid_column desk.schema at (desk.tree the.Meta) (is_in desk is the.Meta)
 
-  number_lands : (r : Option Bool) → keys.rowid ≡ r → Lands desk old.now new.now (on_table (place_of the.Meta) (λ rows. meta_row ∷ rows))
+  number_lands : (r : Option RowidColumn) → keys.rowid_column ≡ r → Lands desk old.now new.now (on_table (place_of the.Meta) (λ rows. meta_row ∷ rows))
   number_lands None none =
       row_inserted desk is the.Meta old new has none number_text meta_row refl (subst (λ r. Means desk.schema number_text (Insert at (Values (number_terms r) 3))) none means) count done
-  number_lands (Some not_null) first =
+  number_lands (Some first) is_first =
       lands_added desk is the.Meta old new has number_entry number_entry
-      (one_added desk is the.Meta old new has number_text meta_row (number_terms (Some not_null)) number_entry number_entry
-      (subst (λ r. Means desk.schema number_text (Insert at (Values (number_terms r) 3))) first means) refl
-      (ap (λ (entry : Row). numbered Chosen (old.now.trees (desk.tree the.Meta)) (entry ∷ [])) (entry_kept keys.rowid)) count done)
-      meta_row refl (ap (λ r. row_shown r 2 number_entry) first)
+      (one_added desk is the.Meta old new has number_text meta_row (number_terms (Some first)) number_entry number_entry
+      (subst (λ r. Means desk.schema number_text (Insert at (Values (number_terms r) 3))) is_first means) refl
+      (ap (λ (entry : Row). numbered Chosen (old.now.trees (desk.tree the.Meta)) (entry ∷ [])) (entry_kept keys.rowid_column)) count done)
+      meta_row refl (ap (λ r. row_shown r 2 number_entry) is_first)
 
 pub number_written : (row : Row) → row ≡ meta_row → (old new : State) (r : Result ℕ Error) → RunsInside number_text row old new r
     → OnOk r (Makes (with_row the.Meta meta_row) old new)
 number_written row is old new r ran =
     makes (with_row the.Meta meta_row) number_text meta_row old new r
-    (λ desk stands has count done. number_lands desk stands old new has count done (desk.keys the.Meta).rowid refl)
+    (λ desk stands has count done. number_lands desk stands old new has count done (desk.keys the.Meta).rowid_column refl)
     (subst (λ values. RunsInside number_text values old new r) is ran)

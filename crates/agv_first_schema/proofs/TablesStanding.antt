@@ -12,10 +12,10 @@ use Rattle.agv_first_schema.specs.FirstRows.{IsFirstDesk, first_names, is_first}
 use Rattle.agv_schema.specs.DeskRows.{Placing, StandApart, TableKeys, TableStands, is_unreferred, table_for}
 use Rattle.agv_schema.specs.Schema.{desk_tables}
 use Rattle.agv_creation.specs.SchemaTexts.{DefineTables, table_texts}
-use Rattle.agv_creation.specs.StandingTables.{IsPlain, OneStands, StandsAlike, meta_forms}
+use Rattle.agv_creation.specs.StandingTables.{IsPlain, AnyStands, StandsAlike, meta_forms}
 use Rattle.agv_schema.specs.declared.table_name.TableName.{TableName}
 use Rattle.agv_schema.specs.declared.table_name.TableName.TheVariants as the
-use Rattle.agv_creation.proofs.TablesStand.{MetaStands, form_of, form_stands, keys_with, one_form, others_plain, stands_as_form, the_others, which_form}
+use Rattle.agv_creation.proofs.TablesStand.{MetaStands, form_of, form_stands, with_rowid_column, one_form, others_plain, stands_as_form, the_others, which_form}
 
 -- ---- the eleven as a list
 
@@ -90,7 +90,7 @@ unreferred tables all = named (λ name. is_unreferred (table_for name).name tabl
 -- the tree and the keys of each of the eleven that stand alike
 module _ (s : Schema) (meta : MetaStands s) (all : AllByRecursion (StandsAlike s) (the_ten desk_tables)) where
   abbrev its_place : {table : Table} → StandsAlike s table → ℕ × TableKeys
-  its_place it = (it.tree, keys_with meta.rowid it.keys)
+  its_place it = (it.tree, with_rowid_column meta.rowid_column it.keys)
 
   placed_at : TableName → ℕ × TableKeys
   placed_at the.Meta = its_place meta.it
@@ -104,11 +104,11 @@ module _ (s : Schema) (meta : MetaStands s) (all : AllByRecursion (StandsAlike s
   placed_at the.Job = its_place all.1.1.1.1.1.1.1.0
   placed_at the.Hold = its_place all.1.1.1.1.1.1.1.1.0
   placed_at the.Used = its_place all.1.1.1.1.1.1.1.1.1.0
-  placed_at _ = (0, record { primary = []; all = []; rowid = None })
+  placed_at _ = (0, record { primary = []; indexed = []; rowid_column = None })
 
   -- it stands alike, in that place
   record StandsThere (name : TableName) : Type 0 where
-    it : StandsAlike s (form_of meta.rowid name)
+    it : StandsAlike s (form_of meta.rowid_column name)
     same : placed_at name ≡ its_place it
 
   there_each : Each StandsThere
@@ -133,17 +133,17 @@ module _ (s : Schema) (meta : MetaStands s) (all : AllByRecursion (StandsAlike s
       let at : Placing = record { schema = s; tree = λ name. (placed_at name).0; keys = λ name. (placed_at name).1 } in
       let stands : (name : TableName) → is_first name ≡ true → TableStands at name = λ name is.
       let there = there_each name is in
-      stands_as_form s at meta.rowid name there.it refl (ap (λ (p : ℕ × TableKeys). p.0) there.same) (ap (λ (p : ℕ × TableKeys). p.1) there.same) (unreferred s.tables free name is) in
+      stands_as_form s at meta.rowid_column name there.it refl (ap (λ (p : ℕ × TableKeys). p.0) there.same) (ap (λ (p : ℕ × TableKeys). p.1) there.same) (unreferred s.tables free name is) in
       (at, record { stands = stands; apart = apart }, refl)
 
-they_stand : (s : Schema) → are_unreferred s.tables ≡ true → IsAscending (λ (t u : Table). t.tree ≢ u.tree) s.tables → OneStands s meta_forms → AllByRecursion (StandsAlike s) (the_ten desk_tables) → FirstTablesStand s
+they_stand : (s : Schema) → are_unreferred s.tables ≡ true → IsAscending (λ (t u : Table). t.tree ≢ u.tree) s.tables → AnyStands s meta_forms → AllByRecursion (StandsAlike s) (the_ten desk_tables) → FirstTablesStand s
 they_stand s free apart one all = they_stand_so s (which_form s one) all free apart
 
-pub each_alike : (s : Schema) → FirstTablesStand s → OneStands s meta_forms × AllByRecursion (StandsAlike s) (the_ten desk_tables)
+pub each_alike : (s : Schema) → FirstTablesStand s → AnyStands s meta_forms × AllByRecursion (StandsAlike s) (the_ten desk_tables)
 each_alike s stand =
     let at = stand.0 in
-    let alike : Each (λ name. StandsAlike s (form_of (at.keys name).rowid name)) = λ name first. form_stands s at name (stand.1.stands name first) stand.2 in (
-      one_form s (at.keys the.Meta).rowid (alike the.Meta refl),
+    let alike : Each (λ name. StandsAlike s (form_of (at.keys name).rowid_column name)) = λ name first. form_stands s at name (stand.1.stands name first) stand.2 in (
+      one_form s (at.keys the.Meta).rowid_column (alike the.Meta refl),
       (alike the.Node refl, (alike the.Edge refl, (alike the.Station refl, (alike the.Vehicle refl, (alike the.Trip refl, (alike the.Leg refl, (alike the.Load refl, (alike the.Job refl, (alike the.Hold refl, (alike the.Used refl, tt)))))))))),
     )
 
@@ -155,7 +155,7 @@ none_refers s stand =
 pub are_apart : (s : Schema) → FirstTablesStand s → IsAscending (λ (t u : Table). t.tree ≢ u.tree) s.tables
 are_apart s stand = subst (λ (u : Schema). IsAscending (λ (t v : Table). t.tree ≢ v.tree) u.tables) (sym stand.2) stand.1.apart
 
-pub told_so : (s : Schema) (r : Result Bool Memory) → are_unreferred s.tables ≡ true → IsAscending (λ (t u : Table). t.tree ≢ u.tree) s.tables → OneStands s meta_forms
+pub told_so : (s : Schema) (r : Result Bool Memory) → are_unreferred s.tables ≡ true → IsAscending (λ (t u : Table). t.tree ≢ u.tree) s.tables → AnyStands s meta_forms
     → IfOk r (λ b. IsTrue b ↔ AllByRecursion (StandsAlike s) (the_ten desk_tables)) → IfOk r (λ b. IsTrue b ↔ FirstTablesStand s)
 told_so s (Ok b) free apart meta h = ((λ yes. they_stand s free apart meta (h.0 yes)), (λ stand. h.1 (each_alike s stand).1))
 told_so s (Err e) free apart meta h = tt

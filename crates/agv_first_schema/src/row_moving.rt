@@ -1,4 +1,5 @@
-//! The rows of the first schema are written as the second has them, inside a transaction in which the fourteen tables stand.
+//! The rows of the first schema are written as the second has them, inside a transaction in which the fourteen tables
+//! stand.
 //!
 //! Each clause `made` says what becomes of the rows, whatever they are. An error changes what the transaction's end undoes.
 ghost use Rattle.std.specs.Prelude.{◌≡◌, IsTrue, OnOk};

@@ -11,8 +11,8 @@ use sqlite_schema::schema::Schema;
 use std::alloc::Global;
 
 /// Whether the eleven tables of the first schema stand in a database, in whatever trees: each with just its columns and
-/// keys, however these are written, and no rule more, no foreign key referring to one of them, and no two tables of the database in one tree. Tables of
-/// other names, views and plain indexes may stand beside them.
+/// keys, however these are written, and no rule more, no foreign key referring to one of them, and no two tables of the
+/// database in one tree. Tables of other names, views and plain indexes may stand beside them.
 ///
 /// # Errors
 /// [`Memory`] when out of memory.

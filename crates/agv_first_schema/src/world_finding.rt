@@ -16,8 +16,8 @@ use agv_world::World;
 use sqlite::{Alter, Connection};
 use std::alloc::Global;
 
-/// The tables of the lawful world, with one place on each vehicle, whose rows the eleven tables of the first schema have in a
-/// database, whoever wrote them: the tables, every row and what is held are looked at, and nothing is changed.
+/// The tables of the lawful world, with one place on each vehicle, whose rows the eleven tables of the first schema have in
+/// a database, whoever wrote them: the tables, every row and what is held are looked at, and nothing is changed.
 ///
 /// # Errors
 /// `Damaged` exactly if the rows are not those of such a world: a table is missing or differs, a row can't be decoded, the
@@ -41,7 +41,8 @@ pub fn find_first_world<S: Alter>(
     Ok(tables)
 }
 
-// Whether these are the tables of a lawful world with one place on each vehicle, and what is held is what its vehicles hold.
+// Whether these are the tables of a lawful world with one place on each vehicle, and what is held is what its vehicles
+// hold.
 fn are_of_a_first_world(alloc: Global, tables: &World, held: &HeldThings) -> Result<bool, Memory>
     ensures { IfOk result (λ are. IsTrue are ↔ ((world : WorldOf) × Keeps tables.now world × IsLawful 1 world × (held.now.table ≡ (maps_of world).holds))) }
 {

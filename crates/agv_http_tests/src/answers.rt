@@ -19,17 +19,17 @@ fn check_bytes(rt: &impl Abort, found: &[u8], wanted: &str) {
 /// What stands in front of an answer.
 const BEFORE: &str = "the answer before";
 
-/// Puts the answer behind another, where there is room for so many bytes.
+/// Puts the answer behind another, in a buffer of so many bytes.
 fn check_put(
     rt: &impl Abort,
     alloc: Global,
     answer: &Answer,
     report: &[u8],
     close: bool,
-    room: usize,
+    buffer: usize,
     wanted: &str,
 ) {
-    let mut out = Vec::with_capacity(alloc, room).expect(rt, "memory");
+    let mut out = Vec::with_capacity(alloc, buffer).expect(rt, "memory");
     out.extend_from_slice(BEFORE.as_bytes())
         .expect(rt, "memory");
     put_answer(answer, report, close, &mut out).expect(rt, "memory");
@@ -37,8 +37,8 @@ fn check_put(
     check_bytes(rt, &out, whole.as_str());
 }
 
-/// Writes the answer alone, then behind another where there is just enough room, where there is a byte too little, and
-/// where there is none.
+/// Writes the answer alone, then behind another in a buffer that fits both, in one that is a byte too short, and in one
+/// without a byte.
 fn check_written(
     rt: &impl Abort,
     alloc: Global,
@@ -50,8 +50,8 @@ fn check_written(
     let found = answer_bytes(alloc, answer, report, close).expect(rt, "memory");
     check_bytes(rt, &found, wanted);
     let len = BEFORE.len().saturating_add(wanted.len());
-    for room in [len, len.saturating_sub(1), 0] {
-        check_put(rt, alloc, answer, report, close, room, wanted);
+    for buffer in [len, len.saturating_sub(1), 0] {
+        check_put(rt, alloc, answer, report, close, buffer, wanted);
     }
 }
 

@@ -84,8 +84,8 @@ get /report/holds => Err(BadMethod { allow: Get })
 POST /export/loads => Err(BadMethod { allow: Get })
 ";
 
-/// A question mark begins what isn't looked at; a name may stand where a word of another path might, and has 32 bytes at most;
-/// and what is no path, whatever the method is.
+/// A question mark begins what isn't looked at; a name may stand where a word of another path might, and has 32 bytes at
+/// most; and what is no path, whatever the method is.
 const PATHS: &str = "\
 GET /loads/L1? => Ok(OfName(GetLoad, L1))
 GET /loads/L1?x=1 => Ok(OfName(GetLoad, L1))
@@ -251,8 +251,8 @@ POST /uagv/v2/KIT/0001/state {"headerId":1,"timestamp":"2023-11-14T22:13:19.50Z"
 POST /uagv/v2/KIT/0001/state {"agvPosition":{}} => Err(Refused(Position))
 "#;
 
-/// What is no JSON, a number with a fraction, and what is no object with the members that are needed, in this order; and the
-/// stops of an order, which says its job or its stops and never both.
+/// What is no JSON, a number with a fraction, and what is no object with the members that are needed, in this order; and
+/// the stops of an order, which says its job or its stops and never both.
 const BODIES: &str = r#"POST /loads  => Err(Refused(BadJson))
 POST /loads   => Err(Refused(BadJson))
 POST /loads { => Err(Refused(BadJson))

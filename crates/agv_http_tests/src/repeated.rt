@@ -1,5 +1,5 @@
 //! One request that is read often, and one answer that is put often: `bench/requests` counts the
-//! instructions of each. The request is read to its call, and the answer is put where there is room for it.
+//! instructions of each. The request is read to its call, and the answer is put into a buffer that fits it.
 
 use crate::cases::check;
 use agv_desk::{Answer, Call};
@@ -70,7 +70,7 @@ fn read_often(rt: &impl Abort, alloc: Global, request: &str, wanted: &str, times
     }
 }
 
-/// Puts the answer so often, each time where there is room for it.
+/// Puts the answer so often, each time into a buffer that fits it.
 fn put_often(rt: &impl Abort, alloc: Global, answer: &Answer, times: u32) {
     let mut out = Vec::with_capacity(alloc, 1024).expect(rt, "memory");
     for _ in 0..times {

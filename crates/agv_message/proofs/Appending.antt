@@ -31,7 +31,7 @@ appended_then r v0 v1 v2 a b before h =
     record {
       whole = joined_if r v0.items v1.items v2.items a b before.0 h.whole;
       part = (a ++ h.part.0, joined v0.items v1.items v2.items a h.part.0 before.0 h.part.1);
-      fits = λ room. h.fits (omega (arith, length-append a b, len, before.1, room));
+      fits = λ buffer. h.fits (omega (arith, length-append a b, len, before.1, buffer));
       grown = omega (arith, before.1, h.grown);
     }
 
@@ -48,7 +48,7 @@ refused_then e r v0 v1 v2 a b text fails before h within =
     record {
       whole = no_text r _ fails;
       part = all.part;
-      fits = λ room. absurd (not_ok e (all.fits (omega (arith, length-append a b, within, room))));
+      fits = λ buffer. absurd (not_ok e (all.fits (omega (arith, length-append a b, within, buffer))));
       grown = all.grown;
     }
 
@@ -101,7 +101,7 @@ third_refused e u w r v0 v1 v2 v3 a b c rest text fails first second h whole =
 
 -- the text is there
 pub appended_whole : (u : Unit {0}) (v0 v1 : Vec ℕ Global) (text : List ℕ) → v1.items ≡ v0.items ++ text → vec_capacity v0 ≤ vec_capacity v1 → Appended (Ok u) v0 v1 text
-appended_whole u v0 v1 text e grown = record { whole = e; part = (text, e); fits = λ room. refl; grown = grown }
+appended_whole u v0 v1 text e grown = record { whole = e; part = (text, e); fits = λ buffer. refl; grown = grown }
 
 one_more : {A : Type 0} (text_of : A → List ℕ) (xs : List A) (i : ℕ) (x : A) → i < length xs → x ≡ get_or xs i x
     → flat_map text_of (take i xs) ++ text_of x ≡ flat_map text_of (take (i + 1) xs)

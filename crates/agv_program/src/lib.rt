@@ -4,8 +4,8 @@
 //! exit status. What comes of a replay in memory, and of any line's end, is `specs/Runs.antt`.
 //!
 //! - `run` opens the file or the database in memory that a line names, and passes the connection on.
-//! - `desks` has what is done over any store: a desk is opened in it, and the requests of a stream are answered, a report is
-//!   printed, or a file of the first schema is migrated to the second.
+//! - `desks` has what is done over any store: a desk is opened in it, and the requests of a stream are answered, a report
+//!   is printed, or a file of the first schema is migrated to the second.
 //! - `connections` listens on a port and serves one connection after another ([`serve_next`]).
 //! - `outcome` says how a run ends ([`RunFault`]), and what is said where there is no line to carry out ([`NoLine`]).
 #![tactic(auto)]

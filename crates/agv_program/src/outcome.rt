@@ -119,8 +119,8 @@ impl fmt::Display for NoLine {
 
 impl error::Error for NoLine {}
 
-/// How a run ends after this end of its stream: its last answer was the refusal for a fault of the machine, or it was served
-/// or refused as its requests had it.
+/// How a run ends after this end of its stream: its last answer was the refusal for a fault of the machine, or it was
+/// served or refused as its requests had it.
 pub fn end_of(ended: Result<Served, StreamFault>) -> Result<(), RunFault>
     ensures { result ≡ end_of ended }
 {

@@ -95,11 +95,11 @@ not_one None vehicle one none = cc one
 not_one (Some row) vehicle one none = cc none
 
 -- and both are the row
-pub joined : (o : Option VehicleRow) (vehicle : VehicleRow) (room : CapacityRow) → Some vehicle ≡ option_map single o → Some room ≡ option_map capacity_row_of o → Some (record vehicle { capacity = room.capacity }) ≡ o
-joined None vehicle room one two = absurd (cc one)
-joined (Some row) vehicle room one two =
+pub joined : (o : Option VehicleRow) (vehicle : VehicleRow) (capacity : CapacityRow) → Some vehicle ≡ option_map single o → Some capacity ≡ option_map capacity_row_of o → Some (record vehicle { capacity = capacity.capacity }) ≡ o
+joined None vehicle capacity one two = absurd (cc one)
+joined (Some row) vehicle capacity one two =
     let same : vehicle ≡ single row = same_Some _ _ one in
-    let same_capacity : room ≡ capacity_row_of row = same_Some _ _ two in
+    let same_capacity : capacity ≡ capacity_row_of row = same_Some _ _ two in
     ap₂ (λ (v : VehicleRow) (r : CapacityRow). Some (record v { capacity = r.capacity })) same same_capacity
 
 -- the key of what is held is of the kinds of its columns
@@ -147,7 +147,7 @@ module _ (world : World) (lawful : IsLawful desk_seats world) where
 
   -- its capacity
   pub tells_capacity : (id : VehicleKey) (key : Row) → key ≡ vehicle_key id → (rows : List Row) → IsPermutation (rows_of_key the.Capacity key lists) rows
-      → (r : Result (Option CapacityRow) OpenFault) → r ≡ first_in capacity_in rows → Follows r (λ room. room ≡ option_map capacity_row_of (row_of world id))
+      → (r : Result (Option CapacityRow) OpenFault) → r ≡ first_in capacity_in rows → Follows r (λ capacity. capacity ≡ option_map capacity_row_of (row_of world id))
   tells_capacity id key is rows shown =
       tells_part capacity_in (vehicle_capacity_columns id) id capacity_row_of (row_of world id) (λ row at. let its = vehicle_value world lawful id row at in capacity_kept id (capacity_row_of row) its.0 its.1.capacity)
       (rows_of_key the.Capacity key lists) rows (ap (λ k. rows_of_key the.Capacity k lists) is ∙ capacity_shown lists (maps_of world) its_own id ∙ ap (row_if (vehicle_capacity_columns id)) (row_at world id)) shown

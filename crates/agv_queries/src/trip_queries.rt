@@ -1,8 +1,8 @@
 //! The open trip of a vehicle, asked of the tables: its journey, its acts with the rows of their jobs, and its edges. Where
 //! the layout is known, it says where an edge leads, and the table of edges is asked only for one that it lacks.
 //!
-//! Each query answers what the lawful world says whose rows the tables have (`WorldAnswers.antt` of agv_row_reading), where a
-//! layout that is given is that of this world.
+//! Each query answers what the lawful world says whose rows the tables have (`WorldAnswers.antt` of agv_row_reading), where
+//! a layout that is given is that of this world.
 ghost use Rattle.std.specs.Prelude.{◌≡◌, is_some, Some, filter};
 ghost use Rattle.std.specs.FinMap as map;
 ghost use Rattle.agv_rows.specs.TripRows.{acts_of, is_of};

@@ -46,11 +46,11 @@ module _ {S : Type 0} (g : Ghosts S) (old new : Held S) where
   -- rows that are shown
   pub tells_rows : (asked : List (List Row) → List Row) (rows : Vec Row Global) → (HasCleanDisk (state g new) → Answers asked (state g old) rows.items) → (HasCleanDisk (state g new) → IsUnchanged (state g old) (state g new))
       → (old.in_transaction ≡ false → new.in_transaction ≡ false) → Survives (state g old) (state g new) (λ _. ⊥) → AnswersQuery g old new (Ok rows) (λ world rows. IsPermutation (asked (rows_of world)) rows.items)
-  tells_rows asked rows shown same at_rest saved = record {
+  tells_rows asked rows shown same idle saved = record {
     told = λ clean desk world has. shown clean desk has.stands (rows_of world) has.rows;
     kept = same;
     answering = λ clean. ((same clean).0.was_open, (same clean).0.is_open);
-    idle = at_rest;
+    idle = idle;
     damaged = λ _. tt;
     failed = λ _. tt;
     caused = λ _. tt;
@@ -61,12 +61,12 @@ module _ {S : Type 0} (g : Ghosts S) (old new : Held S) where
   pub tells_error : {A : Type 0} (says : World → A → Type 0) (r : Result A OpenFault) (e : Error) → IsErrAnd r (λ why. why ≡ open_fault_of e) → (HasCleanDisk (state g new) → IsUnchanged (state g old) (state g new) ⊎ IsRolledBack (state g old) (state g new))
       → (HasCleanDisk (state g new) → IsOfStore e → (desk : Placing) → IsDesk desk → (state g old).now.schema ≡ desk.schema → HasStorageCause g old new)
       → (old.in_transaction ≡ false → new.in_transaction ≡ false) → Survives (state g old) (state g new) (λ _. ⊥) → AnswersQuery g old new r says
-  tells_error says (Ok x) e is failed why at_rest saved = absurd is
-  tells_error says (Err f) e is failed why at_rest saved = record {
+  tells_error says (Ok x) e is failed why idle saved = absurd is
+  tells_error says (Err f) e is failed why idle saved = record {
     told = λ _. tt;
     kept = λ _. tt;
     answering = λ _. tt;
-    idle = at_rest;
+    idle = idle;
     damaged = λ _ broken. absurd (sound_of (is_of_store e) (sym is ∙ broken));
     failed = failed;
     caused = λ clean stored desk world has. why clean (storage_of (is_of_store e) (sym is ∙ stored)) desk has.stands has.rows.schema_is;

@@ -71,8 +71,8 @@ module _ {S : Type 0} (g : Ghosts S) (old : Held S) where
   pub all_error : {A : Type 0} (new : Held S) (e : Error) (says : World → A → Type 0) (has : List (List Row) → A → Type 0) (r : Result A OpenFault) → IsErrAnd r (λ why. why ≡ open_fault_of e)
       → (HasCleanDisk (state g new) → IsUnchanged (state g old) (state g new) ⊎ IsRolledBack (state g old) (state g new)) → (HasCleanDisk (state g new) → IsOfStore e → HasCauseOverTables g old new)
       → (old.in_transaction ≡ false → new.in_transaction ≡ false) → Survives (state g old) (state g new) (λ _. ⊥) → TellsAll g old new r says has
-  all_error new e says has r is failed why at_rest saved = record {
-    tells = tells_error g old new says r e is failed why at_rest saved;
+  all_error new e says has r is failed why idle saved = record {
+    tells = tells_error g old new says r e is failed why idle saved;
     exact = shows_err g old new (open_fault_of e) r is has;
     caused = caused_as g old new (open_fault_of e) r is (λ clean stored. why clean (storage_of (is_of_store e) stored));
   }

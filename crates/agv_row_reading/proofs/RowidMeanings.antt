@@ -11,7 +11,7 @@ use Rattle.sqlite_schema.specs.declared.schema.Schema.{Schema}
 use Rattle.sqlite_sql.specs.Term.{Term, col}
 use Rattle.sqlite_tied.specs.Compute.{everything}
 use Rattle.agv_row_reading.specs.Rowids.{rowids_text}
-use Rattle.agv_schema.specs.DeskRows.{TableKeys, rowid_of, table_for, table_written}
+use Rattle.agv_schema.specs.DeskRows.{RowidColumn, TableKeys, rowid_column_of, table_for, table_written}
 use Rattle.agv_schema.specs.declared.table_name.TableName.{TableName}
 use Rattle.agv_schema.specs.declared.table_name.TableName.TheVariants as the
 use Rattle.agv_schema.proofs.OneTable.{IsIn, IsPlainFrom, Means, parsed, query_by, selection, head_of, sole}
@@ -31,20 +31,20 @@ abbrev IsOne : ShownLayer → Type 0
 IsOne (Shown-F.One e alias text) = Unit {0}
 IsOne _ = ⊥
 
-abbrev shown_in : (x : ShownLayer) → IsOne x → Expr
-shown_in (Shown-F.One e alias text) is = e
-shown_in _ is = absurd is
+abbrev expr_in : (x : ShownLayer) → IsOne x → Expr
+expr_in (Shown-F.One e alias text) is = e
+expr_in _ is = absurd is
 
 abbrev pub rowid_terms : List Term
 rowid_terms = col 1 0 ∷ []
 
 -- under what name: that of the column that it is, if it is one
-abbrev pub rowid_heads : Option Bool → List (List ℕ)
+abbrev pub rowid_heads : Option RowidColumn → List (List ℕ)
 rowid_heads None = codes "rowid" ∷ []
-rowid_heads (Some not_null) = codes "id" ∷ []
+rowid_heads (Some first) = codes "id" ∷ []
 
 abbrev pub rowid_names : TableName → TableKeys → List (List ℕ)
-rowid_names name keys = rowid_heads (rowid_of name keys)
+rowid_names name keys = rowid_heads (rowid_column_of name keys)
 
 is_low : (tree : ℕ) → nat_le (2 ^ 31) tree ≡ false → nat_lt tree (2 ^ 31) ≡ true
 is_low tree low = search (rules, low)
@@ -55,36 +55,36 @@ AsksRowids name keys = (s : Schema) (at tree : ℕ) → IsIn s (table_for name).
     → Means s (rowids_text name) (Select (record { lets = []; body = query_by tree [] rowid_terms }) (rowid_names name keys))
 
 -- of `meta`, whether its first column is the rowid or not
-meta_rowids : (primary : List ℕ) (all : List (List ℕ)) (rowid : Option Bool) → AsksRowids the.Meta (record { primary = primary; all = all; rowid = rowid })
+meta_rowids : (primary : List ℕ) (indexed : List (List ℕ)) (rowid : Option RowidColumn) → AsksRowids the.Meta (record { primary = primary; indexed = indexed; rowid_column = rowid })
 unfolding everything
-meta_rowids primary all None s at tree stands =
-    let table = table_written the.Meta tree (record { primary = primary; all = all; rowid = None }) in
+meta_rowids primary indexed None s at tree stands =
+    let table = table_written the.Meta tree (record { primary = primary; indexed = indexed; rowid_column = None }) in
     let p = parsed (rowids_text the.Meta) in
     let sel = selection p.statement tt in
     let core = (out-Select sel).first in
     let shown = (out-Core core).shown in
     let low = is_low tree stands.low in
     let plain : IsPlainFrom core (codes "meta") = record { source = head_of (out-Core core).from tt; from = refl; origin = refl; alias = refl; on = refl; using = refl; inner = refl; group = refl; having = refl; repeats = refl } in
-    let shows : ShowsRowid table shown (shown_in (out-Shown (first_of_all shown tt)) tt) = record { one = first_of_all shown tt; text = _; word = _; all_is = refl; one_is = refl; expr_is = refl; names = record { unnamed = refl; rowid = refl; low = low } } in
+    let shows : ShowsRowid table shown (expr_in (out-Shown (first_of_all shown tt)) tt) = record { one = first_of_all shown tt; text = _; word = _; all_is = refl; one_is = refl; expr_is = refl; names = record { unnamed = refl; rowid = refl; low = low } } in
     select_means s (codes "meta") table at stands (rowids_text the.Meta) p refl refl sel refl
     (record { with = refl; others = refl; order = refl; limit = refl; offset = refl }) plain [] rowid_terms (rowid_heads None) (None ∷ []) (rw low refl) refl refl
     (rowids_named table (codes "meta") core plain _ shows refl (sole table) 0 refl refl) refl
-meta_rowids primary all (Some not_null) s at tree stands =
-    let table = table_written the.Meta tree (record { primary = primary; all = all; rowid = Some not_null }) in
+meta_rowids primary indexed (Some first) s at tree stands =
+    let table = table_written the.Meta tree (record { primary = primary; indexed = indexed; rowid_column = Some first }) in
     let p = parsed (rowids_text the.Meta) in
     let sel = selection p.statement tt in
     let core = (out-Select sel).first in
     let shown = (out-Core core).shown in
     let low = is_low tree stands.low in
     let plain : IsPlainFrom core (codes "meta") = record { source = head_of (out-Core core).from tt; from = refl; origin = refl; alias = refl; on = refl; using = refl; inner = refl; group = refl; having = refl; repeats = refl } in
-    let shows : ShowsRowid table shown (shown_in (out-Shown (first_of_all shown tt)) tt) = record { one = first_of_all shown tt; text = _; word = _; all_is = refl; one_is = refl; expr_is = refl; names = record { unnamed = refl; rowid = refl; low = low } } in
+    let shows : ShowsRowid table shown (expr_in (out-Shown (first_of_all shown tt)) tt) = record { one = first_of_all shown tt; text = _; word = _; all_is = refl; one_is = refl; expr_is = refl; names = record { unnamed = refl; rowid = refl; low = low } } in
     select_means s (codes "meta") table at stands (rowids_text the.Meta) p refl refl sel refl
-    (record { with = refl; others = refl; order = refl; limit = refl; offset = refl }) plain [] rowid_terms (rowid_heads (Some not_null)) (None ∷ []) (rw low refl) refl refl
+    (record { with = refl; others = refl; order = refl; limit = refl; offset = refl }) plain [] rowid_terms (rowid_heads (Some first)) (None ∷ []) (rw low refl) refl refl
     (rowids_named table (codes "meta") core plain _ shows refl (sole table) 0 refl refl) refl
 
 pub rowids_asked : (name : TableName) (keys : TableKeys) → AsksRowids name keys
 unfolding everything
-rowids_asked the.Meta keys s at tree stands = meta_rowids keys.primary keys.all keys.rowid s at tree stands
+rowids_asked the.Meta keys s at tree stands = meta_rowids keys.primary keys.indexed keys.rowid_column s at tree stands
 rowids_asked name keys s at tree stands =
     let p = parsed (rowids_text name) in
     let sel = selection p.statement tt in
@@ -92,7 +92,7 @@ rowids_asked name keys s at tree stands =
     let all = (out-Core core).shown in
     let low = is_low tree stands.low in
     let plain : IsPlainFrom core (table_for name).name = record { source = head_of (out-Core core).from tt; from = refl; origin = refl; alias = refl; on = refl; using = refl; inner = refl; group = refl; having = refl; repeats = refl } in
-    let shows : ShowsRowid (table_written name tree keys) all (shown_in (out-Shown (first_of_all all tt)) tt) = record { one = first_of_all all tt; text = _; word = _; all_is = refl; one_is = refl; expr_is = refl; names = record { unnamed = refl; rowid = refl; low = low } } in
+    let shows : ShowsRowid (table_written name tree keys) all (expr_in (out-Shown (first_of_all all tt)) tt) = record { one = first_of_all all tt; text = _; word = _; all_is = refl; one_is = refl; expr_is = refl; names = record { unnamed = refl; rowid = refl; low = low } } in
     select_means s (table_for name).name (table_written name tree keys) at stands (rowids_text name) p refl refl sel refl
     (record { with = refl; others = refl; order = refl; limit = refl; offset = refl }) plain [] rowid_terms (rowid_heads None) (None ∷ []) (rw low refl) refl refl
     (rowids_named (table_written name tree keys) (table_for name).name core plain _ shows refl (sole (table_written name tree keys)) 0 refl refl) refl

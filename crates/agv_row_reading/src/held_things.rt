@@ -31,8 +31,8 @@ impl HeldThings {
     /// Whether what is held is what the vehicles of these tables hold: each its footprint, and nothing else. It answers so
     /// where they are the tables of a lawful world with at most [`DESK_SEATS`](agv_schema::DESK_SEATS) seats.
     ///
-    /// `Memory` only when out of memory. It takes time in proportion to the vehicles times what is held and what is open, and
-    /// for each thing that is held it looks over the footprint of its vehicle.
+    /// `Memory` only when out of memory. It takes time in proportion to the vehicles times what is held and what is open,
+    /// and for each thing that is held it looks over the footprint of its vehicle.
     pub fn are_footprints(&self, alloc: Global, tables: &World) -> Result<bool, Memory>
         ensures { IfOk result (λ are. (world : WorldOf) → Keeps tables.now world → IsLawful desk_seats world → IsTrue are ↔ (self.now.table ≡ (maps_of world).holds)) }
     {

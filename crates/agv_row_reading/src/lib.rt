@@ -6,8 +6,8 @@
 //! - [`row_tables`]: the rows of each table are read into a table of the world in memory (`specs/ReadTables.antt`); a row
 //!   that can't be decoded, or a key that stands twice, is damaged (`specs/TablesRead.antt`).
 //! - [`HeldThings`] is what is held, and tells whether that is what the vehicles of a world hold; [`held_rows`] reads it.
-//! - [`rowid_reading`]: whether each row of a table has a ROWID of its own (`specs/Rowids.antt`), as an opening asks of a file
-//!   that anyone may have written.
+//! - [`rowid_reading`]: whether each row of a table has a ROWID of its own (`specs/Rowids.antt`), as an opening asks of a
+//!   file that anyone may have written.
 #![tactic(auto)]
 
 pub mod held_rows;

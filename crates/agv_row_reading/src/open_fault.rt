@@ -21,8 +21,8 @@ pub enum OpenFault {
     /// Out of memory.
     #[error("out of memory")]
     Memory,
-    /// Any other error of the database: the store failed or was closed by an earlier failure, or the steps of its queries are
-    /// limited.
+    /// Any other error of the database: the store failed or was closed by an earlier failure, or the steps of its queries
+    /// are limited.
     #[error("the database failed")]
     Storage,
 }

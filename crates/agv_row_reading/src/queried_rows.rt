@@ -1,5 +1,5 @@
-//! Rows that are asked for, in the words of the world: those of a key, those with some values or how many these are, and all
-//! of a table.
+//! Rows that are asked for, in the words of the world: those of a key, those with some values or how many these are, and
+//! all of a table.
 ghost use Rattle.std.specs.Prelude.{◌≡◌, length, true, IsPermutation};
 ghost use Rattle.sqlite.specs.Values.{bound};
 ghost use Rattle.agv_schema.specs.DeskRows.{rows_of_key, table_for};

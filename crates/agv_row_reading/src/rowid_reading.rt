@@ -22,8 +22,8 @@ use sqlite::{Alter, Connection, Error, Row};
 use std::alloc::{AllocError, Global};
 use std::collections::BTreeSet;
 
-/// Whether each row of the desk's tables has a whole number of its own, as SQLite's files have it: what the statements on one
-/// row ask of the tables.
+/// Whether each row of the desk's tables has a whole number of its own, as SQLite's files have it: what the statements on
+/// one row ask of the tables.
 ///
 /// # Errors
 /// [`OpenFault::Memory`] and [`OpenFault::Storage`]; none is [`OpenFault::Damaged`].
@@ -53,7 +53,7 @@ pub fn query_rowids<S: Alter>(alloc: Global, conn: &mut Connection<S>) -> Result
     )
 }
 
-/// Whether each row of a table, and then of others, has a whole number of its own, also where these stand without the rest.
+/// Whether each row of a table, and then of others, has a whole number of its own, also where these stand without the others.
 ///
 /// # Errors
 /// [`OpenFault::Memory`] and [`OpenFault::Storage`]; none is [`OpenFault::Damaged`].

@@ -11,7 +11,7 @@ use Rattle.sqlite.specs.Effect.{Database}
 use Rattle.agv_world.specs.Changes.{changed}
 use Rattle.agv_world.specs.Maps.{Maps}
 use Rattle.agv_world.specs.declared.change.Change.{Change}
-use Rattle.agv_schema.specs.DeskRows.{Placing, Holds, HaveRows, IsDesk, TableHas, rowid_of, shown_in, table_for, table_in, table_names, width_of}
+use Rattle.agv_schema.specs.DeskRows.{Placing, Holds, HaveRows, IsDesk, TableHas, rowid_column_of, shown_in, table_for, table_in, table_names, width_of}
 use Rattle.agv_rows.specs.Rows.{ActsAreOfJobs, AreAlike, TellRows, listed_all, row_lists}
 use Rattle.agv_schema.specs.declared.table_name.TableName.{TableName}
 use Rattle.agv_schema.proofs.DeskPlaces.{shown_by_key}
@@ -68,7 +68,7 @@ module _ (desk other : Placing) (is : IsDesk desk) (too : IsDesk other) (schema 
   one_tree = ap (λ (t : Table). t.tree) one_table
 
   shown_alike : shown_in desk name ≡ shown_in other name
-  shown_alike = shown_by_key (rowid_of name (desk.keys name)) (rowid_of name (other.keys name)) (width_of name) (ap (λ (t : Table). t.key) one_table)
+  shown_alike = shown_by_key (rowid_column_of name (desk.keys name)) (rowid_column_of name (other.keys name)) (width_of name) (ap (λ (t : Table). t.key) one_table)
 
 -- however the desk's tables are found in it, a database holds one list of rows for each
 pub one_lists : (desk other : Placing) (db : Database) (lists others : List (List Row)) → IsDesk desk → IsDesk other → Holds desk db lists → Holds other db others → AreAlike lists others

@@ -28,8 +28,8 @@ pub fn lawful_rows_tell_trips()
         → option_map (trip_told (journey_of trip)) (acts_told (maps_of world).jobs 0 (act_rows order trip)) ≡ Some trip }
 {}
 
-/// The rows of acts tell these acts, where each is of a known job. Journeys, acts and jobs tell the trips of no more than one
-/// table.
+/// The rows of acts tell these acts, where each is of a known job. Journeys, acts and jobs tell the trips of no more than
+/// one table.
 pub fn rows_tell_one_table()
     ensures acts { (jobs : finite.FinMap name_cmp RowOfJob) (order : List ℕ) (trip : TripRow) → AllByRecursion (IsOfJob jobs) trip.acts
         → acts_told jobs 0 (act_rows order trip) ≡ Some trip.acts }

@@ -60,8 +60,9 @@ fn takes_100_edges(rt: HostRuntime) {
     check_digest(&rt, rt.alloc(), &trip, "(17360, 11826832062027732926)");
 }
 
-/// Of the jobs one leads there, one to a node apart, and one there and back. A call says how long the path is, and then as in
-/// `plans`. `NoWalk` goes before `TooLong`, and that before `Beyond`; no part of a way is too long, but the whole may be.
+/// Of the jobs one leads there, one to a node apart, and one there and back. A call says how long the path is, and then as
+/// in `plans`. `NoWalk` goes before `TooLong`, and that before `Beyond`; no part of a way is too long, but the whole may
+/// be.
 const FAULTS: &str = "\
 200 P000 200 J1:L1:A:B pick:J1,drop:J1 => None
 200 P000 201 J1:L1:A:B pick:J1,drop:J1 => Some(Beyond)

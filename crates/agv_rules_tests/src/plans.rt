@@ -59,9 +59,9 @@ pub(crate) fn plan(
     Trip::plan(alloc, layout, vehicle, &jobs, &stops, order, at_node, edges)
 }
 
-/// The job from A to B; `NoWalk` goes before `Beyond`. From N3 to A and on to C the way passes N2 and N3 twice; C and B stand
-/// at one node; and two loads have three acts at one node, in the order of the stops. Then a stop of an unknown job, and
-/// one at an unknown station.
+/// The job from A to B; `NoWalk` goes before `Beyond`. From N3 to A and on to C the way passes N2 and N3 twice; C and B
+/// stand at one node; and two loads have three acts at one node, in the order of the stops. Then a stop of an unknown job,
+/// and one at an unknown station.
 const PLANS: &str = "\
 plan N1 1 J1:L1:A:B pick:J1,drop:J1 => Ok(Trip { order: O1, vehicle: VehicleKey { manufacturer: KIT, serial: 0001 }, start: N1, edges: Sequence { kept: [Edge { id: E12, start: N1, finish: N2 }, Edge { id: E23, start: N2, finish: N3 }] }, first: 0, base: 1, sent: 0, confirmed: None, seen: 0, acts: Sequence { kept: [Act { kind: Pick, job: J1, load: L1, station: A, place_at: 0, status: Waiting }, Act { kind: Drop, job: J1, load: L1, station: B, place_at: 2, status: Waiting }] } })
 plan N1 3 J1:L1:A:B pick:J1,drop:J1 => Err(Beyond)

@@ -21,8 +21,8 @@ const LINK: &str = "node,P$,,\nedge,G#,P#,P$\nedge,F#,P#,P$\nedge,B#,P$,P#\n";
 const START: &str =
     "kind,id,from,to\nnode,P000,,\nedge,H000,P000,P001\nedge,H001,P001,P002\nedge,H002,P002,P003\n";
 
-/// The file of a path P000, P001 and on, of so many edges forward, F000 and on. Beside each is an edge back, B000 and on, and
-/// a second edge forward, G000 and on, and beside the first three a third, H000 to H002.
+/// The file of a path P000, P001 and on, of so many edges forward, F000 and on. Beside each is an edge back, B000 and on,
+/// and a second edge forward, G000 and on, and beside the first three a third, H000 to H002.
 pub(crate) fn path_file(rt: &impl Abort, alloc: Global, path: u32) -> String {
     let mut file = String::from_str(alloc, START).expect(rt, "memory");
     for k in 0..path {

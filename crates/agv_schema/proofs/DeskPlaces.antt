@@ -8,7 +8,7 @@ use Rattle.sqlite_trees.specs.Tree.{Trees, IsAscending}
 use Rattle.sqlite_schema.specs.declared.schema.Table.{Table}
 use Rattle.sqlite_rules.specs.Lists.{Has}
 use Rattle.sqlite_rules.proofs.ListLemmas.{all_has}
-use Rattle.agv_schema.specs.DeskRows.{columns_in, indexed_by, key_by, row_shown, rowid_of, shown_in, table_for, table_names, place_of, width_of, HasKey, Placing, SameColumns, SameKeys, TableHas, TableKeys, table_in, table_written, TableStands, IsDesk, StandApart, on_table, table_at}
+use Rattle.agv_schema.specs.DeskRows.{columns_in, indexed_by, key_by, row_shown, rowid_column_of, shown_in, table_for, table_names, place_of, width_of, HasKey, Placing, RowidColumn, SameColumns, SameKeys, TableHas, TableKeys, table_in, table_written, TableStands, IsDesk, StandApart, on_table, table_at}
 use Rattle.agv_schema.specs.declared.table_name.TableName.{TableName}
 use Rattle.agv_schema.specs.declared.table_name.TableName.TheVariants as the
 use Rattle.agv_schema.proofs.OneTable.{IsIn}
@@ -67,31 +67,31 @@ same_as_themselves keys = let all = all_among (HasKey keys) keys (own_key keys) 
 
 -- the keys of the table as the desk makes it
 abbrev pub own_keys : TableName → TableKeys
-own_keys name = record { primary = (table_for name).primary; all = (table_for name).uniques; rowid = None }
+own_keys name = record { primary = (table_for name).primary; indexed = (table_for name).uniques; rowid_column = None }
 
 pub as_made : (name : TableName) (tree : ℕ) → record (table_for name) { tree = tree } ≡ table_written name tree (own_keys name)
 as_made the.Meta tree = refl
 as_made _ tree = refl
 
-pub own_no_rowid : (name : TableName) → rowid_of name (own_keys name) ≡ None
-own_no_rowid the.Meta = refl
-own_no_rowid _ = refl
+pub own_no_rowid_column : (name : TableName) → rowid_column_of name (own_keys name) ≡ None
+own_no_rowid_column the.Meta = refl
+own_no_rowid_column _ = refl
 
-pub same_own_keys : (name : TableName) → SameKeys (own_keys name).all (indexed_by (rowid_of name (own_keys name)) (table_for name).uniques)
-same_own_keys name = subst (λ (r : Option Bool). SameKeys (table_for name).uniques (indexed_by r (table_for name).uniques)) (sym (own_no_rowid name)) (same_as_themselves (table_for name).uniques)
+pub same_own_keys : (name : TableName) → SameKeys (own_keys name).indexed (indexed_by (rowid_column_of name (own_keys name)) (table_for name).uniques)
+same_own_keys name = subst (λ (r : Option RowidColumn). SameKeys (table_for name).uniques (indexed_by r (table_for name).uniques)) (sym (own_no_rowid_column name)) (same_as_themselves (table_for name).uniques)
 
 -- ---- the desk's tables
 
 -- the first column of the table is not the rowid: so it is for all but `meta`
-abbrev pub HasNoRowid : Placing → TableName → Type 0
-HasNoRowid desk name = rowid_of name (desk.keys name) ≡ None
+abbrev pub HasNoRowidColumn : Placing → TableName → Type 0
+HasNoRowidColumn desk name = rowid_column_of name (desk.keys name) ≡ None
 
 -- then its rows are its columns
-pub shown_as_kept : (desk : Placing) (name : TableName) → HasNoRowid desk name → shown_in desk name ≡ columns_in (width_of name)
-shown_as_kept desk name none = ap (λ (r : Option Bool). row_shown r (width_of name)) none
+pub shown_as_kept : (desk : Placing) (name : TableName) → HasNoRowidColumn desk name → shown_in desk name ≡ columns_in (width_of name)
+shown_as_kept desk name none = ap (λ (r : Option RowidColumn). row_shown r (width_of name)) none
 
 -- a row is shown as the table's key says
-pub shown_by_key : (r q : Option Bool) (width : ℕ) → key_by r ≡ key_by q → row_shown r width ≡ row_shown q width
+pub shown_by_key : (r q : Option RowidColumn) (width : ℕ) → key_by r ≡ key_by q → row_shown r width ≡ row_shown q width
 shown_by_key None None width same = refl
 shown_by_key None (Some b) width same = absurd (cc same)
 shown_by_key (Some a) None width same = absurd (cc same)

@@ -1,5 +1,5 @@
 -- The desk's tables in a database that may have other tables too, and the rows that they hold.
-use Rattle.std.specs.Prelude.{◌≡◌, ◌≢◌, ◌⊎◌, ◌-◌, ◌^◌, ℕ, zero, suc, Bool, true, false, not, ◌&&◌, nat_le, List, [], ◌∷◌, length, map, drop, filter, Option, None, Some, option_map, IsTrue, IsPermutation, slice_get}
+use Rattle.std.specs.Prelude.{◌≡◌, ◌≢◌, ◌⊎◌, ◌-◌, ◌^◌, if◌then◌else◌, ℕ, zero, suc, Bool, true, false, not, ◌&&◌, nat_le, List, [], ◌∷◌, length, map, drop, filter, Option, None, Some, option_map, IsTrue, IsPermutation, slice_get}
 use Rattle.std.specs.List.{AllZip, AllByRecursion, list_all}
 use Rattle.sqlite_value.specs.Keys.{plain}
 use Rattle.sqlite_value.specs.Order.{Row, column}
@@ -71,12 +71,17 @@ width_of name = length (table_for name).columns
 
 -- ---- where they stand
 
--- how the keys of a table are written: the PRIMARY KEY, if one is, and all that have an index, in their order; a key is a list of columns
+-- the column that is the rowid, as INTEGER PRIMARY KEY makes it: whether it is NOT NULL and whether it is UNIQUE besides
+pub record RowidColumn : Type 0 where
+  pub not_null : Bool
+  pub is_unique : Bool
+
+-- how the keys of a table are written: the PRIMARY KEY, if one is, and those that have an index, in their order; a key is a list of columns
 pub record TableKeys : Type 0 where
   pub primary : List ℕ
-  pub all : List (List ℕ)
-  -- Some where the first column is the rowid, as INTEGER PRIMARY KEY makes it; and then whether it is NOT NULL besides
-  pub rowid : Option Bool
+  pub indexed : List (List ℕ)
+  -- the first column, if that is the rowid
+  pub rowid_column : Option RowidColumn
 
 -- a schema, and the tree that each of the fourteen has in it, with its keys as they are written
 pub record Placing : Type 0 where
@@ -100,40 +105,48 @@ pub record SameKeys (a b : List (List ℕ)) : Type 0 where
   pub other : AllByRecursion (HasKey a) b
 
 -- no table but `meta` may have the rowid for its first column
-abbrev pub rowid_of : TableName → TableKeys → Option Bool
-rowid_of the.Meta keys = keys.rowid
-rowid_of _ keys = None
+abbrev pub rowid_column_of : TableName → TableKeys → Option RowidColumn
+rowid_column_of the.Meta keys = keys.rowid_column
+rowid_column_of _ keys = None
 
--- what the table has by it: its key, its columns, and the keys that have an index; the rowid has none
-abbrev pub key_by : Option Bool → Option ℕ
+-- what the table has by it: its key, its columns, and the keys that have an index; the rowid has one if it is UNIQUE besides
+abbrev pub key_by : Option RowidColumn → Option ℕ
 key_by None = None
-key_by (Some not_null) = Some 0
+key_by (Some first) = Some 0
 
-abbrev pub columns_by : Option Bool → List Column → List Column
+abbrev pub columns_by : Option RowidColumn → List Column → List Column
 columns_by None columns = columns
-columns_by (Some not_null) [] = []
-columns_by (Some not_null) (c ∷ columns) = record c { not_null = not_null } ∷ columns
+columns_by (Some first) [] = []
+columns_by (Some first) (c ∷ columns) = record c { not_null = first.not_null } ∷ columns
 
-abbrev pub indexed_by : Option Bool → List (List ℕ) → List (List ℕ)
+abbrev pub indexed_by : Option RowidColumn → List (List ℕ) → List (List ℕ)
 indexed_by None keys = keys
-indexed_by (Some not_null) keys = []
+indexed_by (Some first) keys = if first.is_unique then (0 ∷ []) ∷ [] else []
 
 -- a table with its keys as they are written
 abbrev pub with_keys : TableKeys → Table → Table
-with_keys keys table = record table { primary = keys.primary; uniques = keys.all; orders = map (λ _. plain) keys.all }
+with_keys keys table = record table { primary = keys.primary; uniques = keys.indexed; orders = map (λ _. plain) keys.indexed }
 
--- the keys of a table as they are written
 abbrev pub is_first_required : List Column → Bool
 is_first_required [] = false
 is_first_required (c ∷ columns) = c.not_null
 
+abbrev pub has_any : List (List ℕ) → Bool
+has_any [] = false
+has_any (key ∷ keys) = true
+
+-- the keys of a table as they are written; a column that is the rowid is taken for the first one
 abbrev pub keys_of : Table → TableKeys
-keys_of table = record { primary = table.primary; all = table.uniques; rowid = option_map (λ _. is_first_required table.columns) table.key }
+keys_of table = record {
+  primary = table.primary;
+  indexed = table.uniques;
+  rowid_column = option_map (λ _. record { not_null = is_first_required table.columns; is_unique = has_any table.uniques }) table.key;
+}
 
 -- the table of that name in this tree, with its keys as they are written
 abbrev pub table_written : TableName → ℕ → TableKeys → Table
 table_written name tree keys =
-    with_keys keys (record (table_for name) { tree = tree; key = key_by (rowid_of name keys); columns = columns_by (rowid_of name keys) (table_for name).columns })
+    with_keys keys (record (table_for name) { tree = tree; key = key_by (rowid_column_of name keys); columns = columns_by (rowid_column_of name keys) (table_for name).columns })
 
 -- as it stands in the schema
 abbrev pub table_in : Placing → TableName → Table
@@ -150,7 +163,7 @@ pub record TableStands (desk : Placing) (name : TableName) : Type 0 where
   pub named : table_named desk.schema (table_for name).name ≡ Some at
   pub there : slice_get desk.schema.tables at ≡ Some (table_in desk name)
   -- its keys are the desk's
-  pub same_keys : SameKeys (desk.keys name).all (indexed_by (rowid_of name (desk.keys name)) (table_for name).uniques)
+  pub same_keys : SameKeys (desk.keys name).indexed (indexed_by (rowid_column_of name (desk.keys name)) (table_for name).uniques)
   -- its tree has a number that a table's may have
   pub low : nat_le (2 ^ 31) (desk.tree name) ≡ false
   pub unreferred : is_unreferred (table_for name).name desk.schema.tables ≡ true
@@ -184,13 +197,13 @@ abbrev pub columns_in : ℕ → Row → Row
 columns_in width entry = first_columns width (drop 1 entry)
 
 -- the row that SQL shows of an entry with so many columns: where the first is the rowid, its own place in the entry counts for nothing
-abbrev pub row_shown : Option Bool → ℕ → Row → Row
+abbrev pub row_shown : Option RowidColumn → ℕ → Row → Row
 row_shown None width entry = columns_in width entry
-row_shown (Some not_null) width entry = rowid entry ∷ drop 1 (columns_in width entry)
+row_shown (Some first) width entry = rowid entry ∷ drop 1 (columns_in width entry)
 
 -- and of an entry of that table
 abbrev pub shown_in : Placing → TableName → Row → Row
-shown_in desk name = row_shown (rowid_of name (desk.keys name)) (width_of name)
+shown_in desk name = row_shown (rowid_column_of name (desk.keys name)) (width_of name)
 
 -- the entries, each shown so, are these rows, in some order, under rowids of their own
 abbrev pub HaveRows : (Row → Row) → List Row → List Row → Type 0

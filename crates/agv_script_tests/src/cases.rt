@@ -1,5 +1,5 @@
-//! How what is found is compared with what is wanted: a test that fails prints both. These are functions, so that their code is
-//! proved once and not at each of their calls.
+//! How what is found is compared with what is wanted: a test that fails prints both. These are functions, so that their
+//! code is proved once and not at each of their calls.
 
 use agv_header::Moment;
 use std::alloc::Global;

@@ -89,8 +89,8 @@ fn damaged_databases(rt: HostRuntime) {
     );
 }
 
-/// What others may have beside the desk's tables, and what another lawful world has: one more node, a station with more
-/// room, loads elsewhere, names that were used, a vehicle that is paused, one more vehicle with its capacity and what it
+/// What others may have beside the desk's tables, and what another lawful world has: one more node, a greater capacity of a
+/// station, loads elsewhere, names that were used, a vehicle that is paused, one more vehicle with its capacity and what it
 /// holds, a greater capacity of the vehicle, one more job, and a job to the other station at its node.
 const KEPT: &str = "
 -- nothing

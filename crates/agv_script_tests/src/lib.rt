@@ -4,8 +4,8 @@
 //!
 //! - `lines` reads the text of a script, and `scripts` has the scripts.
 //! - `memory` plays them over a world in memory, whose floor `fails_at` each question in turn.
-//! - `player` plays them call by call in a database, of which it looks at more: `databases` has those that others have changed,
-//!   `migrations` those of the first schema, and `strangers` tables that anyone made. `tables` reads the rows.
+//! - `player` plays them call by call in a database, of which it looks at more: `databases` has those that others have
+//!   changed, `migrations` those of the first schema, and `strangers` tables that anyone made. `tables` reads the rows.
 //! - `streams` serves them as bytes in pieces, and `inputs` has streams that end, wait or fail; `fakes` has their reader
 //!   and writer.
 //! - `lists` has a desk serve the calls of a script in one list, and `stops` while the files fail and the machine stops.

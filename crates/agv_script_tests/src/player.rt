@@ -1,6 +1,6 @@
-//! Scripts are played in a database: a desk is adopted before each call and released behind it. Each answer is the one that is
-//! wanted and the one that is decided in memory, and the world that is read of the tables is the one in memory. Besides what
-//! `lines` has, a script says of the database:
+//! Scripts are played in a database: a desk is adopted before each call and released behind it. Each answer is the one that
+//! is wanted and the one that is decided in memory, and the world that is read of the tables is the one in memory. Besides
+//! what `lines` has, a script says of the database:
 //!
 //! ```text
 //! sql                       statements, behind it, that others carry out: from here on nothing is decided in memory
@@ -9,7 +9,7 @@
 //! make Ok(())               the desk's tables are made
 //! make used CREATE ..       but for one of them, in whose place this is carried out
 //! stand true                whether the desk's tables stand, ..
-//! room true                 .. whether the database leaves room for them, ..
+//! allows true               .. whether what the database has allows them, ..
 //! keyed Ok(true)            .. whether each row has a number of its own, ..
 //! lawful true               .. and whether the world that they have is lawful
 //! ```
@@ -114,7 +114,7 @@ impl Player {
                 alloc,
                 &tables_stand(alloc, conn.schema()).expect(rt, "memory"),
             ),
-            "room" => shown(rt, alloc, &allows_desk(conn.schema())),
+            "allows" => shown(rt, alloc, &allows_desk(conn.schema())),
             "keyed" => shown(rt, alloc, &query_rowids(alloc, conn)),
             "lawful" => shown(rt, alloc, &is_lawful(rt, alloc, conn)),
             _ => return self.compare(rt, alloc, conn, said),

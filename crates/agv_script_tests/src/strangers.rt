@@ -123,7 +123,10 @@ node CREATE TABLE node (id TEXT NOT NULL UNIQUE) STRICT
 meta CREATE TABLE meta (id INTEGER NOT NULL UNIQUE, schema INTEGER NOT NULL) STRICT
 meta CREATE TABLE meta (id INTEGER PRIMARY KEY, schema INTEGER NOT NULL) STRICT
 meta CREATE TABLE meta (id INTEGER, schema INTEGER NOT NULL, PRIMARY KEY (id)) STRICT
+meta CREATE TABLE meta (id INTEGER, schema INTEGER NOT NULL, PRIMARY KEY (id DESC)) STRICT
 meta CREATE TABLE meta (id INTEGER PRIMARY KEY NOT NULL, schema INT NOT NULL) STRICT
+meta CREATE TABLE meta (id INTEGER PRIMARY KEY UNIQUE, schema INTEGER NOT NULL) STRICT
+meta CREATE TABLE meta (id INTEGER NOT NULL UNIQUE, schema INTEGER NOT NULL, UNIQUE (id), PRIMARY KEY (id)) STRICT
 used CREATE TABLE used (kind TEXT, id TEXT, PRIMARY KEY (id, kind)) STRICT
 used CREATE TABLE used (kind TEXT NOT NULL, id TEXT NOT NULL, UNIQUE (id, kind)) STRICT
 used CREATE TABLE used (kind TEXT, id TEXT, PRIMARY KEY (kind, id), UNIQUE (id, kind)) STRICT
@@ -172,13 +175,16 @@ node CREATE TABLE node (id TEXT COLLATE NOCASE PRIMARY KEY) STRICT
 edge CREATE TABLE edge (id TEXT PRIMARY KEY, start TEXT NOT NULL, finish TEXT NOT NULL COLLATE RTRIM) STRICT
 ";
 
-/// Other keys and rules: no key, one whose column may be NULL, the rowid counted or with a key more; keys of other columns, of fewer, of more;
-/// descending or under another collation, also beside the desk's; a key more; CHECK, and foreign keys.
+/// Other keys and rules: no key, one whose column may be NULL, the rowid counted or with a key more; keys of other columns,
+/// of fewer, of more; descending or under another collation, also beside the desk's; a key more; CHECK, and foreign keys.
 const KEYS: &str = r"
 node CREATE TABLE node (id TEXT NOT NULL) STRICT
 node CREATE TABLE node (id TEXT UNIQUE) STRICT
 meta CREATE TABLE meta (id INTEGER PRIMARY KEY AUTOINCREMENT, schema INTEGER NOT NULL) STRICT
-meta CREATE TABLE meta (id INTEGER PRIMARY KEY UNIQUE, schema INTEGER NOT NULL) STRICT
+meta CREATE TABLE meta (id INTEGER PRIMARY KEY DESC, schema INTEGER NOT NULL) STRICT
+meta CREATE TABLE meta (id INTEGER PRIMARY KEY, schema INTEGER NOT NULL, UNIQUE (id DESC)) STRICT
+meta CREATE TABLE meta (id INTEGER PRIMARY KEY, schema INTEGER NOT NULL UNIQUE) STRICT
+meta CREATE TABLE meta (id INTEGER PRIMARY KEY, schema INTEGER NOT NULL, UNIQUE (id, schema)) STRICT
 meta CREATE TABLE meta (id INTEGER NOT NULL, schema INTEGER PRIMARY KEY) STRICT
 leg CREATE TABLE leg (order_id TEXT, k INTEGER NOT NULL, edge TEXT, PRIMARY KEY (order_id, edge)) STRICT
 leg CREATE TABLE leg (order_id TEXT PRIMARY KEY, k INTEGER NOT NULL, edge TEXT NOT NULL) STRICT
@@ -297,7 +303,7 @@ make Ok(())%sql DROP TABLE node; CREATE VIEW node AS SELECT start AS id FROM edg
 "#;
 
 /// Databases that allow a desk's tables: that the names are free is another question.
-const ROOM: &str = r"
+const ALLOWING: &str = r"
 -- nothing
 CREATE TABLE other (a TEXT); CREATE INDEX by_a ON other (a); CREATE VIEW some AS SELECT a FROM other
 CREATE TABLE other (id TEXT PRIMARY KEY, next TEXT REFERENCES other, more TEXT REFERENCES nodes (id))
@@ -308,7 +314,7 @@ CREATE TABLE other (a TEXT); CREATE INDEX used ON other (a)
 ";
 
 /// Those with a table that refers to one of the names, in whatever letters, whether or not there is a table of that name.
-const NO_ROOM: &str = r#"
+const NOT_ALLOWING: &str = r#"
 CREATE TABLE note (a TEXT REFERENCES meta)
 CREATE TABLE note (a TEXT REFERENCES node)
 CREATE TABLE note (a TEXT REFERENCES edge)
@@ -347,11 +353,11 @@ CREATE TABLE journey (a TEXT)
 ";
 
 /// A desk allows one itself, and a table that refers to it does not.
-const ROOM_BESIDE: &str = "
+const ALLOWING_BESIDE: &str = "
 make Ok(())
-room true
+allows true
 sql CREATE TABLE note (a TEXT REFERENCES job)
-room false
+allows false
 ";
 
 /// What stands before each line, the lines, and what stands behind each.
@@ -368,8 +374,8 @@ const CASES: [(&str, &str, &str); 15] = [
     (ACT, OTHER_ACT_RULES, ") STRICT\nstand false"),
     ("", BESIDE, "\nstand true"),
     ("", NOT_BESIDE, "\nstand false"),
-    ("sql ", ROOM, "\nroom true"),
-    ("sql ", NO_ROOM, "\nroom false"),
+    ("sql ", ALLOWING, "\nallows true"),
+    ("sql ", NOT_ALLOWING, "\nallows false"),
     (
         "sql ",
         FREE,
@@ -381,7 +387,7 @@ const CASES: [(&str, &str, &str); 15] = [
 fn tables_of_others(rt: HostRuntime) {
     let alloc = rt.alloc();
     in_memory(&rt, alloc, &Way::Database(TYPED));
-    in_memory(&rt, alloc, &Way::Database(ROOM_BESIDE));
+    in_memory(&rt, alloc, &Way::Database(ALLOWING_BESIDE));
     for (before, lines, behind) in CASES {
         check_each(&rt, alloc, &[], before, lines, behind);
     }

@@ -31,8 +31,8 @@ pub(crate) const FAST: Pace = (4096, 4096);
 /// The paces at which streams go.
 pub(crate) const PACES: [Pace; 6] = [(1, 1), (1, 5), (7, 1), (7, 5), (4096, 1), (4096, 5)];
 
-/// A stream: when it comes and at which pace, after how many reads and writes one fails, its input, and the answers and the end
-/// that are wanted.
+/// A stream: when it comes and at which pace, after how many reads and writes one fails, its input, and the answers and the
+/// end that are wanted.
 #[derive(Drop)]
 struct Exchange<'s> {
     at: Moment,
@@ -292,7 +292,8 @@ GET /loads/L1
 404 {"name":"NoLoad","refusal":23}
 "#;
 
-/// A new desk in this database serves what comes before the cut, of which the first call registers a load, and then goes on.
+/// A new desk in this database serves what comes before the cut, of which the first call registers a load, and then goes
+/// on.
 pub(crate) fn serve_cut<S: Alter + Drop>(
     rt: &impl Abort,
     alloc: Global,

@@ -7,7 +7,7 @@ use Rattle.sqlite_value.specs.Order.{Row, column}
 use Rattle.sqlite_sql.specs.Term.{Term}
 use Rattle.sqlite_schema.specs.declared.schema.Kind.TheVariants as kind
 use Rattle.sqlite_tied.specs.Compute.{everything}
-use Rattle.agv_schema.specs.DeskRows.{TableKeys, is_of_kind, rowid_of, table_written, width_of}
+use Rattle.agv_schema.specs.DeskRows.{TableKeys, is_of_kind, rowid_column_of, table_written, width_of}
 use Rattle.agv_statements.specs.CountQueries.{columns_counted, count_text, table_counted}
 use Rattle.agv_statements.specs.RowQueries.{FitsColumns, columns_at, equal_from}
 use Rattle.agv_schema.specs.declared.rows_counted.RowsCounted.{RowsCounted}
@@ -39,10 +39,10 @@ count_within counted.StationLoads = refl
 count_within counted.VehicleLoads = refl
 count_within counted.TargetJobs = refl
 
-pub count_no_rowid : (query : RowsCounted) (keys : TableKeys) → rowid_of (table_counted query) keys ≡ None
-count_no_rowid counted.StationLoads keys = refl
-count_no_rowid counted.VehicleLoads keys = refl
-count_no_rowid counted.TargetJobs keys = refl
+pub count_no_rowid_column : (query : RowsCounted) (keys : TableKeys) → rowid_column_of (table_counted query) keys ≡ None
+count_no_rowid_column counted.StationLoads keys = refl
+count_no_rowid_column counted.VehicleLoads keys = refl
+count_no_rowid_column counted.TargetJobs keys = refl
 
 -- SQL takes the text for a query of the table that shows how many rows pass
 pub count_asks : (query : RowsCounted) → AsksIn (Some counting) (table_counted query) (count_text query) (count_terms query) their_count count_names

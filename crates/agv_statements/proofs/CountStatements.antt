@@ -22,7 +22,7 @@ use Rattle.agv_statements.proofs.sql.Failing.{IsCaused}
 use Rattle.agv_schema.proofs.OneTable.{counting, query_in, their_count}
 use Rattle.agv_statements.proofs.sql.QueryRows.{entry_passes, passes}
 use Rattle.agv_statements.proofs.sql.ReadFailing.{IsWholeText, fits_length, on_err_all, read_caused_in}
-use Rattle.agv_statements.proofs.CountMeanings.{count_asks, count_names, count_no_rowid, count_passes, count_terms, count_typed, count_whole, count_within}
+use Rattle.agv_statements.proofs.CountMeanings.{count_asks, count_names, count_no_rowid_column, count_passes, count_terms, count_typed, count_whole, count_within}
 use Rattle.agv_statements.proofs.RowForms.{pass_alike}
 
 module _ (query : RowsCounted) (params : Row) (old new : State) where
@@ -37,7 +37,7 @@ module _ (query : RowsCounted) (params : Row) (old new : State) where
       let found = counted_by (desk.tree name) terms old.now.trees params rows (got.answer Null) in
       let here = table_has desk name old.now.trees lists h.rows in
       let number : length (filter (entry_passes terms params) entries) ≡ length (filter (passes terms params) (table_at (place_of name) lists)) =
-      ap length (pass_alike desk name (count_no_rowid query (desk.keys name)) terms params (count_within query) entries)
+      ap length (pass_alike desk name (count_no_rowid_column query (desk.keys name)) terms params (count_within query) entries)
       ∙ sym (length-map (filter (λ e. passes terms params (shown_in desk name e)) entries) (shown_in desk name))
       ∙ ap length (sym (filter_of_map (passes terms params) (shown_in desk name) entries))
       ∙ length_permutation _ _ (IsPermutation-filter (passes terms params) _ _ here.1) in

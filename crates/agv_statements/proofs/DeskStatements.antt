@@ -11,7 +11,7 @@ use Rattle.sqlite.specs.declared.error.Error.TheVariants.{SqliteFailure}
 use Rattle.sqlite.specs.declared.error.ErrorCode.TheVariants.{TransactionState}
 use Rattle.sqlite.specs.Effect.{Database}
 use Rattle.sqlite.specs.State.{State, Executes, ExecutesInside, Shown}
-use Rattle.agv_schema.specs.DeskRows.{Holds, Placing, IsDesk, KeepsOthers, StandApart, TableHas, TableKeys, rowid_of, on_table, table_at, place_of, width_of, has_columns, has_key, with_put_by, with_row, without_rows, rows_of_key, FitsTable, Makes, Answers, AnswersAlone}
+use Rattle.agv_schema.specs.DeskRows.{Holds, Placing, IsDesk, KeepsOthers, StandApart, TableHas, TableKeys, rowid_column_of, on_table, table_at, place_of, width_of, has_columns, has_key, with_put_by, with_row, without_rows, rows_of_key, FitsTable, Makes, Answers, AnswersAlone}
 use Rattle.agv_statements.specs.RowQueries.{table_asked, columns_asked, equal_from, rows_asked, all_rows_of, query_text, all_rows_text}
 use Rattle.agv_schema.specs.RowTexts.{columns_deleted, deletion_text, insertion_text, is_looked_up, is_written, look_up_text}
 use Rattle.agv_schema.specs.declared.rows_by.RowsBy.{RowsBy}
@@ -19,10 +19,10 @@ use Rattle.agv_schema.specs.declared.table_name.TableName.{TableName}
 use Rattle.agv_schema.specs.declared.table_name.TableName.TheVariants as the
 use Rattle.agv_schema.proofs.DeskPlaces.{is_in, is_in_alone}
 use Rattle.agv_statements.proofs.sql.EntryEdits.{filter_nothing}
-use Rattle.agv_statements.proofs.QueryMeanings.{Asks, query_no_rowid, query_terms, query_passes, query_within, query_asks, all_rows_asked, shown_terms}
+use Rattle.agv_statements.proofs.QueryMeanings.{Asks, query_no_rowid_column, query_terms, query_passes, query_within, query_asks, all_rows_asked, shown_terms}
 use Rattle.agv_statements.proofs.sql.QueryRows.{passes, reads_within}
 use Rattle.agv_statements.proofs.RowForms.{Inserted, Lands, ShowsRows, one_inserted, pass_alike, row_inserted, rows_deleted, rows_shown, rows_shown_alone, shows_columns}
-use Rattle.agv_statements.proofs.RowMeanings.{key_terms, deleted_terms, column_names, column_terms, inserts, deletes, looked_up_no_rowid, looks_up, written_no_rowid}
+use Rattle.agv_statements.proofs.RowMeanings.{key_terms, deleted_terms, column_names, column_terms, inserts, deletes, looked_up_no_rowid_column, looks_up, written_no_rowid_column}
 use Rattle.agv_statements.proofs.RowParameters.{rows_in_turn}
 
 -- ---- keys
@@ -70,12 +70,12 @@ makes change sql params old new (Ok count) step ran = elim (cases_Bool old.in_tr
 pub added_one : (name : TableName) → is_written name ≡ true → (desk : Placing) (is : IsDesk desk) (old new : State) (has : old.now.schema ≡ desk.schema) (row : Row) → FitsTable name row
     → (count : ℕ) → Executes (insertion_text name) row old new (Ok count) → Inserted desk is name old new has row
 added_one name written desk is old new has row fit =
-    one_inserted desk is name old new has (written_no_rowid name written (desk.keys name)) (insertion_text name) row fit (inserts name written desk.schema (is.stands name).at (desk.tree name) (desk.keys name) (is_in desk is name))
+    one_inserted desk is name old new has (written_no_rowid_column name written (desk.keys name)) (insertion_text name) row fit (inserts name written desk.schema (is.stands name).at (desk.tree name) (desk.keys name) (is_in desk is name))
 
 pub inserts_row : (name : TableName) → is_written name ≡ true → (sql : List ℕ) → sql ≡ insertion_text name → (row : Row) → FitsTable name row → (old new : State) (r : Result ℕ Error) → RunsInside sql row old new r → OnOk r (Makes (with_row name row) old new)
 inserts_row name written sql text row fit old new r ran =
     makes (with_row name row) (insertion_text name) row old new r
-    (λ desk is has. row_inserted desk is name old new has (written_no_rowid name written (desk.keys name)) (insertion_text name) row fit (inserts name written desk.schema (is.stands name).at (desk.tree name) (desk.keys name) (is_in desk is name)))
+    (λ desk is has. row_inserted desk is name old new has (written_no_rowid_column name written (desk.keys name)) (insertion_text name) row fit (inserts name written desk.schema (is.stands name).at (desk.tree name) (desk.keys name) (is_in desk is name)))
     (subst (λ t. RunsInside t row old new r) text ran)
 
 pub deletes_row : (name : TableName) → is_written name ≡ true → (sql : List ℕ) → sql ≡ deletion_text name → (key : Row) (old new : State) (r : Result ℕ Error) → RunsInside sql key old new r → OnOk r (Makes (without_rows name (columns_deleted name) key) old new)
@@ -83,7 +83,7 @@ deletes_row name written sql text key old new r ran =
     makes (without_rows name (columns_deleted name) key) (deletion_text name) key old new r
     (λ desk is has count done.
     subst (λ (p : Row → _). Lands desk old.now new.now (on_table (place_of name) (filter (λ row. not (p row))))) (deleted_passes name key)
-    (rows_deleted desk is name old new has (deletion_text name) key (deleted_terms name) (pass_alike desk name (written_no_rowid name written (desk.keys name)) (deleted_terms name) key (deleted_within name))
+    (rows_deleted desk is name old new has (deletion_text name) key (deleted_terms name) (pass_alike desk name (written_no_rowid_column name written (desk.keys name)) (deleted_terms name) key (deleted_within name))
     (deletes name written desk.schema (is.stands name).at (desk.tree name) (desk.keys name) (is_in desk is name)) count done))
     (subst (λ t. RunsInside t key old new r) text ran)
 
@@ -116,7 +116,7 @@ puts_row name columns key row a b c (Err e) added gone = tt
 -- ---- queries
 
 -- what rows answer that a query shows which asks so, of a table whose first column is not the rowid
-shows : (name : TableName) → ((keys : TableKeys) → rowid_of name keys ≡ None) → (terms : List Term) (sql : List ℕ) → Asks name sql terms → list_all (reads_within (width_of name)) terms ≡ true → (params : Row) (p : Row → Bool) → passes terms params ≡ p
+shows : (name : TableName) → ((keys : TableKeys) → rowid_column_of name keys ≡ None) → (terms : List Term) (sql : List ℕ) → Asks name sql terms → list_all (reads_within (width_of name)) terms ≡ true → (params : Row) (p : Row → Bool) → passes terms params ≡ p
     → (old new : State) (rows : List Row) → Shown sql params old new rows → Answers (λ lists. filter p (table_at (place_of name) lists)) old rows
 shows name none terms sql asks alone params p is old new rows shown = λ desk desk_is lists h.
     let means = asks desk.schema (desk_is.stands name).at (desk.tree name) (desk.keys name) (is_in desk desk_is name) in
@@ -124,7 +124,7 @@ shows name none terms sql asks alone params p is old new rows shown = λ desk de
     subst (λ (q : Row → Bool). IsPermutation (filter q (table_at (place_of name) lists)) rows) is
     (rows_shown desk name old new h.schema_is sql params terms (column_terms name) (column_names name) (pass_alike desk name kept terms params alone) (shows_columns desk name kept params) means rows shown lists h)
 
-asked : (name : TableName) → ((keys : TableKeys) → rowid_of name keys ≡ None) → (terms : List Term) (sql : List ℕ) → Asks name sql terms → list_all (reads_within (width_of name)) terms ≡ true → (params : Row) (p : Row → Bool) → passes terms params ≡ p
+asked : (name : TableName) → ((keys : TableKeys) → rowid_column_of name keys ≡ None) → (terms : List Term) (sql : List ℕ) → Asks name sql terms → list_all (reads_within (width_of name)) terms ≡ true → (params : Row) (p : Row → Bool) → passes terms params ≡ p
     → (old new : State) (r : Result (Vec Row Global) Error) → IfOk r (λ rows. Shown sql params old new rows.items)
     → IfOk r (λ rows. Answers (λ lists. filter p (table_at (place_of name) lists)) old rows.items)
 asked name none terms sql asks alone params p is old new (Err e) shown = tt
@@ -133,7 +133,7 @@ asked name none terms sql asks alone params p is old new (Ok rows) shown = shows
 -- all rows of a table
 module _ (name : TableName) (params : Row) (old new : State) (rows : List Row) (shown : Shown (all_rows_text name) params old new rows) (desk : Placing) (has : old.now.schema ≡ desk.schema) where
   each_shown : ShowsRows desk name (shown_terms name (desk.keys name)) params
-  each_shown = rows_in_turn (rowid_of name (desk.keys name)) (width_of name) params
+  each_shown = rows_in_turn (rowid_column_of name (desk.keys name)) (width_of name) params
 
   all_of_lists : IsDesk desk → (lists : List (List Row)) → Holds desk old.now lists → IsPermutation (all_rows_of name lists) rows
   all_of_lists is lists h =
@@ -162,11 +162,11 @@ module _ (params : Row) (old new : State) (r : Result (Vec Row Global) Error) (s
   -- by the key
   pub key_shown : (name : TableName) → is_looked_up name ≡ true → sql ≡ look_up_text name → IfOk r (λ rows. Shown sql params old new rows.items) → IfOk r (λ rows. Answers (rows_of_key name params) old rows.items)
   key_shown name looked_up text =
-      rw text (asked name (looked_up_no_rowid name looked_up) (key_terms name) (look_up_text name) (looks_up name looked_up) (within name) params (has_key name params) (key_passes name params) old new r)
+      rw text (asked name (looked_up_no_rowid_column name looked_up) (key_terms name) (look_up_text name) (looks_up name looked_up) (within name) params (has_key name params) (key_passes name params) old new r)
 
   -- by other columns
   pub query_shown : (query : RowsBy) → sql ≡ query_text query → IfOk r (λ rows. Shown sql params old new rows.items) → IfOk r (λ rows. Answers (rows_asked query params) old rows.items)
-  query_shown query text = rw text (asked (table_asked query) (query_no_rowid query) (query_terms query) (query_text query) (query_asks query) (query_within query) params (equal_from 0 (columns_asked query) params) (query_passes query params) old new r)
+  query_shown query text = rw text (asked (table_asked query) (query_no_rowid_column query) (query_terms query) (query_text query) (query_asks query) (query_within query) params (equal_from 0 (columns_asked query) params) (query_passes query params) old new r)
 
   -- all rows
   pub all_shown : (name : TableName) → sql ≡ all_rows_text name → IfOk r (λ rows. Shown sql params old new rows.items) → IfOk r (λ rows. Answers (all_rows_of name) old rows.items)

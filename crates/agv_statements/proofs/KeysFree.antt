@@ -30,19 +30,19 @@ use Rattle.sqlite.specs.declared.error.Error.TheVariants.{SqliteFailure}
 use Rattle.sqlite.specs.declared.error.ErrorCode.TheVariants.{ConstraintViolation}
 use Rattle.sqlite.specs.Effect.{Database, IsDatabase}
 use Rattle.sqlite.specs.State.{State, ExecutesIn, Fails, IsNotRun, IsUnchanged, shows_rows, store_error}
-use Rattle.agv_schema.specs.DeskRows.{Placing, AreKeyed, FitsTable, HasKey, Holds, IsDesk, KeepsOthers, Makes, SameColumns, SameKeys, has_columns, has_key, indexed_by, place_of, shown_in, table_at, table_for, table_in, with_put_by, with_row}
+use Rattle.agv_schema.specs.DeskRows.{Placing, AreKeyed, FitsTable, HasKey, Holds, IsDesk, KeepsOthers, Makes, RowidColumn, SameColumns, SameKeys, has_columns, has_key, indexed_by, place_of, shown_in, table_at, table_for, table_in, with_put_by, with_row}
 use Rattle.agv_schema.specs.RowTexts.{insertion_text, is_written}
 use Rattle.agv_statements.specs.RowUpdates.{Counts, IsBrokenRule, TellsAlike}
 use Rattle.agv_schema.specs.declared.table_name.TableName.{TableName}
 use Rattle.agv_schema.specs.declared.table_name.TableName.TheVariants as the
 use Rattle.agv_schema.proofs.OnTables.{on_table-same}
-use Rattle.agv_schema.proofs.DeskPlaces.{HasNoRowid, is_among, table_has}
+use Rattle.agv_schema.proofs.DeskPlaces.{HasNoRowidColumn, is_among, table_has}
 use Rattle.agv_statements.proofs.sql.EntryEdits.{filter_of_map}
 use Rattle.agv_schema.proofs.Truths.{truth_of}
 use Rattle.agv_statements.proofs.sql.QueryRows.{entry_passes, passes}
 use Rattle.agv_statements.proofs.DeskStatements.{RunsInside, added_one, key_passes, within}
 use Rattle.agv_statements.proofs.RowForms.{Inserted, new_entry, pass_alike, rowid_is_new, stands_with_them}
-use Rattle.agv_statements.proofs.RowMeanings.{key_terms, written_no_rowid}
+use Rattle.agv_statements.proofs.RowMeanings.{key_terms, written_no_rowid_column}
 use Rattle.agv_statements.proofs.UpdateMeanings.{on_table-agree, remade}
 
 -- ---- keys and their indexes
@@ -85,10 +85,10 @@ placed [] key has = absurd has
 placed (k ∷ keys) key (inl same) = record { at = 0; written = k; there = refl; same = same }
 placed (k ∷ keys) key (inr later) = let it = placed keys key later in record { at = suc it.at; written = it.written; there = it.there; same = it.same }
 
-primary_at : (desk : Placing) (is : IsDesk desk) (name : TableName) → HasNoRowid desk name → IsPlaced (desk.keys name).all (table_for name).primary
+primary_at : (desk : Placing) (is : IsDesk desk) (name : TableName) → HasNoRowidColumn desk name → IsPlaced (desk.keys name).indexed (table_for name).primary
 primary_at desk is name none =
-    let all = (desk.keys name).all in
-    let same = subst (λ (r : Option Bool). SameKeys all (indexed_by r (table_for name).uniques)) none (is.stands name).same_keys in
+    let all = (desk.keys name).indexed in
+    let same = subst (λ (r : Option RowidColumn). SameKeys all (indexed_by r (table_for name).uniques)) none (is.stands name).same_keys in
     placed all (table_for name).primary (all_has (HasKey all) (table_for name).uniques (table_for name).primary same.other (primary_is_key name))
 
 -- its index is ordered as any other
@@ -132,7 +132,7 @@ unfolding first_key
 agrees the.Meta row e id = refl
 agrees _ row e id = refl
 
-module _ (desk : Placing) (is : IsDesk desk) (name : TableName) (no_rowid : HasNoRowid desk name) (old new : State) (has : old.now.schema ≡ desk.schema) (row : Row) (it : Inserted desk is name old new has row) where
+module _ (desk : Placing) (is : IsDesk desk) (name : TableName) (no_rowid : HasNoRowidColumn desk name) (old new : State) (has : old.now.schema ≡ desk.schema) (row : Row) (it : Inserted desk is name old new has row) where
   abbrev table : Table
   table = table_in desk name
 
@@ -152,7 +152,7 @@ module _ (desk : Placing) (is : IsDesk desk) (name : TableName) (no_rowid : HasN
   sound = subst (λ (s : Schema). IsSound s it.next) has (subst (λ (d : Database). IsSound d.schema d.trees) it.now it.sound)
 
   -- where a key with the columns of the primary one is written
-  abbrev key : IsPlaced (desk.keys name).all (table_for name).primary
+  abbrev key : IsPlaced (desk.keys name).indexed (table_for name).primary
   key = primary_at desk is name no_rowid
 
   guard : (tree : ℕ) × Has desk.schema.indexes (automatic table key.at key.written tree)
@@ -170,7 +170,7 @@ module _ (desk : Placing) (is : IsDesk desk) (name : TableName) (no_rowid : HasN
       let passed = all_has _ (it.next table.tree) entry rows (subst (λ es. Has es entry) (sym (stands_with_them desk is name old new has (Null ∷ row) entry it)) (has_put entry entries)) in
       let free = not-true _ (test_has _ desk.schema.indexes index passed guard.1) in
       let none = subst (λ (b : Bool). (b && clashes index.order index.columns (it.next table.tree) entry) ≡ false) guards_it free in
-      subst (λ (order : Order). clashes order index.columns (it.next table.tree) entry ≡ false) (all_plain (desk.keys name).all key.at) none
+      subst (λ (order : Order). clashes order index.columns (it.next table.tree) entry ≡ false) (all_plain (desk.keys name).indexed key.at) none
 
   other_keys : AreKeyed entries → (e : Row) → Has entries e → entry_passes (key_terms name) row e ≡ false
   other_keys keyed e was =
@@ -199,7 +199,7 @@ inserts_free name written sql text row fit old new r ran = free r (subst (λ t. 
     free : (q : Result ℕ Error) → RunsInside (insertion_text name) row old new q → IfOk q (λ _. Counts name (table_for name).primary row old 0)
     free (Err e) runs = tt
     free (Ok count) runs = elim (cases_Bool old.in_transaction) [
-      | inl inside ↦ λ desk is lists h. key_was_free desk is name (written_no_rowid name written (desk.keys name)) old new h.schema_is row (added_one name written desk is old new h.schema_is row fit count (runs.1 inside).0) lists h
+      | inl inside ↦ λ desk is lists h. key_was_free desk is name (written_no_rowid_column name written (desk.keys name)) old new h.schema_is row (added_one name written desk is old new h.schema_is row fit count (runs.1 inside).0) lists h
       | inr outside ↦ absurd (let e = runs.0 outside in cc)
     ]
 

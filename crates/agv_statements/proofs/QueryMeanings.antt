@@ -10,7 +10,7 @@ use Rattle.sqlite_draft.specs.declared.query.Grouping.{Grouping}
 use Rattle.sqlite_schema.specs.declared.schema.Schema.{Schema}
 use Rattle.sqlite_schema.specs.declared.command.Command.TheVariants.{Select}
 use Rattle.sqlite_tied.specs.Compute.{everything}
-use Rattle.agv_schema.specs.DeskRows.{TableKeys, rowid_of, table_for, table_written, width_of}
+use Rattle.agv_schema.specs.DeskRows.{RowidColumn, TableKeys, rowid_column_of, table_for, table_written, width_of}
 use Rattle.agv_statements.specs.RowQueries.{table_asked, columns_asked, equal_from, query_text, all_rows_text}
 use Rattle.agv_schema.specs.declared.rows_by.RowsBy.{RowsBy}
 use Rattle.agv_schema.specs.declared.rows_by.RowsBy.TheVariants as by
@@ -66,20 +66,20 @@ query_asks query s at tree keys stands =
     (record { source = head_of (out-Core (out-Select sel).first).from tt; from = refl; origin = refl; alias = refl; on = refl; using = refl; inner = refl; group = refl; having = refl; repeats = refl })
     (query_terms query) (column_terms (table_asked query)) (column_names (table_asked query)) (collations (table_asked query)) refl refl refl refl refl
 
-pub query_no_rowid : (query : RowsBy) (keys : TableKeys) → rowid_of (table_asked query) keys ≡ None
-query_no_rowid by.VehicleJourney keys = refl
-query_no_rowid _ keys = refl
+pub query_no_rowid_column : (query : RowsBy) (keys : TableKeys) → rowid_column_of (table_asked query) keys ≡ None
+query_no_rowid_column by.VehicleJourney keys = refl
+query_no_rowid_column _ keys = refl
 
 -- ---- all rows of a table
 
 -- what shows the columns of an entry: the rowid, where that is the first of them
-abbrev pub terms_by : Option Bool → ℕ → List Term
+abbrev pub terms_by : Option RowidColumn → ℕ → List Term
 terms_by None width = from_slot 1 1 width
-terms_by (Some not_null) zero = col 1 0 ∷ []
-terms_by (Some not_null) (suc width) = col 1 0 ∷ from_slot 1 2 width
+terms_by (Some first) zero = col 1 0 ∷ []
+terms_by (Some first) (suc width) = col 1 0 ∷ from_slot 1 2 width
 
 abbrev pub shown_terms : TableName → TableKeys → List Term
-shown_terms name keys = terms_by (rowid_of name keys) (width_of name)
+shown_terms name keys = terms_by (rowid_column_of name keys) (width_of name)
 
 -- SQL takes the text for a query of the table that shows all its rows
 abbrev pub ShowsAll : TableName → TableKeys → Type 0
@@ -87,26 +87,26 @@ ShowsAll name keys = (s : Schema) (at tree : ℕ) → IsIn s (table_for name).na
     → Means s (all_rows_text name) (Select (record { lets = []; body = query_by tree [] (shown_terms name keys) }) (column_names name))
 
 -- `meta`, whether its first column is the rowid or not
-meta_asked : (primary : List ℕ) (all : List (List ℕ)) (rowid : Option Bool) → ShowsAll the.Meta (record { primary = primary; all = all; rowid = rowid })
+meta_asked : (primary : List ℕ) (indexed : List (List ℕ)) (rowid : Option RowidColumn) → ShowsAll the.Meta (record { primary = primary; indexed = indexed; rowid_column = rowid })
 unfolding everything
-meta_asked primary all None s at tree stands =
+meta_asked primary indexed None s at tree stands =
     let p = parsed (all_rows_text the.Meta) in
     let sel = selection p.statement tt in
-    select_means s (codes "meta") (table_written the.Meta tree (record { primary = primary; all = all; rowid = None })) at stands (all_rows_text the.Meta) p refl refl sel refl
+    select_means s (codes "meta") (table_written the.Meta tree (record { primary = primary; indexed = indexed; rowid_column = None })) at stands (all_rows_text the.Meta) p refl refl sel refl
     (record { with = refl; others = refl; order = refl; limit = refl; offset = refl })
     (record { source = head_of (out-Core (out-Select sel).first).from tt; from = refl; origin = refl; alias = refl; on = refl; using = refl; inner = refl; group = refl; having = refl; repeats = refl })
     ([]) (column_terms the.Meta) (column_names the.Meta) (collations the.Meta) refl refl refl refl refl
-meta_asked primary all (Some not_null) s at tree stands =
+meta_asked primary indexed (Some first) s at tree stands =
     let p = parsed (all_rows_text the.Meta) in
     let sel = selection p.statement tt in
-    select_means s (codes "meta") (table_written the.Meta tree (record { primary = primary; all = all; rowid = Some not_null })) at stands (all_rows_text the.Meta) p refl refl sel refl
+    select_means s (codes "meta") (table_written the.Meta tree (record { primary = primary; indexed = indexed; rowid_column = Some first })) at stands (all_rows_text the.Meta) p refl refl sel refl
     (record { with = refl; others = refl; order = refl; limit = refl; offset = refl })
     (record { source = head_of (out-Core (out-Select sel).first).from tt; from = refl; origin = refl; alias = refl; on = refl; using = refl; inner = refl; group = refl; having = refl; repeats = refl })
-    ([]) (terms_by (Some not_null) 2) (column_names the.Meta) (None ∷ Some Binary ∷ []) refl refl refl refl refl
+    ([]) (terms_by (Some first) 2) (column_names the.Meta) (None ∷ Some Binary ∷ []) refl refl refl refl refl
 
 pub all_rows_asked : (name : TableName) (keys : TableKeys) → ShowsAll name keys
 unfolding everything
-all_rows_asked the.Meta keys s at tree stands = meta_asked keys.primary keys.all keys.rowid s at tree stands
+all_rows_asked the.Meta keys s at tree stands = meta_asked keys.primary keys.indexed keys.rowid_column s at tree stands
 all_rows_asked name keys s at tree stands =
     let p = parsed (all_rows_text name) in
     let sel = selection p.statement tt in

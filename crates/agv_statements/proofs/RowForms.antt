@@ -30,7 +30,7 @@ use Rattle.sqlite.specs.Rows.{Written, Task, Edited, rowids_for, count_of, stamp
 use Rattle.sqlite.specs.Does.{Tally, OnRows, Concludes, AtPlace}
 use Rattle.sqlite.specs.State.{State, mode_of, Executes, Shown}
 use Rattle.sqlite.proofs.Callers.{runs_as, reads_as, one_step}
-use Rattle.agv_schema.specs.DeskRows.{columns_by, shown_in, width_of, table_for, place_of, Placing, table_in, IsDesk, first_columns, HaveRows, Holds, KeepsOthers, TableHas, table_at, on_table, FitsTable}
+use Rattle.agv_schema.specs.DeskRows.{RowidColumn, columns_by, shown_in, width_of, table_for, place_of, Placing, table_in, IsDesk, first_columns, HaveRows, Holds, KeepsOthers, TableHas, table_at, on_table, FitsTable}
 use Rattle.agv_schema.specs.declared.table_name.TableName.{TableName}
 use Rattle.agv_schema.proofs.OneTable.{Means, query_by}
 use Rattle.agv_statements.proofs.RowMeanings.{from_slot, row_terms, over_terms, column_terms}
@@ -39,7 +39,7 @@ use Rattle.agv_statements.proofs.sql.QueryRows.{entry_passes, passes, reads_with
 use Rattle.agv_statements.proofs.sql.EntryEdits.{filter_of_map, map_of_map, one_more_row, fewer_rows}
 use Rattle.agv_schema.proofs.OnTables.{added, added-permuted}
 use Rattle.agv_schema.proofs.ColumnValues.{same_either_way, cast_all_keeps, all_columns}
-use Rattle.agv_schema.proofs.DeskPlaces.{HasNoRowid, is_among, one_of_a_tree, shown_as_kept, table_changes, table_has}
+use Rattle.agv_schema.proofs.DeskPlaces.{HasNoRowidColumn, is_among, one_of_a_tree, shown_as_kept, table_changes, table_has}
 use Rattle.agv_statements.proofs.sql.NoReferences.{sets_off_nothing}
 use Rattle.agv_schema.proofs.Running.{went, same_value}
 
@@ -134,7 +134,7 @@ module _ (desk : Placing) (name : TableName) where
   abbrev pub PassAlike : List Term → Row → Type 0
   PassAlike terms params = (entries : List Row) → filter (entry_passes terms params) entries ≡ filter (λ e. passes terms params (shown_in desk name e)) entries
 
-  pub pass_alike : HasNoRowid desk name → (terms : List Term) (params : Row) → list_all (reads_within (width_of name)) terms ≡ true → PassAlike terms params
+  pub pass_alike : HasNoRowidColumn desk name → (terms : List Term) (params : Row) → list_all (reads_within (width_of name)) terms ≡ true → PassAlike terms params
   pass_alike none terms params within entries =
       filter_alike (width_of name) terms params within entries ∙ ap (λ (f : Row → Row). filter (λ e. passes terms params (f e)) entries) (sym (shown_as_kept desk name none))
 
@@ -142,7 +142,7 @@ module _ (desk : Placing) (name : TableName) where
   abbrev pub ShowsRows : List Term → Row → Type 0
   ShowsRows project params = (e : Row) → eval_all project (params ∷ e ∷ []) ≡ shown_in desk name e
 
-  pub shows_columns : HasNoRowid desk name → (params : Row) → ShowsRows (column_terms name) params
+  pub shows_columns : HasNoRowidColumn desk name → (params : Row) → ShowsRows (column_terms name) params
   shows_columns none params e = columns_in_turn 1 (width_of name) params e ∙ ap (λ (f : Row → Row). f e) (sym (shown_as_kept desk name none))
 
 module _ (desk : Placing) (is : IsDesk desk) (name : TableName) (old new : State) (has : old.now.schema ≡ desk.schema) where
@@ -155,8 +155,8 @@ module _ (desk : Placing) (is : IsDesk desk) (name : TableName) (old new : State
   abbrev width : ℕ
   width = width_of name
 
-  abbrev shown : Row → Row
-  shown = shown_in desk name
+  abbrev shown_row : Row → Row
+  shown_row = shown_in desk name
 
   abbrev task_for : Row → Task
   task_for params = record { limit = old.step_limit; keys = Enforced; schema = old.now.schema; table = table; params = params }
@@ -208,9 +208,9 @@ module _ (desk : Placing) (is : IsDesk desk) (name : TableName) (old new : State
       let now : new.now ≡ record { schema = old.now.schema; trees = next } = settled (task_for params) old done.0 w.tally new.now done.2 ∙ ap (λ (t : Trees). record { schema = old.now.schema; trees = t }) trees in
       let found = answered_by table.tree terms (col 1 0 ∷ []) db params queried.0 (queried.1.answer Null) in
       lands edit next (filter (λ row. not (passes terms params row))) refl a (λ rows was.
-      rw a.rows (fewer_rows shown (passes terms params) (db table.tree) rows was gone (same_ids terms [] params (db table.tree) _ queried.0 (alike (db table.tree)) found))) now w.sound
+      rw a.rows (fewer_rows shown_row (passes terms params) (db table.tree) rows was gone (same_ids terms [] params (db table.tree) _ queried.0 (alike (db table.tree)) found))) now w.sound
 
-  pub rows_updated : HasNoRowid desk name → (sql : List ℕ) (row : Row) → FitsTable name row → (terms : List Term) → list_all (reads_within width) terms ≡ true
+  pub rows_updated : HasNoRowidColumn desk name → (sql : List ℕ) (row : Row) → FitsTable name row → (terms : List Term) → list_all (reads_within width) terms ≡ true
       → Means desk.schema sql (Update at (record { lets = []; body = query_by table.tree terms (over_terms name) }))
       → (count : ℕ) → Executes sql row old new (Ok count)
       → Lands desk old.now new.now (on_table (place_of name) (λ rows. map (λ _. row) (filter (passes terms row) rows) ++ filter (λ other. not (passes terms row other)) rows))
@@ -234,29 +234,29 @@ module _ (desk : Placing) (is : IsDesk desk) (name : TableName) (old new : State
       settled (task_for row) old done.0 w.tally new.now done.2 ∙ ap (λ (it : Written). record { schema = old.now.schema; trees = it.trees }) written in
       let found = answered_by table.tree terms (over_terms name) db row answer (queried.1.answer Null) in
       let whole : first_columns width row ≡ row = all_columns (table_for name).columns row fit in
-      let fits : cast_all table.columns row ≡ row = ap (λ (r : Option Bool). cast_all (columns_by r (table_for name).columns) row) none ∙ cast_all_keeps (table_for name).columns row fit in
-      let each : (e : Row) → shown (written_in table (eval_all (over_terms name) (row ∷ e ∷ []))) ≡ row =
+      let fits : cast_all table.columns row ≡ row = ap (λ (r : Option RowidColumn). cast_all (columns_by r (table_for name).columns) row) none ∙ cast_all_keeps (table_for name).columns row fit in
+      let each : (e : Row) → shown_row (written_in table (eval_all (over_terms name) (row ∷ e ∷ []))) ≡ row =
       λ e. ap (λ (f : Row → Row). f (written_in table (eval_all (over_terms name) (row ∷ e ∷ [])))) (shown_as_kept desk name none)
       ∙ ap (λ (cells : Row). first_columns width (cast_all table.columns cells)) (params_in_turn 0 width row (e ∷ []) ∙ whole) ∙ ap (first_columns width) fits ∙ whole in
-      let news : map shown edit.news ≡ map (λ s. shown (written_in table s)) answer =
-      ap (map shown) (numbered_given (without_all entries gone) (map (written_in table) answer)) ∙ map_of_map shown (written_in table) answer in
+      let news : map shown_row edit.news ≡ map (λ s. shown_row (written_in table s)) answer =
+      ap (map shown_row) (numbered_given (without_all entries gone) (map (written_in table) answer)) ∙ map_of_map shown_row (written_in table) answer in
       let alike = pass_alike desk name none terms row within entries in
-      let copies : (rows : List Row) → HaveRows shown entries rows → IsPermutation (map (λ _. row) (filter p rows)) (map shown edit.news) =
-      λ rows was. subst (IsPermutation (map (λ _. row) (filter p rows))) (sym news) (copied shown table row (over_terms name) terms each entries rows answer alike was.1 found) in (
+      let copies : (rows : List Row) → HaveRows shown_row entries rows → IsPermutation (map (λ _. row) (filter p rows)) (map shown_row edit.news) =
+      λ rows was. subst (IsPermutation (map (λ _. row) (filter p rows))) (sym news) (copied shown_row table row (over_terms name) terms each entries rows answer alike was.1 found) in (
         lands edit next (λ rows. map (λ _. row) (filter p rows) ++ filter (λ other. not (p other)) rows) refl a (λ rows was.
             let rest = filter (λ other. not (p other)) rows in
-            let fewer = fewer_rows shown p entries rows was gone (same_ids terms (col 1 0 ∷ from_slot 0 0 width) row entries _ answer alike found) in
-            let more = more_rows shown edit.news (without_all entries gone) rest a.fresh a.keyed fewer in
-            subst (λ es. HaveRows shown es (map (λ _. row) (filter p rows) ++ rest)) (sym a.rows) (
+            let fewer = fewer_rows shown_row p entries rows was gone (same_ids terms (col 1 0 ∷ from_slot 0 0 width) row entries _ answer alike found) in
+            let more = more_rows shown_row edit.news (without_all entries gone) rest a.fresh a.keyed fewer in
+            subst (λ es. HaveRows shown_row es (map (λ _. row) (filter p rows) ++ rest)) (sym a.rows) (
               more.0,
               IsPermutation-trans _ _ _
-                  (IsPermutation-trans _ _ _ (IsPermutation-append_left rest (map (λ _. row) (filter p rows)) (map shown edit.news) (copies rows was)) (IsPermutation-sym _ _ (added-permuted (map shown edit.news) rest)))
+                  (IsPermutation-trans _ _ _ (IsPermutation-append_left rest (map (λ _. row) (filter p rows)) (map shown_row edit.news) (copies rows was)) (IsPermutation-sym _ _ (added-permuted (map shown_row edit.news) rest)))
                   more.1,
             )) now w.sound,
         λ lists h.
             let rows = table_at (place_of name) lists in
             w.counted ∙ ap (λ (o : Option ℕ). unwrap_or o 0) (tallied (task_for row) old done.0 w.tally new.now done.2) ∙ ap (λ (it : Written). length it.rows) written
-            ∙ sym (length-map edit.news shown) ∙ length_permutation _ _ (copies rows (table_has desk name db lists h.rows)) ∙ length-map (filter p rows) (λ _. row),
+            ∙ sym (length-map edit.news shown_row) ∙ length_permutation _ _ (copies rows (table_has desk name db lists h.rows)) ∙ length-map (filter p rows) (λ _. row),
       )
 
   -- what an INSERT of one row leaves: it stands as this entry, whose rowid is new
@@ -305,10 +305,10 @@ module _ (desk : Placing) (is : IsDesk desk) (name : TableName) (old new : State
     pub stands_with_them : it.next table.tree ≡ put_row entry entries
     stands_with_them = it.step.rows ∙ ap (put_all entries) it.news
 
-    pub lands_added : (row : Row) → is_int (rowid entry) ≡ true → shown entry ≡ row → Lands desk old.now new.now (on_table (place_of name) (λ rows. row ∷ rows))
+    pub lands_added : (row : Row) → is_int (rowid entry) ≡ true → shown_row entry ≡ row → Lands desk old.now new.now (on_table (place_of name) (λ rows. row ∷ rows))
     lands_added row whole is = lands (edit_of old.now.trees table [] Chosen 0 (given ∷ [])) it.next (λ rows. row ∷ rows) refl it.step (λ rows was.
-        subst (λ es. HaveRows shown es (row ∷ rows)) (sym stands_with_them)
-        (subst (λ r. HaveRows shown (put_row entry entries) (r ∷ rows)) is (one_more_row shown entry entries rows rowid_is_new whole was))) it.now it.sound
+        subst (λ es. HaveRows shown_row es (row ∷ rows)) (sym stands_with_them)
+        (subst (λ r. HaveRows shown_row (put_row entry entries) (r ∷ rows)) is (one_more_row shown_row entry entries rows rowid_is_new whole was))) it.now it.sound
 
   -- a row under a rowid that the database chooses
   abbrev pub new_entry : Row → Row
@@ -317,18 +317,18 @@ module _ (desk : Placing) (is : IsDesk desk) (name : TableName) (old new : State
   abbrev pub Inserted : Row → Type 0
   Inserted row = Adds (Null ∷ row) (new_entry row)
 
-  pub one_inserted : HasNoRowid desk name → (sql : List ℕ) (row : Row) → FitsTable name row
+  pub one_inserted : HasNoRowidColumn desk name → (sql : List ℕ) (row : Row) → FitsTable name row
       → Means desk.schema sql (Insert at (Values (row_terms name) (suc width)))
       → (count : ℕ) → Executes sql row old new (Ok count) → Inserted row
   one_inserted none sql row fit means count ran =
       let whole : first_columns width row ≡ row = all_columns (table_for name).columns row fit in
-      let fits : cast_all table.columns row ≡ row = ap (λ (r : Option Bool). cast_all (columns_by r (table_for name).columns) row) none ∙ cast_all_keeps (table_for name).columns row fit in
+      let fits : cast_all table.columns row ≡ row = ap (λ (r : Option RowidColumn). cast_all (columns_by r (table_for name).columns) row) none ∙ cast_all_keeps (table_for name).columns row fit in
       one_added sql row (row_terms name) (Null ∷ row) (new_entry row) means
       (ap (λ ps. value_rows ps (suc width) (length (row_terms name) / suc width) (row_terms name)) (unstamped name (desk.tree name) row) ∙ one_row name row
       ∙ ap (λ (r : Row). (Null ∷ r) ∷ []) (params_in_turn 0 width row [] ∙ whole))
       (rw (cast_null, fits)) count ran
 
-  pub row_inserted : HasNoRowid desk name → (sql : List ℕ) (row : Row) → FitsTable name row
+  pub row_inserted : HasNoRowidColumn desk name → (sql : List ℕ) (row : Row) → FitsTable name row
       → Means desk.schema sql (Insert at (Values (row_terms name) (suc width)))
       → (count : ℕ) → Executes sql row old new (Ok count) → Lands desk old.now new.now (on_table (place_of name) (λ rows. row ∷ rows))
   row_inserted none sql row fit means count ran =
@@ -338,9 +338,6 @@ module _ (desk : Placing) (is : IsDesk desk) (name : TableName) (old new : State
 module _ (desk : Placing) (name : TableName) (old new : State) (has : old.now.schema ≡ desk.schema) where
   abbrev tree : ℕ
   tree = desk.tree name
-
-  abbrev shown_row : Row → Row
-  shown_row = shown_in desk name
 
   -- the rows that pass, in some order, of a table that may stand without the others
   pub rows_shown_alone : (sql : List ℕ) (params : Row) (terms project : List Term) (names : List (List ℕ)) → PassAlike desk name terms params → ShowsRows desk name project params
@@ -352,10 +349,10 @@ module _ (desk : Placing) (name : TableName) (old new : State) (has : old.now.sc
       let got = reads_as sql params old new desk.schema has (Select (record { lets = []; body = q }) names) means.is means.plain means.own rows shown in
       let found = answered_by tree terms project old.now.trees params rows (got.answer Null) in
       let entries = old.now.trees tree in
-      let same : map (λ e. eval_all project (params ∷ e ∷ [])) (filter (entry_passes terms params) entries) ≡ filter (passes terms params) (map shown_row entries) =
+      let same : map (λ e. eval_all project (params ∷ e ∷ [])) (filter (entry_passes terms params) entries) ≡ filter (passes terms params) (map (shown_in desk name) entries) =
       (λ i. map (λ e. each e i) (filter (entry_passes terms params) entries))
-      ∙ ap (map shown_row) (alike entries)
-      ∙ sym (filter_of_map (passes terms params) shown_row entries) in
+      ∙ ap (map (shown_in desk name)) (alike entries)
+      ∙ sym (filter_of_map (passes terms params) (shown_in desk name) entries) in
       IsPermutation-trans _ _ _ (IsPermutation-filter (passes terms params) _ _ here.1) (subst (λ xs. IsPermutation xs rows) same found)
 
   -- the same of one of the lists

@@ -10,7 +10,7 @@ use Rattle.sqlite_schema.specs.declared.schema.Schema.{Schema}
 use Rattle.sqlite_schema.specs.declared.command.Source.TheVariants.{Values}
 use Rattle.sqlite_schema.specs.declared.command.Command.TheVariants.{Insert, Delete, Select}
 use Rattle.sqlite_tied.specs.Compute.{everything}
-use Rattle.agv_schema.specs.DeskRows.{TableKeys, rowid_of, table_for, table_written, width_of}
+use Rattle.agv_schema.specs.DeskRows.{TableKeys, rowid_column_of, table_for, table_written, width_of}
 use Rattle.agv_schema.specs.RowTexts.{deletion_text, insertion_text, is_looked_up, is_written, look_up_text}
 use Rattle.agv_schema.specs.declared.table_name.TableName.{TableName}
 use Rattle.agv_schema.specs.declared.table_name.TableName.TheVariants as the
@@ -51,13 +51,13 @@ deleted_terms the.Act = is_param 1 0 ∷ []
 deleted_terms name = key_terms name
 
 -- no such table has the rowid for a column
-pub written_no_rowid : (name : TableName) → is_written name ≡ true → (keys : TableKeys) → rowid_of name keys ≡ None
-written_no_rowid the.Meta is keys = absurd (cc is)
-written_no_rowid _ is keys = refl
+pub written_no_rowid_column : (name : TableName) → is_written name ≡ true → (keys : TableKeys) → rowid_column_of name keys ≡ None
+written_no_rowid_column the.Meta is keys = absurd (cc is)
+written_no_rowid_column _ is keys = refl
 
-pub looked_up_no_rowid : (name : TableName) → is_looked_up name ≡ true → (keys : TableKeys) → rowid_of name keys ≡ None
-looked_up_no_rowid the.Meta is keys = absurd (cc is)
-looked_up_no_rowid _ is keys = refl
+pub looked_up_no_rowid_column : (name : TableName) → is_looked_up name ≡ true → (keys : TableKeys) → rowid_column_of name keys ≡ None
+looked_up_no_rowid_column the.Meta is keys = absurd (cc is)
+looked_up_no_rowid_column _ is keys = refl
 
 -- ---- a row is added
 

@@ -6,7 +6,7 @@ use Rattle.sqlite_sql.specs.Term.{eval_all}
 use Rattle.sqlite_trees.specs.Tree.{rowid}
 use Rattle.sqlite.specs.Effect.{value_rows}
 use Rattle.sqlite.specs.Rows.{stamped}
-use Rattle.agv_schema.specs.DeskRows.{first_columns, row_shown, table_for, width_of}
+use Rattle.agv_schema.specs.DeskRows.{RowidColumn, first_columns, row_shown, table_for, width_of}
 use Rattle.agv_schema.specs.declared.table_name.TableName.{TableName}
 use Rattle.agv_schema.specs.declared.table_name.TableName.TheVariants as the
 use Rattle.agv_statements.proofs.QueryMeanings.{terms_by}
@@ -35,10 +35,10 @@ columns_in_turn k zero params entry = refl
 columns_in_turn k (suc n) params entry = ap₂ ◌∷◌ (column_past k entry) (columns_in_turn (suc k) n params entry ∙ ap (first_columns n) (sym (drop_one_more k entry)))
 
 -- the row that is shown of an entry, whether its first column is the rowid or not
-pub rows_in_turn : (r : Option Bool) (width : ℕ) (params entry : Row) → eval_all (terms_by r width) (params ∷ entry ∷ []) ≡ row_shown r width entry
+pub rows_in_turn : (r : Option RowidColumn) (width : ℕ) (params entry : Row) → eval_all (terms_by r width) (params ∷ entry ∷ []) ≡ row_shown r width entry
 rows_in_turn None width params entry = columns_in_turn 1 width params entry
-rows_in_turn (Some not_null) zero params entry = refl
-rows_in_turn (Some not_null) (suc width) params entry =
+rows_in_turn (Some first) zero params entry = refl
+rows_in_turn (Some first) (suc width) params entry =
     ap (λ (more : Row). rowid entry ∷ more) (columns_in_turn 2 width params entry ∙ ap (first_columns width) (sym (drop_one_more 1 entry)))
 
 -- the row of an INSERT is the parameters

@@ -8,7 +8,7 @@ use Rattle.sqlite_schema.specs.declared.command.Command.TheVariants.{Update}
 use Rattle.sqlite_tied.specs.Compute.{everything}
 use Rattle.sqlite.specs.declared.error.Error.{Error}
 use Rattle.sqlite.specs.State.{State, Executes}
-use Rattle.agv_schema.specs.DeskRows.{TableKeys, Placing, FitsTable, Holds, IsDesk, Makes, has_columns, on_table, place_of, rowid_of, table_at, table_for, table_written, with_put_by, with_row}
+use Rattle.agv_schema.specs.DeskRows.{TableKeys, Placing, FitsTable, Holds, IsDesk, Makes, has_columns, on_table, place_of, rowid_column_of, table_at, table_for, table_written, with_put_by, with_row}
 use Rattle.agv_statements.specs.RowUpdates.{Counts, IsKeyOf, is_updated, update_text, with_each}
 use Rattle.agv_schema.specs.declared.table_name.TableName.{TableName}
 use Rattle.agv_schema.specs.declared.table_name.TableName.TheVariants as the
@@ -40,9 +40,9 @@ updates name is s at tree keys stands =
     let p = parsed (update_text name) in
     update_means s (table_for name).name (table_written name tree keys) at stands (update_text name) p refl refl (update_sets p.statement) (update_test p.statement) (key_terms name) (over_terms name) refl refl refl refl refl
 
-updated_no_rowid : (name : TableName) → is_updated name ≡ true → (keys : TableKeys) → rowid_of name keys ≡ None
-updated_no_rowid the.Meta is keys = absurd (cc is)
-updated_no_rowid _ is keys = refl
+updated_no_rowid_column : (name : TableName) → is_updated name ≡ true → (keys : TableKeys) → rowid_column_of name keys ≡ None
+updated_no_rowid_column the.Meta is keys = absurd (cc is)
+updated_no_rowid_column _ is keys = refl
 
 -- ---- inside a transaction
 
@@ -59,7 +59,7 @@ module _ (name : TableName) (updated : is_updated name ≡ true) (sql : List ℕ
   sets_rows : (desk : Placing) → IsDesk desk → old.now.schema ≡ desk.schema → (count : ℕ) → Executes (update_text name) row old new (Ok count) → SetsRows desk (has_columns columns row) count
   sets_rows desk is has count done =
       subst (λ p. SetsRows desk p count) (key_passes name row)
-      (rows_updated desk is name old new has (updated_no_rowid name updated (desk.keys name)) (update_text name) row fit (key_terms name) (within name)
+      (rows_updated desk is name old new has (updated_no_rowid_column name updated (desk.keys name)) (update_text name) row fit (key_terms name) (within name)
       (updates name updated desk.schema (is.stands name).at (desk.tree name) (desk.keys name) (is_in desk is name)) count done)
 
   pub updates_row : OnOk r (Makes (with_each name columns row) old new)

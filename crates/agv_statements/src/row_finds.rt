@@ -1,7 +1,7 @@
 //! Rows are looked up inside a transaction, by the key or by other columns.
 //!
-//! The rows that are shown are those of any database in which the desk's tables stand (`DeskRows.antt` of agv_schema), in no
-//! order, as the transaction sees them. Whatever a database has, rows that are shown change nothing. An error changes
+//! The rows that are shown are those of any database in which the desk's tables stand (`DeskRows.antt` of agv_schema), in
+//! no order, as the transaction sees them. Whatever a database has, rows that are shown change nothing. An error changes
 //! nothing either, or it has ended the transaction.
 ghost use Rattle.std.specs.Prelude.{◌≡◌, true, IfOk, OnOk};
 ghost use Rattle.sqlite.specs.State.{HasCleanDisk, IsUnchanged, KeepsCommit, Survives};

@@ -1,7 +1,7 @@
 //! Rows are looked up: by the key, by other columns, or all of a table; or they are counted.
 //!
-//! The rows that are shown are those of any database in which the desk's tables stand (`DeskRows.antt` of agv_schema), in no
-//! order. Whatever a database has, rows that are shown change nothing, and nothing is committed. An error that is a
+//! The rows that are shown are those of any database in which the desk's tables stand (`DeskRows.antt` of agv_schema), in
+//! no order. Whatever a database has, rows that are shown change nothing, and nothing is committed. An error that is a
 //! fault of the store comes only where the store failed, was closed, or limits the steps of a query.
 ghost use Rattle.std.specs.Prelude.{◌≡◌, ◌⊎◌, [], ◌∷◌, false, true, IfErr, IfOk, OnErr, OnOk};
 ghost use Rattle.sqlite.specs.State.{HasCleanDisk, IsUnchanged, IsRolledBack, Survives};

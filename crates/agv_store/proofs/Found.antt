@@ -47,15 +47,15 @@ TellsItsWorld = (desk : Placing) (db : Database) (world : World) → HasWorld de
 -- ---- the rows under keys of their own
 
 -- the rows of all entries of these tables, where they lie in these trees
-abbrev lists_by : Placing → Database → List TableName → List (List Row)
-lists_by at db = map (λ (name : TableName). map (shown_in at name) (db.trees (at.tree name)))
+abbrev lists_placed : Placing → Database → List TableName → List (List Row)
+lists_placed at db = map (λ (name : TableName). map (shown_in at name) (db.trees (at.tree name)))
 
 rows_by : (at : Placing) (db : Database) (names : List TableName) → AllByRecursion (λ name. AreKeyed (db.trees (at.tree name))) names
-    → AllZip (TableHas at db.trees) names (lists_by at db names)
+    → AllZip (TableHas at db.trees) names (lists_placed at db names)
 rows_by at db [] keyed = tt
 rows_by at db (name ∷ names) keyed = ((keyed.0, IsPermutation-refl _), rows_by at db names keyed.1)
 
-pub keyed_holds : (at : Placing) (db : Database) → db.schema ≡ at.schema → AreTablesKeyed at db table_names → Holds at db (lists_by at db table_names)
+pub keyed_holds : (at : Placing) (db : Database) → db.schema ≡ at.schema → AreTablesKeyed at db table_names → Holds at db (lists_placed at db table_names)
 keyed_holds at db same keyed = record { schema_is = same; rows = rows_by at db table_names keyed }
 
 -- ---- the tables that are read
@@ -142,7 +142,7 @@ module _ {S : Type 0} (g : Ghosts S) where
             let early = clean_mid clean in
             let all = (keyed.told early at stand.1 stand.2).0 is in
             let there = keyed_holds at (state g old).now stand.2 all in
-            let lists = lists_by at (state g old).now table_names in
+            let lists = lists_placed at (state g old).now table_names in
             let there_mid = subst (λ (db : Database). Holds at db lists) (sym (same_mid early)) there in
             let have = read.exact clean at stand.1 lists there_mid in
             record { stands = stand.1; lawful = lawful; rows = tell_worlds at (state g old).now lists tables holds.table world there have keeps held }

@@ -18,8 +18,8 @@ use std::marker::Model;
 /// The desk of one warehouse over its tables in a database. While its store is open, the tables have the rows of a lawful
 /// world (`specs/Floors.antt`): it is the desk's world, and each call is answered from it.
 ///
-/// A desk is made by [`Desk::create`], [`Desk::adopt`], [`Desk::open`] or [`Desk::migrate`], and gives its connection back by
-/// [`Desk::release_conn`].
+/// A desk is made by [`Desk::create`], [`Desk::adopt`], [`Desk::open`] or [`Desk::migrate`], and gives its connection back
+/// by [`Desk::release_conn`].
 #[derive(Drop)]
 pub struct Desk<S: Alter> {
     pub(crate) floor: KeyedFloor<S>,
@@ -53,17 +53,17 @@ impl<S: Alter + Drop> Desk<S> {
 
     /// Serves one call that comes at this moment. It is decided by questions to the tables, outside a transaction; what it
     /// changes is written in one transaction; and it is answered after the commit. The answer is that of the table of calls
-    /// in the desk's world, and the tables then have the rows of the world after the call (`serves`). A refusal is an answer,
-    /// and changes nothing. An answer that names a report has no bytes here.
+    /// in the desk's world, and the tables then have the rows of the world after the call (`serves`). A refusal is an
+    /// answer, and changes nothing. An answer that names a report has no bytes here.
     ///
     /// A crash leaves the rows before the call or after it (`crash`), and once there is an answer those after it
     /// ([`laws`](crate::laws)).
     ///
     /// # Errors
-    /// `Memory` when out of memory; then, where the store is still open, all is as before the call. `Storage` where the store
-    /// failed or had failed before: exactly where [`failed`](Desk::failed) is `true` as the call ends (`ends`). A desk that had
-    /// failed before queries nothing, and stays as it is (`stopped`). A fault that leaves the store open leaves all that the
-    /// database has as it was (`unchanged_on_err`).
+    /// `Memory` when out of memory; then, where the store is still open, all is as before the call. `Storage` where the
+    /// store failed or had failed before: exactly where [`failed`](Desk::failed) is `true` as the call ends (`ends`). A
+    /// desk that had failed before queries nothing, and stays as it is (`stopped`). A fault that leaves the store open
+    /// leaves all that the database has as it was (`unchanged_on_err`).
     pub fn serve(&mut self, at: Moment, call: &Call) -> Result<Answer, Fault>
         ensures knew { IsClean S.Store self.new.held → OnOk result (Knows S.Store self.old.held (world_at S.Store self.old.held)) }
         ensures serves { IsClean S.Store self.new.held → IfOk result (IsServedBy S.Store self.old.held self.new.held at call.now) }

@@ -6,7 +6,8 @@ ghost use Rattle.agv_store.specs.Flags.{doubted_by, noted};
 use agv_row_reading::OpenFault;
 use agv_world::Fault;
 
-// How a question ends, for whoever asks a floor, with what its fault raises. Tables that tell no world are a fault of the store.
+// How a question ends, for whoever asks a floor, with what its fault raises. Tables that tell no world are a fault of the
+// store.
 pub(crate) fn note<T>(
     failed: &mut bool,
     in_doubt: &mut bool,

@@ -1,9 +1,9 @@
 //! The questions of a floor, each by look-ups of a key or an index in the desk's tables; only the layout is read whole, and
 //! kept where it was itself the question. A node, a station, the edges of a trip and the layout itself are looked up in the
-//! kept one, and asked of the tables only where none is kept or it lacks the name. The row of a vehicle, once it was read or
-//! written, and an open trip, once it was read, are kept and follow what is written. Whether one load more fits at a station
-//! is told by what is left of the room that was counted there; where none is kept, the room is counted. Where there is no
-//! memory to keep an answer, but of the layout, it is given all the same.
+//! kept one, and asked of the tables only where none is kept or it lacks the name. The row of a vehicle, once it was read
+//! or written, and an open trip, once it was read, are kept and follow what is written. Whether one load more fits at a
+//! station is told by what is left of the room that was counted there; where none is kept, the room is counted. Where there
+//! is no memory to keep an answer, but of the layout, it is given all the same.
 
 use crate::flags::note;
 use crate::keyed_floor::KeyedFloor;

@@ -1,7 +1,7 @@
-//! The open trips of orders, kept beside the connection once they were read, so that no state of a vehicle has its trip read
-//! anew, and the vehicles that are known to have none. Where a write has the row of a trip that is kept, this has what the row
-//! says; where it takes the row away, or has one of the order's edges or of the layout, the trip is kept no more. A vehicle
-//! whose trip is written is no longer one of those without.
+//! The open trips of orders, kept beside the connection once they were read, so that no state of a vehicle has its trip
+//! read anew, and the vehicles that are known to have none. Where a write has the row of a trip that is kept, this has what
+//! the row says; where it takes the row away, or has one of the order's edges or of the layout, the trip is kept no more. A
+//! vehicle whose trip is written is no longer one of those without.
 ghost use Rattle.std.specs.Prelude.{◌≡◌, IfOk, IfSome, IsTrue, None, Some, is_some};
 ghost use Rattle.agv_world.specs.Asks.{Asks};
 ghost use Rattle.agv_world.specs.Changes.{change};
@@ -153,8 +153,8 @@ pub(crate) fn follow(trips: &mut KeptTrips, one: &Change)
     follow_without(&mut trips.without, one);
 }
 
-// The trips that are kept once the change was made: none where it is one of the layout, that of an order no more where it is
-// one of the order's edges, and as its row says where it is that.
+// The trips that are kept once the change was made: none where it is one of the layout, that of an order no more where it
+// is one of the order's edges, and as its row says where it is that.
 fn follow_open(trips: &mut OpenTrips, one: &Change)
     ensures { (maps : Maps) → AreOpen trips.old maps → AreOpen trips.new (change maps one.now) }
 {
@@ -169,8 +169,8 @@ fn follow_open(trips: &mut OpenTrips, one: &Change)
     }
 }
 
-// The trip that is kept of an order is as this row says; it is kept no more where the row is taken away, or there is no memory
-// for what the row says.
+// The trip that is kept of an order is as this row says; it is kept no more where the row is taken away, or there is no
+// memory for what the row says.
 fn put_row(trips: &mut OpenTrips, order: Name, row: &Option<TripRow>)
     ensures { (maps : Maps) → AreOpen trips.old maps → AreOpen trips.new (record maps { trips = edit maps.trips order row.now }) }
 {

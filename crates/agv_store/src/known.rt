@@ -1,6 +1,7 @@
-//! What a desk knows beside its tables, so that it asks them less: how many there are of each kind, the layout, how many loads
-//! more fit at a station, open trips, and rows of vehicles. It is true of the world whose rows the tables have, and follows
-//! what is written. Each part has a file, which says what is kept of it and what becomes of that where a row is written.
+//! What a desk knows beside its tables, so that it asks them less: how many there are of each kind, the layout, how many
+//! loads more fit at a station, open trips, and rows of vehicles. It is true of the world whose rows the tables have, and
+//! follows what is written. Each part has a file, which says what is kept of it and what becomes of that where a row is
+//! written.
 ghost use Rattle.std.specs.Prelude.{◌≡◌, ℕ, IfOk};
 ghost use Rattle.agv_world.specs.Changes.{change, changed};
 ghost use Rattle.agv_world.specs.Kept.{Keeps};

@@ -35,9 +35,9 @@ pub fn crashes_leave_before_or_after<S: Alter>()
         → (trees : Trees) → (state S.Store held).may_leave trees → HasDatabase (λ found. FoundIn found world) trees }
 {}
 
-/// After a crash in the middle of [`Desk::create`](crate::Desk::create), of a connection that was open, in no transaction, an
-/// opening finds the database as it was, so that a desk can still be made there; or it finds the desk, which knows nothing
-/// yet (`made`). So it is after a crash of [`Desk::open`](crate::Desk::open) (`opened`).
+/// After a crash in the middle of [`Desk::create`](crate::Desk::create), of a connection that was open, in no transaction,
+/// an opening finds the database as it was, so that a desk can still be made there; or it finds the desk, which knows
+/// nothing yet (`made`). So it is after a crash of [`Desk::open`](crate::Desk::open) (`opened`).
 pub fn crashes_leave_no_desk_or_all_of_it<S: Alter>()
     ensures made { (old new : Held S) → IsOpen S.Store old → (state S.Store old).committed ≡ (state S.Store old).now → IsDatabase (state S.Store old).now
         → CanBeMade (state S.Store old).now.schema → IsClean S.Store new → Survives (state S.Store old) (state S.Store new) (LeavesDesk (state S.Store old).now)
@@ -50,9 +50,9 @@ pub fn crashes_leave_no_desk_or_all_of_it<S: Alter>()
     new_desks_know_nothing();
 }
 
-/// After a crash in the middle of [`Desk::migrate`](crate::Desk::migrate), of a connection that was open, in no transaction, an
-/// opening finds the database as it was, or the second schema's rows of the world whose rows it had as the first schema has
-/// them: so it can be moved still, or adopted.
+/// After a crash in the middle of [`Desk::migrate`](crate::Desk::migrate), of a connection that was open, in no
+/// transaction, an opening finds the database as it was, or the second schema's rows of the world whose rows it had as the
+/// first schema has them: so it can be moved still, or adopted.
 pub fn crashes_leave_the_first_schema_or_this<S: Alter>()
     ensures { (old new : Held S) → IsOpen S.Store old → (state S.Store old).committed ≡ (state S.Store old).now → IsDatabase (state S.Store old).now
         → IsClean S.Store new → Survives (state S.Store old) (state S.Store new) (LeavesMigrated (state S.Store old).now)
@@ -68,16 +68,16 @@ pub fn crashes_leave_what_is_only_read<S: Alter>()
         → (trees : Trees) → (state S.Store new).may_leave trees → HasDatabase (λ found. found ≡ (state S.Store old).now) trees }
 {}
 
-/// Trees tell the world whose rows they have: what an opening finds after a crash has the same world in each database with these
-/// trees, so [`Desk::adopt`](crate::Desk::adopt) doesn't find it damaged.
+/// Trees tell the world whose rows they have: what an opening finds after a crash has the same world in each database with
+/// these trees, so [`Desk::adopt`](crate::Desk::adopt) doesn't find it damaged.
 pub fn trees_tell_worlds()
     ensures { (found other : Database) (world : World) → IsDatabase found → IsDatabase other → other.trees ≡ found.trees → FoundIn found world → FoundIn other world }
 {
     trees_tell_schemas();
 }
 
-/// However a list of calls ends, a desk whose store was open knows the world after the calls that were answered, and goes on
-/// from there, unless its disk had a fault meanwhile.
+/// However a list of calls ends, a desk whose store was open knows the world after the calls that were answered, and goes
+/// on from there, unless its disk had a fault meanwhile.
 pub fn desks_go_on_behind_a_list<S: Alter>()
     ensures { (old new : Held S) (calls : List (ℕ × Call)) (given : List Answer) (ended : Option Fault) → IsRun S.Store old new calls given ended
         → IsClean S.Store new → IsOpen S.Store old → ¬ MoreFaults (state S.Store old).faults (state S.Store new).faults

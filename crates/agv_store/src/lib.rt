@@ -2,10 +2,10 @@
 //! written in one transaction before it is answered.
 //!
 //! - [`Desk`] is made in a database, or adopted from one (`opening`; [`OpenFault`] says why there is none). It serves one
-//!   call, or a list of calls in turn up to the first fault (`running`), and keeps its world lawful. A database of the first
-//!   schema is migrated to the second, and its desk adopted (`migration`).
-//! - `keyed_floor` answers the questions of `agv_desk` to a floor by keys and indexes, over a connection to the desk's tables.
-//!   Beside the connection it has what is known beside the tables (`known`): five counts (`counts`), the layout
+//!   call, or a list of calls in turn up to the first fault (`running`), and keeps its world lawful. A database of the
+//!   first schema is migrated to the second, and its desk adopted (`migration`).
+//! - `keyed_floor` answers the questions of `agv_desk` to a floor by keys and indexes, over a connection to the desk's
+//!   tables. Beside the connection it has what is known beside the tables (`known`): five counts (`counts`), the layout
 //!   (`kept_layout`), the room at stations (`kept_rooms`), the open trips of orders (`kept_trips`) and the rows of vehicles
 //!   (`kept_vehicles`). `serving` serves one call over it.
 //! - An answer that names a report doesn't hold it: [`Desk::report`] gives its bytes (`reports`). What a report lists is

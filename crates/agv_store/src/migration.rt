@@ -21,18 +21,18 @@ use std::alloc::Global;
 
 impl<S: Alter + Drop> Desk<S> {
     /// Migrates a database of the first schema, which has no capacities, to the second, and adopts the desk. All is done in
-    /// one transaction: the tables `capacity`, `journey` and `act` are made and have their rows, `trip` is emptied, and `meta`
-    /// has the number of the second schema. The world stays the same, and each vehicle has the capacity 1.
+    /// one transaction: the tables `capacity`, `journey` and `act` are made and have their rows, `trip` is emptied, and
+    /// `meta` has the number of the second schema. The world stays the same, and each vehicle has the capacity 1.
     ///
     /// A crash leaves the database as it was, or the rows of the same world as the second schema has them
     /// ([`laws`](crate::laws)).
     ///
     /// # Errors
     /// `Damaged` only if the database has the first schema's rows of no lawful world, a table is missing or differs, or a
-    /// table, a view or an index has one of the three names or a foreign key refers to one. Else `Memory` when out of memory,
-    /// and `Storage` for any other error of the database: the store failed, was closed, or limits the steps of a query, or
-    /// SQL refuses a statement of the migration, as where somebody's unique index forbids a row. The connection is returned;
-    /// if it is open, its contents are unchanged.
+    /// table, a view or an index has one of the three names or a foreign key refers to one. Else `Memory` when out of
+    /// memory, and `Storage` for any other error of the database: the store failed, was closed, or limits the steps of a
+    /// query, or SQL refuses a statement of the migration, as where somebody's unique index forbids a row. The connection
+    /// is returned; if it is open, its contents are unchanged.
     pub fn migrate(
         alloc: Global,
         conn: Connection<S>,

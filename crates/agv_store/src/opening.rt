@@ -41,9 +41,9 @@ impl<S: Alter + Drop> Desk<S> {
     /// # Errors
     /// `Damaged` where a table, a view or an index has the name of one of the desk's tables, a foreign key refers to one of
     /// them, or two tables lie in one tree, as in no sound database, and only there: nothing is touched then. Else `Memory`
-    /// when out of memory, and `Storage` for any other error of the database: the store failed or was closed, or SQL refuses a
-    /// statement, as where the database has 65,536 trees. The connection is returned; if it is open, its contents are
-    /// unchanged.
+    /// when out of memory, and `Storage` for any other error of the database: the store failed or was closed, or SQL
+    /// refuses a statement, as where the database has 65,536 trees. The connection is returned; if it is open, its contents
+    /// are unchanged.
     pub fn create(alloc: Global, conn: Connection<S>) -> Result<Desk<S>, (Connection<S>, OpenFault)>
         requires { conn.in_transaction ≡ false }
         ensures made { IfOk result (λ desk. IsClean S.Store desk.held → Makes S.Store conn desk) }
@@ -79,11 +79,11 @@ impl<S: Alter + Drop> Desk<S> {
     /// are looked at, and nothing is changed.
     ///
     /// # Errors
-    /// `Damaged` if the database has the rows of no lawful world: a table is missing or differs, a row can't be decoded, the
-    /// rows break a rule of the desk, or what is held isn't what the vehicles hold. A database that has the rows of a lawful
-    /// world is never damaged. Else `Memory` when out of memory, and `Storage` only if the store failed, was closed, or
-    /// limits the steps of a query, whatever the database has. The connection is returned; if it is open, its contents are
-    /// unchanged.
+    /// `Damaged` if the database has the rows of no lawful world: a table is missing or differs, a row can't be decoded,
+    /// the rows break a rule of the desk, or what is held isn't what the vehicles hold. A database that has the rows of a
+    /// lawful world is never damaged. Else `Memory` when out of memory, and `Storage` only if the store failed, was closed,
+    /// or limits the steps of a query, whatever the database has. The connection is returned; if it is open, its contents
+    /// are unchanged.
     pub fn adopt(alloc: Global, conn: Connection<S>) -> Result<Desk<S>, (Connection<S>, OpenFault)>
         requires { conn.in_transaction ≡ false }
         ensures adopted { IfOk result (λ desk. IsClean S.Store desk.held → Adopts S.Store conn desk) }
@@ -105,12 +105,12 @@ impl<S: Alter + Drop> Desk<S> {
         }
     }
 
-    /// Opens a database as a desk: makes one ([`Desk::create`]) where its tables can be made beside what the database has, and
-    /// else adopts the one that is there ([`Desk::adopt`]).
+    /// Opens a database as a desk: makes one ([`Desk::create`]) where its tables can be made beside what the database has,
+    /// and else adopts the one that is there ([`Desk::adopt`]).
     ///
     /// # Errors
-    /// As these two. `Damaged` only where a desk can't be made, and the database has the rows of no lawful world; `Storage` has
-    /// a cause as for [`Desk::adopt`] where a desk can't be made.
+    /// As these two. `Damaged` only where a desk can't be made, and the database has the rows of no lawful world; `Storage`
+    /// has a cause as for [`Desk::adopt`] where a desk can't be made.
     pub fn open(alloc: Global, conn: Connection<S>) -> Result<Desk<S>, (Connection<S>, OpenFault)>
         requires { conn.in_transaction ≡ false }
         ensures opened { IfOk result (λ desk. IsClean S.Store desk.held → (CanBeMade (state S.Store conn).now.schema × Makes S.Store conn desk) ⊎ ((¬ CanBeMade (state S.Store conn).now.schema) × Adopts S.Store conn desk)) }

@@ -33,8 +33,8 @@ impl<S: Alter + Drop> Desk<S> {
     ///
     /// # Errors
     /// `Memory` when out of memory. `Storage` where the store failed or had failed before: exactly where
-    /// [`failed`](Desk::failed) is `true` as it ends (`ends`). A desk that had failed before asks nothing, and stays as it is
-    /// (`stopped`).
+    /// [`failed`](Desk::failed) is `true` as it ends (`ends`). A desk that had failed before asks nothing, and stays as it
+    /// is (`stopped`).
     pub fn report(&mut self, told: &Answer) -> Result<Vec<u8>, Fault>
         ensures tells { IsClean S.Store self.new.held → IfOk result (λ bytes. bytes.items ≡ report_of (world_at S.Store self.old.held) told.now) }
         ensures knew { IsClean S.Store self.new.held → OnOk result (names_report told.now ≡ true → Knows S.Store self.old.held (world_at S.Store self.old.held)) }

@@ -14,15 +14,15 @@ use agv_world_reading::world_laws::a_database_tells_its_world;
 use sqlite::Alter;
 
 impl<S: Alter + Drop> Desk<S> {
-    /// Serves the calls in turn, each at its moment, up to the first fault, which is given beside the answers. Memory for the
-    /// answers is reserved before the first call, so that none is served whose answer can't be given (`reserves`).
+    /// Serves the calls in turn, each at its moment, up to the first fault, which is given beside the answers. Memory for
+    /// the answers is reserved before the first call, so that none is served whose answer can't be given (`reserves`).
     ///
-    /// The answers are those of the table of calls, from the desk's world on, and the tables then have the rows of the world
-    /// after the calls that were answered (`runs`). Without a fault each call has its answer; with one there are fewer
-    /// answers than calls (`answered`).
+    /// The answers are those of the table of calls, from the desk's world on, and the tables then have the rows of the
+    /// world after the calls that were answered (`runs`). Without a fault each call has its answer; with one there are
+    /// fewer answers than calls (`answered`).
     ///
-    /// However the list ends, the store is still open if it was open before, unless its disk had a fault meanwhile (`runs`): so
-    /// after `Memory`, too, the desk goes on ([`laws`](crate::laws)).
+    /// However the list ends, the store is still open if it was open before, unless its disk had a fault meanwhile
+    /// (`runs`): so after `Memory`, too, the desk goes on ([`laws`](crate::laws)).
     ///
     /// A crash leaves the rows of the world after the calls that were answered, and where there was a fault those of this
     /// world or of the one after one call more: all that it may leave is a database that has them (`crash`).
@@ -30,8 +30,8 @@ impl<S: Alter + Drop> Desk<S> {
     /// # Errors
     /// `Memory` where memory runs out; where there is none for the answers no call is served. `Storage` where the store
     /// failed or had failed before. Of a store that hadn't failed before, the fault is `Storage` exactly where
-    /// [`failed`](Desk::failed) is `true` in the end (`ends`). A desk that had failed before asks nothing, answers no call and
-    /// stays as it is; with memory for the answers the fault is `Storage`, where there is a call (`fails`).
+    /// [`failed`](Desk::failed) is `true` in the end (`ends`). A desk that had failed before asks nothing, answers no call
+    /// and stays as it is; with memory for the answers the fault is `Storage`, where there is a call (`fails`).
     pub fn run(&mut self, calls: &[(Moment, Call)]) -> (Vec<Answer>, Option<Fault>)
         ensures runs { IsClean S.Store self.new.held → IsRun S.Store self.old.held self.new.held calls.now result.0.items result.1 }
         ensures answered { HasAnswered calls.now result.0.items result.1 }

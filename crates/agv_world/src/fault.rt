@@ -1,11 +1,11 @@
-//! Why a question to what the desk knows has no answer.
+//! Why a question has no answer, or a change is not made.
 ghost use Rattle.std.specs.Prelude.{◌≡◌};
 
 use agv_header::Memory;
 use std::alloc::{AllocError, AllocFailed};
 use thiserror::Error;
 
-/// Why a question to what the desk knows has no answer.
+/// Why a question to what the desk knows has no answer, or what it writes is not written.
 #[derive(Clone, Copy, Debug, PartialEq, Eq, Error)]
 pub enum Fault {
     /// An allocation was refused.

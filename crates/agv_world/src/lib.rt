@@ -2,7 +2,7 @@
 //!
 //! - In a clause a world is a record of a layout, the vehicles with their open trips, the places of
 //!   loads, the jobs, and the names that were used (`specs/Worlds.antt`).
-//! - Its maps are eleven, each from a key to the rest of its row (`specs/Maps.antt`); a database has its rows in fourteen
+//! - Its maps are eleven, each from a key to the other columns of its row (`specs/Maps.antt`); a database has its rows in fourteen
 //!   tables (docs/TABLES.md). A [`Change`] is one row written or removed (`specs/Changes.antt`).
 //! - In memory a [`World`] is these maps as tables, but for the holds, which follow from the others
 //!   (`specs/Kept.antt`). [`World::apply`] carries out changes: all of them, or none.

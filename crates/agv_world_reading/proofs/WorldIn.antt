@@ -16,7 +16,7 @@ use Rattle.agv_world.specs.Told.{world_of}
 use Rattle.agv_world.specs.Worlds.{World}
 use Rattle.agv_world.specs.declared.row.VehicleRow.{VehicleRow}
 use Rattle.agv_world.specs.declared.world.World.{World as Tables}
-use Rattle.agv_schema.specs.DeskRows.{Holds, IsDesk, Placing, TableHas, is_first_required, key_by, place_of, row_shown, shown_in, table_at, table_in, table_names}
+use Rattle.agv_schema.specs.DeskRows.{Holds, IsDesk, Placing, RowidColumn, TableHas, has_any, is_first_required, key_by, place_of, row_shown, shown_in, table_at, table_in, table_names}
 use Rattle.agv_row_reading.specs.ReadTables.{Reads}
 use Rattle.agv_rows.specs.Rows.{AreAlike, rows_of}
 use Rattle.agv_schema.specs.SchemaNumbers.{desk_seats}
@@ -43,15 +43,16 @@ pub placed_there : (desk : Placing) → IsDesk desk → (name : TableName) → (
 placed_there desk is name = ap tree_of (found_there desk is name)
 
 -- so their rows are shown alike
-key_is : (r : Option Bool) (required : Bool) → key_by (option_map (λ _. required) (key_by r)) ≡ key_by r
-key_is None required = refl
-key_is (Some not_null) required = refl
+key_is : (r : Option RowidColumn) (found : RowidColumn) → key_by (option_map (λ _. found) (key_by r)) ≡ key_by r
+key_is None found = refl
+key_is (Some first) found = refl
 
 shown_there : (desk : Placing) → IsDesk desk → (name : TableName) → shown_in (placed_in desk.schema) name ≡ shown_in desk name
 shown_there desk is the.Meta =
-    let r = (desk.keys the.Meta).rowid in
-    let required = is_first_required (table_in desk the.Meta).columns in
-    ap (λ (o : Option Table). row_shown (keys_found o).rowid 2) (found_there desk is the.Meta) ∙ shown_by_key (option_map (λ _. required) (key_by r)) r 2 (key_is r required)
+    let r = (desk.keys the.Meta).rowid_column in
+    let table = table_in desk the.Meta in
+    let found : RowidColumn = record { not_null = is_first_required table.columns; is_unique = has_any table.uniques } in
+    ap (λ (o : Option Table). row_shown (keys_found o).rowid_column 2) (found_there desk is the.Meta) ∙ shown_by_key (option_map (λ _. found) (key_by r)) r 2 (key_is r found)
 shown_there desk is _ = refl
 
 -- ---- their rows

@@ -33,7 +33,7 @@ tree_of None = 0
 tree_of (Some table) = table.tree
 
 abbrev pub keys_found : Option Table → TableKeys
-keys_found None = record { primary = []; all = []; rowid = None }
+keys_found None = record { primary = []; indexed = []; rowid_column = None }
 keys_found (Some table) = keys_of table
 
 -- the table that SQL finds by that name

@@ -28,7 +28,7 @@ use Rattle.agv_desk.proofs.outcomes.EffectParts.{effect_orders, effect_vehicles,
 use Rattle.agv_desk.proofs.histories.AcceptedSince.{IsAsTold, IsAccepted, IsTold}
 use Rattle.agv_desk.proofs.histories.JudgedStates.{IsJudged, acts_are, judged_so, not_ended, status_at}
 use Rattle.agv_desk.proofs.outcomes.Known.{has_trip, none_some, same_some, vehicle_with}
-use Rattle.agv_desk.proofs.outcomes.Ladders.{IfMade, made_require, made_found, made_judged}
+use Rattle.agv_desk.proofs.outcomes.Ladders.{IfMade, made_refuse_unless, made_refuse_if_none, made_judged}
 use Rattle.agv_desk.proofs.lists.SameNames.{name_itself}
 use Rattle.agv_desk.proofs.histories.StatesAlong.{made_either}
 use Rattle.agv_desk.proofs.histories.TripLeft.{left_is, only_trip, renewed_act, trip_few}
@@ -115,13 +115,13 @@ module _ (world : World) (key : VehicleKey) (state : StateMessage) where
     takes_fresh row there None same = takes_idle row (λ trip has ours. none_some (sym same ∙ trip_told world key trip has))
     takes_fresh row there (Some trip) same =
         made_either P _ _ _ (λ ours. takes_trip row trip there same)
-        (λ apart. made_require P _ _ _ (λ unconfirmed. takes_idle row (λ more has ours.
+        (λ apart. made_refuse_unless P _ _ _ (λ unconfirmed. takes_idle row (λ more has ours.
         let trips : trip ≡ more = same_some (sym same ∙ trip_told world key more has) in
         false≢true (sym apart ∙ ap (λ (one : Trip). pointwise nat_eq one.order state.order_id) trips ∙ ap (λ order. pointwise nat_eq order state.order_id) ours ∙ name_itself state.order_id))))
 
     pub leaves_accepted : IfMade P (take_state world key state)
     leaves_accepted =
-        made_found P _ _ _ (λ row there. made_either P _ _ _ (λ fresh. takes_fresh row there (trip_of world key) refl)
+        made_refuse_if_none P _ _ _ (λ row there. made_either P _ _ _ (λ fresh. takes_fresh row there (trip_of world key) refl)
         (λ old. record { number = λ accepted. cc; trip = λ accepted. cc }))
 
   -- ---- of the world after the message

@@ -17,7 +17,7 @@ use Rattle.agv_desk.specs.Outcomes.{Effect, Outcome}
 use Rattle.agv_desk.proofs.histories.GoingAlong.{GoesAlong, RowGoesOn}
 use Rattle.agv_desk.proofs.outcomes.Keeping.{Continues}
 use Rattle.agv_desk.proofs.outcomes.Known.{has_trip, none_some, same_some}
-use Rattle.agv_desk.proofs.outcomes.Ladders.{IfMade, made_require, made_found, made_unheld}
+use Rattle.agv_desk.proofs.outcomes.Ladders.{IfMade, made_refuse_unless, made_refuse_if_none, made_unheld}
 use Rattle.agv_desk.proofs.row_changes.OrderRows.{plan_of_order}
 use Rattle.agv_desk.proofs.histories.PlainAlong.{puts_known}
 use Rattle.agv_desk.proofs.row_changes.Steps.{not_true}
@@ -57,25 +57,27 @@ module _ (world : World) (forgets : VehicleKey → Type 0) where
   sends_trip : (asked : AskedOrder) (row : VehicleRow) (jobs : List Job) (trip : Trip)
       → is_used world used.Order asked.order ≡ false → row_of world asked.key ≡ Some row → trip.order ≡ asked.order → IfMade P (send_trip world asked row jobs trip)
   sends_trip asked row jobs trip unused there named =
-      made_unheld P _ _ (λ opened. made_found P _ _ _ (λ number next. made_require P _ _ _ (λ few.
+      made_unheld P _ _ (λ opened. made_refuse_if_none P _ _ _ (λ number next. made_refuse_unless P _ _ _ (λ few.
       puts_known world forgets _ asked.key _ _ row refl (record { once = λ kind order job. inl refl }) there (message_sent (forgets asked.key) row asked.at number)
       (λ new same. inr (ap (λ (one : Trip). set.contains world.orders one.order) (sym (same_some same)) ∙ ap (set.contains world.orders) named ∙ unused_order asked.order unused)))))
 
   pub starts_order : (asked : AskedOrder) → IfMade P (start_order world asked)
   starts_order asked =
-      made_require P _ _ _ (λ unused. made_found P _ _ _ (λ row there. made_require P _ _ _ (λ fit. made_found P _ _ _ (λ jobs are.
-      made_require P _ _ _ (λ a. made_require P _ _ _ (λ b. made_require P _ _ _ (λ idle. made_require P _ _ _ (λ c. made_require P _ _ _ (λ d. made_require P _ _ _ (λ e. made_require P _ _ _ (λ f.
-      made_found P _ _ _ (λ layout is_set. made_by_plan P _ _ (λ trip is_plan.
+      made_refuse_unless P _ _ _ (λ unused. made_refuse_if_none P _ _ _ (λ row there. made_refuse_unless P _ _ _ (λ fit. made_refuse_if_none P _ _ _ (λ jobs are.
+      made_refuse_unless P _ _ _ (λ a. made_refuse_unless P _ _ _ (λ b. made_refuse_unless P _ _ _ (λ idle.
+      made_refuse_unless P _ _ _ (λ c. made_refuse_unless P _ _ _ (λ d. made_refuse_unless P _ _ _ (λ e. made_refuse_unless P _ _ _ (λ f.
+      made_refuse_if_none P _ _ _ (λ layout is_set. made_by_plan P _ _ (λ trip is_plan.
       sends_trip asked row jobs trip (not_true _ unused) there (plan_of_order layout asked.key jobs asked.stops asked.order row.node asked.edges trip is_plan))))))))))))))
 
   sends_update : (at : ℕ) (key : VehicleKey) (row : VehicleRow) (trip : Trip) (update edges : ℕ) → row_of world key ≡ Some row → trip_of world key ≡ Some trip
       → IfMade P (send_update world at key row trip update edges)
   sends_update at key row trip update edges there open_trip =
-      made_require P _ _ _ (λ a. made_unheld P _ _ (λ opened. made_found P _ _ _ (λ number next.
+      made_refuse_unless P _ _ _ (λ a. made_unheld P _ _ (λ opened. made_refuse_if_none P _ _ _ (λ number next.
       puts_known world forgets _ key _ _ row refl (record { once = λ kind order job. inl refl }) there (message_sent (forgets key) row at number)
       (λ new same. inl (trip, has_trip world key trip open_trip, subst (Continues trip) (same_some same) (released_goes_on trip edges))))))
 
   pub advances_trip : (at : ℕ) (key : VehicleKey) (order : List ℕ) (update edges : ℕ) → IfMade P (advance world at key order update edges)
   advances_trip at key order update edges =
-      made_found P _ _ _ (λ row there. made_found P _ _ _ (λ trip is_trip. made_require P _ _ _ (λ a. made_require P _ _ _ (λ b. made_require P _ _ _ (λ c. made_require P _ _ _ (λ d.
+      made_refuse_if_none P _ _ _ (λ row there. made_refuse_if_none P _ _ _ (λ trip is_trip. made_refuse_unless P _ _ _ (λ a.
+      made_refuse_unless P _ _ _ (λ b. made_refuse_unless P _ _ _ (λ c. made_refuse_unless P _ _ _ (λ d.
       sends_update at key row trip update edges there (trip_is (trip_of world key) order trip is_trip)))))))

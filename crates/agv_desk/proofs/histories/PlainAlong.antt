@@ -24,7 +24,7 @@ use Rattle.agv_desk.specs.StocktakeSteps.{Row, count_move, new_places, take_stoc
 use Rattle.agv_desk.specs.VehicleSteps.{register_vehicle, place_vehicle, resync}
 use Rattle.agv_desk.proofs.histories.GoingAlong.{ActsOnce, GoesAlong, RowGoesOn, RowsGoOn, TripGoesOn, TripsGoOn}
 use Rattle.agv_desk.proofs.outcomes.Known.{none_some, same_some}
-use Rattle.agv_desk.proofs.outcomes.Ladders.{IfMade, made_require, made_found, made_checked, made_unheld}
+use Rattle.agv_desk.proofs.outcomes.Ladders.{IfMade, made_refuse_unless, made_refuse_if_none, made_checked, made_unheld}
 use Rattle.agv_desk.proofs.row_changes.Steps.{missing}
 
 -- ---- no act is carried out
@@ -96,47 +96,48 @@ module _ (world : World) (forgets : VehicleKey → Type 0) where
 
   -- ---- loads and jobs
   pub registers_load : (load : List ℕ) (station : Option (List ℕ)) → IfMade P (register_load world load station)
-  registers_load load station = made_checked P _ _ (made_require P _ _ _ (λ few. touches_none _ refl (λ kind order job. refl)))
+  registers_load load station = made_checked P _ _ (made_refuse_unless P _ _ _ (λ few. touches_none _ refl (λ kind order job. refl)))
 
   pub corrects_load : (load reference : List ℕ) (station : Option (List ℕ)) → IfMade P (correct_load world load reference station)
   corrects_load load reference station =
-      made_require P _ _ _ (λ new. made_checked P _ _ (made_require P _ _ _ (λ few. touches_none _ refl (λ kind order job. refl))))
+      made_refuse_unless P _ _ _ (λ new. made_checked P _ _ (made_refuse_unless P _ _ _ (λ few. touches_none _ refl (λ kind order job. refl))))
 
   pub lets_load_leave : (load reference : List ℕ) → IfMade P (leave_load world load reference)
   lets_load_leave load reference =
-      made_require P _ _ _ (λ new. made_checked P _ _ (made_require P _ _ _ (λ few. touches_none _ refl (λ kind order job. refl))))
+      made_refuse_unless P _ _ _ (λ new. made_checked P _ _ (made_refuse_unless P _ _ _ (λ few. touches_none _ refl (λ kind order job. refl))))
 
   pub adds_job : (job load to : List ℕ) → IfMade P (add_job world job load to)
-  adds_job job load to = made_checked P _ _ (made_found P _ _ _ (λ origin is. made_require P _ _ _ (λ few. touches_none _ refl (λ kind order of. refl))))
+  adds_job job load to = made_checked P _ _ (made_refuse_if_none P _ _ _ (λ origin is. made_refuse_unless P _ _ _ (λ few. touches_none _ refl (λ kind order of. refl))))
 
   pub stops_job : (job : List ℕ) → IfMade P (stop_job world job)
-  stops_job job = made_found P _ _ _ (λ row is. made_require P _ _ _ (λ waits. touches_none _ refl (λ kind order of. refl)))
+  stops_job job = made_refuse_if_none P _ _ _ (λ row is. made_refuse_unless P _ _ _ (λ waits. touches_none _ refl (λ kind order of. refl)))
 
   pub takes_stock : (reference : List ℕ) (rows : List Row) → IfMade P (take_stock world reference rows)
   takes_stock reference rows =
-      made_require P _ _ _ (λ a. made_require P _ _ _ (λ b. made_require P _ _ _ (λ c. made_require P _ _ _ (λ d. made_require P _ _ _ (λ e. made_require P _ _ _ (λ f. made_require P _ _ _ (λ g.
+      made_refuse_unless P _ _ _ (λ a. made_refuse_unless P _ _ _ (λ b. made_refuse_unless P _ _ _ (λ c.
+      made_refuse_unless P _ _ _ (λ d. made_refuse_unless P _ _ _ (λ e. made_refuse_unless P _ _ _ (λ f. made_refuse_unless P _ _ _ (λ g.
       touches_none _ refl (λ kind order job. counted_times kind order job (new_places world rows)))))))))
 
   pub sets_layout : (rows : List LayoutRow) → IfMade P (set_layout world rows)
-  sets_layout rows = made_require P _ _ _ (λ unset. made_laid P _ _ (λ layout. touches_none _ refl (λ kind order job. refl)))
+  sets_layout rows = made_refuse_unless P _ _ _ (λ unset. made_laid P _ _ (λ layout. touches_none _ refl (λ kind order job. refl)))
 
   -- ---- what is only told
   pub tells_order : (key : VehicleKey) → IfMade P (get_order world key)
-  tells_order key = made_found P _ _ _ (λ row is. touches_none _ refl (λ kind order job. refl))
+  tells_order key = made_refuse_if_none P _ _ _ (λ row is. touches_none _ refl (λ kind order job. refl))
 
   pub tells_instant : (key : VehicleKey) → IfMade P (get_instant world key)
-  tells_instant key = made_found P _ _ _ (λ row is. touches_none _ refl (λ kind order job. refl))
+  tells_instant key = made_refuse_if_none P _ _ _ (λ row is. touches_none _ refl (λ kind order job. refl))
 
   pub tells_load : (load : List ℕ) → IfMade P (get_load world load)
-  tells_load load = made_found P _ _ _ (λ place is. touches_none _ refl (λ kind order job. refl))
+  tells_load load = made_refuse_if_none P _ _ _ (λ place is. touches_none _ refl (λ kind order job. refl))
 
   pub tells_vehicle : (key : VehicleKey) → IfMade P (get_vehicle world key)
-  tells_vehicle key = made_found P _ _ _ (λ row is. touches_none _ refl (λ kind order job. refl))
+  tells_vehicle key = made_refuse_if_none P _ _ _ (λ row is. touches_none _ refl (λ kind order job. refl))
 
   -- ---- the row of a vehicle
   instructs : (at : ℕ) (key : VehicleKey) (row : VehicleRow) (kind : InstantKind) → row_of world key ≡ Some row → IfMade P (instruct at key row kind)
   instructs at key row kind there =
-      made_require P _ _ _ (λ free. made_found P _ _ _ (λ number next.
+      made_refuse_unless P _ _ _ (λ free. made_refuse_if_none P _ _ _ (λ number next.
       let more : row.instants.count < number = next_greater row.instants number next in
       notes_row _ key row _ refl (λ kind order job. refl) there (record {
         count = omega (arith, more);
@@ -145,17 +146,17 @@ module _ (world : World) (forgets : VehicleKey → Type 0) where
       })))
 
   pub cancels : (at : ℕ) (key : VehicleKey) → IfMade P (cancel world at key)
-  cancels at key = made_found P _ _ _ (λ row there. made_require P _ _ _ (λ has. instructs at key row _ there))
+  cancels at key = made_refuse_if_none P _ _ _ (λ row there. made_refuse_unless P _ _ _ (λ has. instructs at key row _ there))
 
   pub pauses : (at : ℕ) (key : VehicleKey) → IfMade P (pause world at key)
-  pauses at key = made_found P _ _ _ (λ row there. instructs at key row _ there)
+  pauses at key = made_refuse_if_none P _ _ _ (λ row there. instructs at key row _ there)
 
   pub resumes : (at : ℕ) (key : VehicleKey) → IfMade P (resume world at key)
-  resumes at key = made_found P _ _ _ (λ row there. instructs at key row _ there)
+  resumes at key = made_refuse_if_none P _ _ _ (λ row there. instructs at key row _ there)
 
   -- the number of the last state is forgotten
   pub begins_anew : (key : VehicleKey) → forgets key → IfMade P (resync world key)
-  begins_anew key forgotten = made_found P _ _ _ (λ row there.
+  begins_anew key forgotten = made_refuse_if_none P _ _ _ (λ row there.
       notes_row _ key row _ refl (λ kind order job. refl) there (record {
         count = omega arith;
         pending = λ same kind is. is;
@@ -165,12 +166,13 @@ module _ (world : World) (forgets : VehicleKey → Type 0) where
   -- ---- a vehicle that stands without a trip
   pub registers_vehicle : (seats : ℕ) (key : VehicleKey) (node : List ℕ) (capacity : ℕ) → IfMade P (register_vehicle seats world key node capacity)
   registers_vehicle seats key node capacity =
-      made_require P _ _ _ (λ free. made_require P _ _ _ (λ known_node. made_unheld P _ _ (λ opened. made_require P _ _ _ (λ few.
+      made_refuse_unless P _ _ _ (λ free. made_refuse_unless P _ _ _ (λ known_node. made_unheld P _ _ (λ opened. made_refuse_unless P _ _ _ (λ few.
       puts_unknown _ key _ _ refl (λ kind order job. refl) (missing _ free) refl))))
 
   pub places_vehicle : (key : VehicleKey) (reference node : List ℕ) → IfMade P (place_vehicle world key reference node)
   places_vehicle key reference node =
-      made_require P _ _ _ (λ new_reference. made_found P _ _ _ (λ row there. made_require P _ _ _ (λ known_node. made_unheld P _ _ (λ opened. made_require P _ _ _ (λ few.
+      made_refuse_unless P _ _ _ (λ new_reference. made_refuse_if_none P _ _ _ (λ row there.
+      made_refuse_unless P _ _ _ (λ known_node. made_unheld P _ _ (λ opened. made_refuse_unless P _ _ _ (λ few.
       puts_known _ key _ _ row refl (record { once = λ kind order job. inl refl }) there
       (record { count = omega arith; pending = λ same kind is. none_some is; header = λ last is. inl (last, is, omega arith) })
       (λ trip same. none_some same))))))

@@ -36,7 +36,7 @@ use Rattle.agv_desk.proofs.row_changes.Given.{AdvancesTrips}
 use Rattle.agv_desk.proofs.histories.AcceptedSince.{IsAsTold, IsAccepted, IsInstructedSince, IsTold}
 use Rattle.agv_desk.proofs.histories.JudgedStates.{IsJudged, acts_are, judged_so, still_open}
 use Rattle.agv_desk.proofs.outcomes.Known.{has_trip, known, same_some, vehicle_with}
-use Rattle.agv_desk.proofs.outcomes.Ladders.{IfMade, made_require, made_found, made_judged}
+use Rattle.agv_desk.proofs.outcomes.Ladders.{IfMade, made_refuse_unless, made_refuse_if_none, made_judged}
 use Rattle.agv_desk.proofs.histories.QuietActs.{AreAsTold, none_anew, were_over}
 use Rattle.agv_desk.proofs.histories.SameHolds.{HoldsAreFootprints, same_holds}
 use Rattle.agv_desk.proofs.lists.SameNames.{same_name}
@@ -73,7 +73,8 @@ pub record ChangesNothing (world : World) (effect : Effect) : Type 0 where
 
 pub unchanged_old : (world : World) (key : VehicleKey) (state : StateMessage) (number : ℕ) → state.header_id ≤ number → IsAccepted key number world → IfMade (ChangesNothing world) (take_state world key state)
 unchanged_old world key state number less is_accepted =
-    made_found (ChangesNothing world) _ _ _ (λ row there. made_either (ChangesNothing world) _ _ _ (λ fresh. absurd (not_fresh world key state number row less is_accepted there fresh))
+    made_refuse_if_none (ChangesNothing world) _ _ _ (λ row there.
+    made_either (ChangesNothing world) _ _ _ (λ fresh. absurd (not_fresh world key state number row less is_accepted there fresh))
     (λ old. record { same = refl }))
 
 pub world_unchanged : (world : World) (outcome : Outcome) → IfMade (ChangesNothing world) outcome → after world outcome ≡ world
@@ -166,7 +167,7 @@ module _ (advances : AdvancesTrips) (footprints : HoldsAreFootprints) (seats : �
     -- a state that is not fresh moves nothing
     pub quiet_old : (number : ℕ) → state.header_id ≤ number → IsAccepted key number world → IfMade P (take_state world key state)
     quiet_old number less is_accepted =
-        made_found P _ _ _ (λ row there. made_either P _ _ _ (λ fresh. absurd (not_fresh world key state number row less is_accepted there fresh))
+        made_refuse_if_none P _ _ _ (λ row there. made_either P _ _ _ (λ fresh. absurd (not_fresh world key state number row less is_accepted there fresh))
         (λ old. quiet_nothing world exception _ refl refl))
 
   -- ---- a state that was judged against a trip before
@@ -234,11 +235,11 @@ module _ (advances : AdvancesTrips) (footprints : HoldsAreFootprints) (seats : �
     quiet_fresh row there None same = quiet_idle Cancels row there
     quiet_fresh row there (Some trip) same =
         made_either (IsQuiet world Cancels) _ _ _ (λ ours. quiet_trip row trip there same (same_name trip.order state.order_id ours ∙ sym named))
-        (λ apart. made_require (IsQuiet world Cancels) _ _ _ (λ unconfirmed. quiet_idle Cancels row there))
+        (λ apart. made_refuse_unless (IsQuiet world Cancels) _ _ _ (λ unconfirmed. quiet_idle Cancels row there))
 
     pub quiet_again : IfMade (IsQuiet world Cancels) (take_state world key state)
     quiet_again =
-        made_found (IsQuiet world Cancels) _ _ _ (λ row there. made_either (IsQuiet world Cancels) _ _ _ (λ fresh. quiet_fresh row there (trip_of world key) refl)
+        made_refuse_if_none (IsQuiet world Cancels) _ _ _ (λ row there. made_either (IsQuiet world Cancels) _ _ _ (λ fresh. quiet_fresh row there (trip_of world key) refl)
         (λ old. quiet_nothing world Cancels _ refl refl))
 
 -- ---- of the world after the message

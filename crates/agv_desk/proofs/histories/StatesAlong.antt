@@ -27,7 +27,7 @@ use Rattle.agv_desk.proofs.row_changes.Given.{AdvancesTrips}
 use Rattle.agv_desk.proofs.histories.GoingAlong.{ActsOnce, GoesAlong, IsSpent, RowGoesOn}
 use Rattle.agv_desk.proofs.outcomes.Keeping.{Continues}
 use Rattle.agv_desk.proofs.outcomes.Known.{has_trip, none_some, same_some}
-use Rattle.agv_desk.proofs.outcomes.Ladders.{IfMade, made_require, made_found, made_judged}
+use Rattle.agv_desk.proofs.outcomes.Ladders.{IfMade, made_refuse_unless, made_refuse_if_none, made_judged}
 use Rattle.agv_desk.proofs.histories.PlainAlong.{notes_row, puts_known, touches_none}
 use Rattle.agv_desk.proofs.histories.TripLeft.{FitsAsSaid, left_is, one_act_each, only_trip, progress_continues, renewed_act, trip_few, trip_lawful, trip_under_way, zipped_act}
 
@@ -125,9 +125,9 @@ module _ (advances : AdvancesTrips) (fits : FitsAsSaid) (seats : ℕ) (world : W
       → (trip : Option Trip) → trip_of world key ≡ trip → IfMade P (fresh_state world key row trip state)
   takes_fresh key row state there fresh None same = takes_idle key row state there fresh
   takes_fresh key row state there fresh (Some trip) same =
-      made_either P _ _ _ (λ ours. goes_on_trip key row trip state there same fresh) (λ other. made_require P _ _ _ (λ unconfirmed. takes_idle key row state there fresh))
+      made_either P _ _ _ (λ ours. goes_on_trip key row trip state there same fresh) (λ other. made_refuse_unless P _ _ _ (λ unconfirmed. takes_idle key row state there fresh))
 
   pub takes_state : (key : VehicleKey) (state : StateMessage) → IfMade P (take_state world key state)
   takes_state key state =
-      made_found P _ _ _ (λ row there. made_either P _ _ _ (λ fresh. takes_fresh key row state there fresh (trip_of world key) refl)
+      made_refuse_if_none P _ _ _ (λ row there. made_either P _ _ _ (λ fresh. takes_fresh key row state there fresh (trip_of world key) refl)
       (λ old. touches_none world forgets _ refl (λ kind order job. refl)))

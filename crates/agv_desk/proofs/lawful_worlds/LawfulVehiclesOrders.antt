@@ -33,7 +33,7 @@ use Rattle.agv_desk.specs.WellTyped.{IsMoment, IsSeats}
 use Rattle.agv_desk.proofs.row_changes.Given.{Given}
 use Rattle.agv_desk.proofs.outcomes.Keeping.{KeepsVehicles}
 use Rattle.agv_desk.proofs.outcomes.Known.{same_some, vehicle_with, known}
-use Rattle.agv_desk.proofs.outcomes.Ladders.{IfMade, made_require, made_found, made_unheld}
+use Rattle.agv_desk.proofs.outcomes.Ladders.{IfMade, made_refuse_unless, made_refuse_if_none, made_unheld}
 use Rattle.agv_desk.proofs.lawful_worlds.LawfulVehiclesGiven.{GivenMore}
 use Rattle.agv_desk.proofs.lawful_worlds.LawfulVehiclesRows.{ordered_row, some_sent}
 use Rattle.agv_desk.proofs.lawful_worlds.LawfulVehiclesTrips.{planned_picks}
@@ -108,7 +108,7 @@ module _ (given : Given) (more : GivenMore) (seats : ℕ) (world : World) (lawfu
       → trip.order ≡ asked.order → MayBeSent world.layout asked.key row trip
       → IfMade P (send_trip world asked row jobs trip)
   sends_trip asked row jobs trip moment named unused there idle of_order may =
-      made_unheld P _ _ (λ opened. made_found P _ _ _ (λ number next. made_require P _ _ _ (λ few.
+      made_unheld P _ _ (λ opened. made_refuse_if_none P _ _ _ (λ number next. made_refuse_unless P _ _ _ (λ few.
       let old = vehicle_with row None in
       let new = sent_on row asked.at number (Some trip) in
       let is : IsVehicle world asked.key old = known world asked.key row there ∙ ap (λ trip. Some (vehicle_with row trip)) idle in
@@ -131,7 +131,7 @@ module _ (given : Given) (more : GivenMore) (seats : ℕ) (world : World) (lawfu
       → stops_fit asked.stops ≡ true → length asked.stops ≤ 8 → count_by stop_picks asked.stops ≤ row.capacity → row.rest ≡ None
       → IfMade P (send_order world asked row jobs)
   sends_order asked row jobs moment named unused there idle fit few picks_fit no_rest =
-      made_found P _ _ _ (λ layout is_set. made_planned P _ _ (λ trip is_plan.
+      made_refuse_if_none P _ _ _ (λ layout is_set. made_planned P _ _ (λ trip is_plan.
       let keeps = keeps_rules seats world lawful asked.key (vehicle_with row (trip_of world asked.key)) (known world asked.key row there) in
       let plan = subst (λ layout. planned layout asked.key jobs asked.stops asked.order row.node asked.edges ≡ Ok trip) (layout_is layout keeps is_set) is_plan in
       sends_trip asked row jobs trip moment named unused there idle (plan_of_order layout asked.key jobs asked.stops asked.order row.node asked.edges trip is_plan)
@@ -141,7 +141,8 @@ module _ (given : Given) (more : GivenMore) (seats : ℕ) (world : World) (lawfu
       → IsSeats seats → IsMoment asked.at → IsName asked.order → is_used world used.Order asked.order ≡ false → row_of world asked.key ≡ Some row → stops_fit asked.stops ≡ true
       → IfMade P (take_order world asked row jobs)
   takes_order asked row jobs is_seats moment named unused there fit =
-      made_require P _ _ _ (λ a. made_require P _ _ _ (λ b. made_require P _ _ _ (λ idle. made_require P _ _ _ (λ astray. made_require P _ _ _ (λ within_capacity. made_require P _ _ _ (λ e. made_require P _ _ _ (λ f.
+      made_refuse_unless P _ _ _ (λ a. made_refuse_unless P _ _ _ (λ b. made_refuse_unless P _ _ _ (λ idle. made_refuse_unless P _ _ _ (λ astray.
+      made_refuse_unless P _ _ _ (λ within_capacity. made_refuse_unless P _ _ _ (λ e. made_refuse_unless P _ _ _ (λ f.
       let fits = leb-true (loads_on world asked.key + count_by stop_picks asked.stops) row.capacity within_capacity in
       let places = (lawful.vehicles asked.key (vehicle_with row (trip_of world asked.key)) (known world asked.key row there)).seated in
       let few = few_stops asked.stops (loads_on world asked.key) row.capacity seats (more.twice asked.stops fit) fits places is_seats.1 in
@@ -149,7 +150,7 @@ module _ (given : Given) (more : GivenMore) (seats : ℕ) (world : World) (lawfu
 
   pub starts_order : (asked : AskedOrder) → IsSeats seats → IsMoment asked.at → IsName asked.order → IfMade P (start_order world asked)
   starts_order asked is_seats moment named =
-      made_require P _ _ _ (λ unused. made_found P _ _ _ (λ row there. made_require P _ _ _ (λ fit. made_found P _ _ _ (λ jobs are.
+      made_refuse_unless P _ _ _ (λ unused. made_refuse_if_none P _ _ _ (λ row there. made_refuse_unless P _ _ _ (λ fit. made_refuse_if_none P _ _ _ (λ jobs are.
       takes_order asked row jobs is_seats moment named (not_true _ unused) there fit))))
 
   -- ---- an update
@@ -157,7 +158,7 @@ module _ (given : Given) (more : GivenMore) (seats : ℕ) (world : World) (lawfu
   sends_update : (at : ℕ) (key : VehicleKey) (row : VehicleRow) (trip : Trip) (update edges : ℕ) → IsMoment at → row_of world key ≡ Some row → trip_of world key ≡ Some trip → trip.confirmed ≡ Some trip.sent
       → IfMade P (send_update world at key row trip update edges)
   sends_update at key row trip update edges moment there same confirmed =
-      made_require P _ _ _ (λ can. made_unheld P _ _ (λ opened. made_found P _ _ _ (λ number next.
+      made_refuse_unless P _ _ _ (λ can. made_unheld P _ _ (λ opened. made_refuse_if_none P _ _ _ (λ number next.
       let further = released trip edges in
       let old = vehicle_with row (Some trip) in
       let new = sent_on row at number (Some further) in
@@ -184,5 +185,6 @@ module _ (given : Given) (more : GivenMore) (seats : ℕ) (world : World) (lawfu
 
   pub advances_trip : (at : ℕ) (key : VehicleKey) (order : List ℕ) (update edges : ℕ) → IsMoment at → IfMade P (advance world at key order update edges)
   advances_trip at key order update edges moment =
-      made_found P _ _ _ (λ row there. made_found P _ _ _ (λ trip found. made_require P _ _ _ (λ a. made_require P _ _ _ (λ confirmed. made_require P _ _ _ (λ c. made_require P _ _ _ (λ d.
+      made_refuse_if_none P _ _ _ (λ row there. made_refuse_if_none P _ _ _ (λ trip found. made_refuse_unless P _ _ _ (λ a.
+      made_refuse_unless P _ _ _ (λ confirmed. made_refuse_unless P _ _ _ (λ c. made_refuse_unless P _ _ _ (λ d.
       sends_update at key row trip update edges moment there (trip_is given world (is_in_order seats world lawful) (trip_of world key) order trip found) (confirmed_is trip.confirmed trip.sent confirmed)))))))

@@ -32,7 +32,7 @@ use Rattle.agv_desk.specs.WellTyped.{IsMoment}
 use Rattle.agv_desk.proofs.row_changes.Given.{Given}
 use Rattle.agv_desk.proofs.outcomes.Keeping.{KeepsVehicles}
 use Rattle.agv_desk.proofs.outcomes.Known.{none_some, vehicle_with, known, unknown}
-use Rattle.agv_desk.proofs.outcomes.Ladders.{IfMade, made_require, made_found, made_checked, made_unheld, made_judged}
+use Rattle.agv_desk.proofs.outcomes.Ladders.{IfMade, made_refuse_unless, made_refuse_if_none, made_checked, made_unheld, made_judged}
 use Rattle.agv_desk.proofs.lawful_worlds.LawfulVehiclesGiven.{GivenMore}
 use Rattle.agv_desk.proofs.lawful_worlds.LawfulVehiclesRows.{forgotten_row, accepted_row, instructed_row, new_row, placed_row, same_trip}
 use Rattle.agv_desk.proofs.lawful_worlds.LawfulVehiclesWritten.{as_many_vehicles, is_in_order, lays, moves_loads, one_more_vehicle, uses_reference, writes}
@@ -56,47 +56,48 @@ module _ (given : Given) (more : GivenMore) (seats : ℕ) (world : World) (lawfu
   -- ---- the layout
   pub sets_layout : (rows : List LayoutRow) → AreNamed rows → IfMade P (set_layout world rows)
   sets_layout rows named =
-      made_require P _ _ _ (λ unset. made_given P _ _ (λ layout read.
+      made_refuse_unless P _ _ _ (λ unset. made_given P _ _ (λ layout read.
       record { vehicles = lays seats world lawful layout (is_empty given world (is_in_order seats world lawful) (missing _ unset) lawful.laid) (more.rules rows layout named read) }))
 
   -- ---- loads and jobs
   pub registers_load : (load : List ℕ) (station : Option (List ℕ)) → IfMade P (register_load world load station)
-  registers_load load station = made_checked P _ _ (made_require P _ _ _ (λ few. record { vehicles = moves_loads seats world lawful _ _ }))
+  registers_load load station = made_checked P _ _ (made_refuse_unless P _ _ _ (λ few. record { vehicles = moves_loads seats world lawful _ _ }))
 
   pub corrects_load : (load reference : List ℕ) (station : Option (List ℕ)) → IsName reference → IfMade P (correct_load world load reference station)
   corrects_load load reference station named =
-      made_require P _ _ _ (λ new. made_checked P _ _ (made_require P _ _ _ (λ few.
+      made_refuse_unless P _ _ _ (λ new. made_checked P _ _ (made_refuse_unless P _ _ _ (λ few.
       record { vehicles = uses_reference seats world lawful _ _ reference (few_references world few) named })))
 
   pub lets_load_leave : (load reference : List ℕ) → IsName reference → IfMade P (leave_load world load reference)
   lets_load_leave load reference named =
-      made_require P _ _ _ (λ new. made_checked P _ _ (made_require P _ _ _ (λ few.
+      made_refuse_unless P _ _ _ (λ new. made_checked P _ _ (made_refuse_unless P _ _ _ (λ few.
       record { vehicles = uses_reference seats world lawful _ _ reference (few_references world few) named })))
 
   pub adds_job : (job load to : List ℕ) → IfMade P (add_job world job load to)
   adds_job job load to =
-      made_checked P _ _ (made_found P _ _ _ (λ origin is. made_require P _ _ _ (λ few. record { vehicles = moves_loads seats world lawful _ _ })))
+      made_checked P _ _ (made_refuse_if_none P _ _ _ (λ origin is. made_refuse_unless P _ _ _ (λ few. record { vehicles = moves_loads seats world lawful _ _ })))
 
   pub stops_job : (job : List ℕ) → IfMade P (stop_job world job)
-  stops_job job = made_found P _ _ _ (λ row is. made_require P _ _ _ (λ waits. record { vehicles = moves_loads seats world lawful _ _ }))
+  stops_job job = made_refuse_if_none P _ _ _ (λ row is. made_refuse_unless P _ _ _ (λ waits. record { vehicles = moves_loads seats world lawful _ _ }))
 
   pub takes_stock : (reference : List ℕ) (rows : List Row) → IsName reference → IfMade P (take_stock world reference rows)
   takes_stock reference rows named =
-      made_require P _ _ _ (λ a. made_require P _ _ _ (λ b. made_require P _ _ _ (λ c. made_require P _ _ _ (λ d. made_require P _ _ _ (λ e. made_require P _ _ _ (λ f. made_require P _ _ _ (λ few.
+      made_refuse_unless P _ _ _ (λ a. made_refuse_unless P _ _ _ (λ b. made_refuse_unless P _ _ _ (λ c. made_refuse_unless P _ _ _ (λ d.
+      made_refuse_unless P _ _ _ (λ e. made_refuse_unless P _ _ _ (λ f. made_refuse_unless P _ _ _ (λ few.
       record { vehicles = uses_reference seats world lawful _ _ reference (few_references world few) named })))))))
 
   -- ---- what is only told
   pub tells_order : (key : VehicleKey) → IfMade P (get_order world key)
-  tells_order key = made_found P _ _ _ (λ row is. record { vehicles = lawful })
+  tells_order key = made_refuse_if_none P _ _ _ (λ row is. record { vehicles = lawful })
 
   pub tells_instant : (key : VehicleKey) → IfMade P (get_instant world key)
-  tells_instant key = made_found P _ _ _ (λ row is. record { vehicles = lawful })
+  tells_instant key = made_refuse_if_none P _ _ _ (λ row is. record { vehicles = lawful })
 
   pub tells_load : (load : List ℕ) → IfMade P (get_load world load)
-  tells_load load = made_found P _ _ _ (λ place is. record { vehicles = lawful })
+  tells_load load = made_refuse_if_none P _ _ _ (λ place is. record { vehicles = lawful })
 
   pub tells_vehicle : (key : VehicleKey) → IfMade P (get_vehicle world key)
-  tells_vehicle key = made_found P _ _ _ (λ row is. record { vehicles = lawful })
+  tells_vehicle key = made_refuse_if_none P _ _ _ (λ row is. record { vehicles = lawful })
 
   -- ---- the row of a vehicle that stands as before
   notes : (key : VehicleKey) (row new : VehicleRow) → row_of world key ≡ Some row → new.capacity ≡ row.capacity → new.orders ≡ row.orders → new.node ≡ row.node → new.rest ≡ row.rest
@@ -117,20 +118,20 @@ module _ (given : Given) (more : GivenMore) (seats : ℕ) (world : World) (lawfu
 
   pub instructs : (at : ℕ) (key : VehicleKey) (row : VehicleRow) (kind : InstantKind) → IsMoment at → row_of world key ≡ Some row → IfMade P (instruct at key row kind)
   instructs at key row kind moment there =
-      made_require P _ _ _ (λ free. made_found P _ _ _ (λ number next.
+      made_refuse_unless P _ _ _ (λ free. made_refuse_if_none P _ _ _ (λ number next.
       record { vehicles = notes key row _ there refl refl refl refl (λ vehicle. instructed_row seats world.layout row vehicle number at kind next moment) }))
 
   pub cancels : (at : ℕ) (key : VehicleKey) → IsMoment at → IfMade P (cancel world at key)
-  cancels at key moment = made_found P _ _ _ (λ row there. made_require P _ _ _ (λ has. instructs at key row _ moment there))
+  cancels at key moment = made_refuse_if_none P _ _ _ (λ row there. made_refuse_unless P _ _ _ (λ has. instructs at key row _ moment there))
 
   pub pauses : (at : ℕ) (key : VehicleKey) → IsMoment at → IfMade P (pause world at key)
-  pauses at key moment = made_found P _ _ _ (λ row there. instructs at key row _ moment there)
+  pauses at key moment = made_refuse_if_none P _ _ _ (λ row there. instructs at key row _ moment there)
 
   pub resumes : (at : ℕ) (key : VehicleKey) → IsMoment at → IfMade P (resume world at key)
-  resumes at key moment = made_found P _ _ _ (λ row there. instructs at key row _ moment there)
+  resumes at key moment = made_refuse_if_none P _ _ _ (λ row there. instructs at key row _ moment there)
 
   pub begins_anew : (key : VehicleKey) → IfMade P (resync world key)
-  begins_anew key = made_found P _ _ _ (λ row there. record { vehicles = notes key row _ there refl refl refl refl (λ vehicle. forgotten_row seats world.layout row vehicle) })
+  begins_anew key = made_refuse_if_none P _ _ _ (λ row there. record { vehicles = notes key row _ there refl refl refl refl (λ vehicle. forgotten_row seats world.layout row vehicle) })
 
   pub takes_idle : (key : VehicleKey) (row : VehicleRow) (state : StateMessage) → state.header_id ≤ 4294967295 → row_of world key ≡ Some row → IfMade P (idle_state key row state)
   takes_idle key row state numbered there =
@@ -140,7 +141,7 @@ module _ (given : Given) (more : GivenMore) (seats : ℕ) (world : World) (lawfu
   pub registers_vehicle : (key : VehicleKey) (node : List ℕ) (capacity : ℕ) → IsKey key → IfMade P (register_vehicle seats world key node capacity)
   unfolding footprint_of
   registers_vehicle key node capacity named =
-      made_require P _ _ _ (λ free. made_require P _ _ _ (λ known_node. made_unheld P _ _ (λ opened. made_require P _ _ _ (λ limits.
+      made_refuse_unless P _ _ _ (λ free. made_refuse_unless P _ _ _ (λ known_node. made_unheld P _ _ (λ opened. made_refuse_unless P _ _ _ (λ limits.
       let new = new_vehicle capacity node in
       let each = and_parts _ _ limits in
       record {
@@ -157,7 +158,8 @@ module _ (given : Given) (more : GivenMore) (seats : ℕ) (world : World) (lawfu
   pub places_vehicle : (key : VehicleKey) (reference node : List ℕ) → IsName reference → IfMade P (place_vehicle world key reference node)
   unfolding footprint_of
   places_vehicle key reference node named =
-      made_require P _ _ _ (λ new_reference. made_found P _ _ _ (λ row there. made_require P _ _ _ (λ known_node. made_unheld P _ _ (λ opened. made_require P _ _ _ (λ few.
+      made_refuse_unless P _ _ _ (λ new_reference. made_refuse_if_none P _ _ _ (λ row there.
+      made_refuse_unless P _ _ _ (λ known_node. made_unheld P _ _ (λ opened. made_refuse_unless P _ _ _ (λ few.
       let old = vehicle_with row (trip_of world key) in
       let new = placed row node in
       let is : IsVehicle world key old = known world key row there in

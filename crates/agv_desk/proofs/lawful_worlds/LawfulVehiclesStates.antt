@@ -24,7 +24,7 @@ use Rattle.agv_desk.specs.StateSteps.{pending_of, with_state, row_after, trip_st
 use Rattle.agv_desk.proofs.row_changes.Given.{Given}
 use Rattle.agv_desk.proofs.outcomes.Keeping.{KeepsVehicles}
 use Rattle.agv_desk.proofs.outcomes.Known.{none_some, same_some, vehicle_with, known}
-use Rattle.agv_desk.proofs.outcomes.Ladders.{IfMade, made_require, made_found, made_branch, made_judged}
+use Rattle.agv_desk.proofs.outcomes.Ladders.{IfMade, made_refuse_unless, made_refuse_if_none, made_branch, made_judged}
 use Rattle.agv_desk.proofs.lawful_worlds.LawfulVehiclesGiven.{GivenMore}
 use Rattle.agv_desk.proofs.lawful_worlds.LawfulVehiclesPlain.{takes_idle}
 use Rattle.agv_desk.proofs.lawful_worlds.LawfulVehiclesRows.{accepted_row, moved_row}
@@ -119,8 +119,9 @@ module _ (given : Given) (more : GivenMore) (seats : ℕ) (world : World) (lawfu
   pub takes_fresh : (key : VehicleKey) (row : VehicleRow) (state : StateMessage) → state.header_id ≤ 4294967295 → row_of world key ≡ Some row → (trip : Option Trip) → trip_of world key ≡ trip → IfMade P (fresh_state world key row trip state)
   takes_fresh key row state numbered there None same = takes_idle given more seats world lawful key row state numbered there
   takes_fresh key row state numbered there (Some trip) same =
-      made_branch P _ _ _ (goes_on_trip key row trip state numbered there same) (made_require P _ _ _ (λ fresh. takes_idle given more seats world lawful key row state numbered there))
+      made_branch P _ _ _ (goes_on_trip key row trip state numbered there same)
+      (made_refuse_unless P _ _ _ (λ fresh. takes_idle given more seats world lawful key row state numbered there))
 
   pub takes_state : (key : VehicleKey) (state : StateMessage) → state.header_id ≤ 4294967295 → IfMade P (take_state world key state)
   takes_state key state numbered =
-      made_found P _ _ _ (λ row there. made_branch P _ _ _ (takes_fresh key row state numbered there (trip_of world key) refl) (record { vehicles = lawful }))
+      made_refuse_if_none P _ _ _ (λ row there. made_branch P _ _ _ (takes_fresh key row state numbered there (trip_of world key) refl) (record { vehicles = lawful }))

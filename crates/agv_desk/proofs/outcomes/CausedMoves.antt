@@ -26,7 +26,7 @@ use Rattle.agv_desk.specs.VehicleSteps.{register_vehicle, place_vehicle}
 use Rattle.agv_desk.specs.declared.call.Call.{Call}
 use Rattle.agv_desk.specs.declared.call.Call.TheVariants as call
 use Rattle.agv_desk.proofs.outcomes.Known.{none_some, same_some}
-use Rattle.agv_desk.proofs.outcomes.Ladders.{IfMade, made_require, made_found, made_checked, made_unheld, made_branch, made_judged}
+use Rattle.agv_desk.proofs.outcomes.Ladders.{IfMade, made_refuse_unless, made_refuse_if_none, made_checked, made_unheld, made_branch, made_judged}
 
 -- the call is answered with no refusal, and moves loads for its own cause
 pub record IsCaused (made : Call) (effect : Effect) : Type 0 where
@@ -80,27 +80,30 @@ module _ (world : World) (made : Call) where
   P = IsCaused made
 
   instructs : (at : ℕ) (key : VehicleKey) (row : VehicleRow) (kind : InstantKind) → IfMade P (instruct at key row kind)
-  instructs at key row kind = made_require P _ _ _ (λ a. made_found P _ _ _ (λ number b. record { answered = refl; caused = refl }))
+  instructs at key row kind = made_refuse_unless P _ _ _ (λ a. made_refuse_if_none P _ _ _ (λ number b. record { answered = refl; caused = refl }))
 
   starts : (asked : AskedOrder) → IfMade P (start_order world asked)
   starts asked =
-      made_require P _ _ _ (λ a. made_found P _ _ _ (λ row b. made_require P _ _ _ (λ c. made_found P _ _ _ (λ jobs d.
-      made_require P _ _ _ (λ e. made_require P _ _ _ (λ f. made_require P _ _ _ (λ g. made_require P _ _ _ (λ h. made_require P _ _ _ (λ i. made_require P _ _ _ (λ j. made_require P _ _ _ (λ k.
-      made_found P _ _ _ (λ layout l. made_by_plan P _ _ (λ trip.
-      made_unheld P _ _ (λ m. made_found P _ _ _ (λ number n. made_require P _ _ _ (λ o. record { answered = refl; caused = refl }))))))))))))))))
+      made_refuse_unless P _ _ _ (λ a. made_refuse_if_none P _ _ _ (λ row b. made_refuse_unless P _ _ _ (λ c. made_refuse_if_none P _ _ _ (λ jobs d.
+      made_refuse_unless P _ _ _ (λ e. made_refuse_unless P _ _ _ (λ f. made_refuse_unless P _ _ _ (λ g.
+      made_refuse_unless P _ _ _ (λ h. made_refuse_unless P _ _ _ (λ i. made_refuse_unless P _ _ _ (λ j. made_refuse_unless P _ _ _ (λ k.
+      made_refuse_if_none P _ _ _ (λ layout l. made_by_plan P _ _ (λ trip.
+      made_unheld P _ _ (λ m. made_refuse_if_none P _ _ _ (λ number n. made_refuse_unless P _ _ _ (λ o. record { answered = refl; caused = refl }))))))))))))))))
 
   advances : (at : ℕ) (key : VehicleKey) (order : List ℕ) (update edges : ℕ) → IfMade P (advance world at key order update edges)
   advances at key order update edges =
-      made_found P _ _ _ (λ row a. made_found P _ _ _ (λ trip b. made_require P _ _ _ (λ c. made_require P _ _ _ (λ d. made_require P _ _ _ (λ e. made_require P _ _ _ (λ f.
-      made_require P _ _ _ (λ g. made_unheld P _ _ (λ h. made_found P _ _ _ (λ number i. record { answered = refl; caused = refl })))))))))
+      made_refuse_if_none P _ _ _ (λ row a. made_refuse_if_none P _ _ _ (λ trip b. made_refuse_unless P _ _ _ (λ c.
+      made_refuse_unless P _ _ _ (λ d. made_refuse_unless P _ _ _ (λ e. made_refuse_unless P _ _ _ (λ f.
+      made_refuse_unless P _ _ _ (λ g. made_unheld P _ _ (λ h. made_refuse_if_none P _ _ _ (λ number i. record { answered = refl; caused = refl })))))))))
 
   places : (key : VehicleKey) (reference node : List ℕ) → IfMade P (place_vehicle world key reference node)
   places key reference node =
-      made_require P _ _ _ (λ a. made_found P _ _ _ (λ row b. made_require P _ _ _ (λ c. made_unheld P _ _ (λ d. made_require P _ _ _ (λ e. record { answered = refl; caused = refl })))))
+      made_refuse_unless P _ _ _ (λ a. made_refuse_if_none P _ _ _ (λ row b. made_refuse_unless P _ _ _ (λ c.
+      made_unheld P _ _ (λ d. made_refuse_unless P _ _ _ (λ e. record { answered = refl; caused = refl })))))
 
   registers : (seats : ℕ) (key : VehicleKey) (node : List ℕ) (capacity : ℕ) → IfMade P (register_vehicle seats world key node capacity)
   registers seats key node capacity =
-      made_require P _ _ _ (λ a. made_require P _ _ _ (λ b. made_unheld P _ _ (λ c. made_require P _ _ _ (λ d. record { answered = refl; caused = refl }))))
+      made_refuse_unless P _ _ _ (λ a. made_refuse_unless P _ _ _ (λ b. made_unheld P _ _ (λ c. made_refuse_unless P _ _ _ (λ d. record { answered = refl; caused = refl }))))
 
 module _ (world : World) where
   -- a state finishes acts
@@ -116,34 +119,41 @@ module _ (world : World) where
 
     takes_fresh : (key : VehicleKey) (row : VehicleRow) (trip : Option Trip) (state : StateMessage) → IfMade Q (fresh_state world key row trip state)
     takes_fresh key row None state = takes_idle key row state
-    takes_fresh key row (Some trip) state = made_branch Q _ _ _ (goes_on key row trip state) (made_require Q _ _ _ (λ a. takes_idle key row state))
+    takes_fresh key row (Some trip) state = made_branch Q _ _ _ (goes_on key row trip state) (made_refuse_unless Q _ _ _ (λ a. takes_idle key row state))
 
     takes_state : (key : VehicleKey) (state : StateMessage) → IfMade Q (take_state world key state)
-    takes_state key state = made_found Q _ _ _ (λ row a. made_branch Q _ _ _ (takes_fresh key row _ state) (record { answered = refl; caused = refl }))
+    takes_state key state = made_refuse_if_none Q _ _ _ (λ row a. made_branch Q _ _ _ (takes_fresh key row _ state) (record { answered = refl; caused = refl }))
 
   each : (seats at : ℕ) (made : Call) → IfMade (IsCaused made) (step seats world at made)
-  each seats at (call.SetLayout rows) = made_require (IsCaused _) _ _ _ (λ a. made_laid (IsCaused _) _ _ (λ layout. record { answered = refl; caused = refl }))
+  each seats at (call.SetLayout rows) = made_refuse_unless (IsCaused _) _ _ _ (λ a. made_laid (IsCaused _) _ _ (λ layout. record { answered = refl; caused = refl }))
   each seats at (call.RegisterVehicle key node capacity) = registers world _ seats key node capacity
-  each seats at (call.RegisterLoad load station) = made_checked (IsCaused _) _ _ (made_require (IsCaused _) _ _ _ (λ a. record { answered = refl; caused = refl }))
-  each seats at (call.CorrectLoad load reference station) = made_require (IsCaused _) _ _ _ (λ a. made_checked (IsCaused _) _ _ (made_require (IsCaused _) _ _ _ (λ b. record { answered = refl; caused = refl })))
-  each seats at (call.LeaveLoad load reference) = made_require (IsCaused _) _ _ _ (λ a. made_checked (IsCaused _) _ _ (made_require (IsCaused _) _ _ _ (λ b. record { answered = refl; caused = refl })))
-  each seats at (call.AddJob job load to) = made_checked (IsCaused _) _ _ (made_found (IsCaused _) _ _ _ (λ origin a. made_require (IsCaused _) _ _ _ (λ b. record { answered = refl; caused = refl })))
-  each seats at (call.StopJob job) = made_found (IsCaused _) _ _ _ (λ row a. made_require (IsCaused _) _ _ _ (λ b. record { answered = refl; caused = refl }))
+  each seats at (call.RegisterLoad load station) = made_checked (IsCaused _) _ _ (made_refuse_unless (IsCaused _) _ _ _ (λ a. record { answered = refl; caused = refl }))
+  each seats at (call.CorrectLoad load reference station) =
+      made_refuse_unless (IsCaused _) _ _ _ (λ a. made_checked (IsCaused _) _ _
+      (made_refuse_unless (IsCaused _) _ _ _ (λ b. record { answered = refl; caused = refl })))
+  each seats at (call.LeaveLoad load reference) =
+      made_refuse_unless (IsCaused _) _ _ _ (λ a. made_checked (IsCaused _) _ _
+      (made_refuse_unless (IsCaused _) _ _ _ (λ b. record { answered = refl; caused = refl })))
+  each seats at (call.AddJob job load to) =
+      made_checked (IsCaused _) _ _ (made_refuse_if_none (IsCaused _) _ _ _ (λ origin a.
+      made_refuse_unless (IsCaused _) _ _ _ (λ b. record { answered = refl; caused = refl })))
+  each seats at (call.StopJob job) = made_refuse_if_none (IsCaused _) _ _ _ (λ row a. made_refuse_unless (IsCaused _) _ _ _ (λ b. record { answered = refl; caused = refl }))
   each seats at (call.StartOrder order key stops edges) = starts world _ (record { at = at; order = order; key = key; stops = stops; edges = edges })
   each seats at (call.Advance key order update edges) = advances world _ at key order update edges
-  each seats at (call.Cancel key) = made_found (IsCaused _) _ _ _ (λ row a. made_require (IsCaused _) _ _ _ (λ b. instructs world _ at key row _))
-  each seats at (call.Pause key) = made_found (IsCaused _) _ _ _ (λ row a. instructs world _ at key row _)
-  each seats at (call.Resume key) = made_found (IsCaused _) _ _ _ (λ row a. instructs world _ at key row _)
+  each seats at (call.Cancel key) = made_refuse_if_none (IsCaused _) _ _ _ (λ row a. made_refuse_unless (IsCaused _) _ _ _ (λ b. instructs world _ at key row _))
+  each seats at (call.Pause key) = made_refuse_if_none (IsCaused _) _ _ _ (λ row a. instructs world _ at key row _)
+  each seats at (call.Resume key) = made_refuse_if_none (IsCaused _) _ _ _ (λ row a. instructs world _ at key row _)
   each seats at (call.PlaceVehicle key reference node) = places world _ key reference node
-  each seats at (call.Resync key) = made_found (IsCaused _) _ _ _ (λ row a. record { answered = refl; caused = refl })
+  each seats at (call.Resync key) = made_refuse_if_none (IsCaused _) _ _ _ (λ row a. record { answered = refl; caused = refl })
   each seats at (call.State key state) = takes_state key state key state
-  each seats at (call.GetOrder key) = made_found (IsCaused _) _ _ _ (λ row a. record { answered = tells_a_message (call.GetOrder key) key row _; caused = refl })
-  each seats at (call.GetInstant key) = made_found (IsCaused _) _ _ _ (λ row a. record { answered = tells_an_action key row row.pending; caused = refl })
+  each seats at (call.GetOrder key) = made_refuse_if_none (IsCaused _) _ _ _ (λ row a. record { answered = tells_a_message (call.GetOrder key) key row _; caused = refl })
+  each seats at (call.GetInstant key) = made_refuse_if_none (IsCaused _) _ _ _ (λ row a. record { answered = tells_an_action key row row.pending; caused = refl })
   each seats at (call.Stocktake reference rows) =
-      made_require (IsCaused _) _ _ _ (λ a. made_require (IsCaused _) _ _ _ (λ b. made_require (IsCaused _) _ _ _ (λ c. made_require (IsCaused _) _ _ _ (λ d. made_require (IsCaused _) _ _ _ (λ e.
-      made_require (IsCaused _) _ _ _ (λ f. made_require (IsCaused _) _ _ _ (λ g. record { answered = refl; caused = all_recorded (new_places world rows) })))))))
-  each seats at (call.GetLoad load) = made_found (IsCaused _) _ _ _ (λ place a. record { answered = refl; caused = refl })
-  each seats at (call.GetVehicle key) = made_found (IsCaused _) _ _ _ (λ row a. record { answered = refl; caused = refl })
+      made_refuse_unless (IsCaused _) _ _ _ (λ a. made_refuse_unless (IsCaused _) _ _ _ (λ b.
+      made_refuse_unless (IsCaused _) _ _ _ (λ c. made_refuse_unless (IsCaused _) _ _ _ (λ d. made_refuse_unless (IsCaused _) _ _ _ (λ e.
+      made_refuse_unless (IsCaused _) _ _ _ (λ f. made_refuse_unless (IsCaused _) _ _ _ (λ g. record { answered = refl; caused = all_recorded (new_places world rows) })))))))
+  each seats at (call.GetLoad load) = made_refuse_if_none (IsCaused _) _ _ _ (λ place a. record { answered = refl; caused = refl })
+  each seats at (call.GetVehicle key) = made_refuse_if_none (IsCaused _) _ _ _ (λ row a. record { answered = refl; caused = refl })
   each seats at call.StockReport = record { answered = refl; caused = refl }
   each seats at call.HoldReport = record { answered = refl; caused = refl }
   each seats at call.LoadsExport = record { answered = refl; caused = refl }

@@ -41,7 +41,7 @@ use Rattle.agv_desk.proofs.stock.StockInvariantOrders.{made_planned}
 use Rattle.agv_desk.proofs.outcomes.CausedMoves.{refused_leaves}
 use Rattle.agv_desk.proofs.outcomes.Grown.{Grows, IsKnown, as_many, counted_is, grown, len_act_jobs, len_act_moves, len_known, len_name, len_new, len_riding, len_stopped, one_reference, same}
 use Rattle.agv_desk.proofs.outcomes.Known.{has_trip, known, none_some, same_some, unknown, vehicle_with}
-use Rattle.agv_desk.proofs.outcomes.Ladders.{IfMade, made_branch, made_found, made_judged, made_passed, made_require, made_unheld}
+use Rattle.agv_desk.proofs.outcomes.Ladders.{IfMade, made_branch, made_refuse_if_none, made_judged, made_passed, made_refuse_unless, made_unheld}
 use Rattle.agv_desk.proofs.row_changes.LayoutRows.{made_given}
 use Rattle.agv_desk.proofs.row_changes.Steps.{missing}
 use Rattle.agv_desk.proofs.stock.StockChecks.{adds, corrects, leaves, not_there, registers}
@@ -91,31 +91,34 @@ module _ (world : World) where
       counts_none (record (answer_only said) { touched = RowOnly key row new }) (λ lawful. as_many world _ (vehicle_len key row (vehicle_with new (trip_of world key)) there) refl refl refl refl)
 
   sets_layout : (rows : List LayoutRow) → IfMade P (set_layout world rows)
-  sets_layout rows = made_require P _ _ _ (λ unset. made_given P _ _ (λ layout read. counts_none _ (λ lawful. as_many world _ refl refl refl refl refl)))
+  sets_layout rows = made_refuse_unless P _ _ _ (λ unset. made_given P _ _ (λ layout read. counts_none _ (λ lawful. as_many world _ refl refl refl refl refl)))
 
   stops_job : (job : List ℕ) → IfMade P (stop_job world job)
   stops_job job =
-      made_found P _ _ _ (λ row there. made_require P _ _ _ (λ waits. counts_none _ (λ lawful. as_many world _ refl refl (len_known names_total world.jobs job _ (row, there)) refl refl)))
+      made_refuse_if_none P _ _ _ (λ row there.
+      made_refuse_unless P _ _ _ (λ waits. counts_none _ (λ lawful. as_many world _ refl refl (len_known names_total world.jobs job _ (row, there)) refl refl)))
 
   instructs : (at : ℕ) (key : VehicleKey) (row : VehicleRow) (kind : InstantKind) → row_of world key ≡ Some row → IfMade P (instruct at key row kind)
-  instructs at key row kind there = made_require P _ _ _ (λ free. made_found P _ _ _ (λ number is. notes (answer.Instructed number) key row _ there))
+  instructs at key row kind there = made_refuse_unless P _ _ _ (λ free. made_refuse_if_none P _ _ _ (λ number is. notes (answer.Instructed number) key row _ there))
 
   cancels : (at : ℕ) (key : VehicleKey) → IfMade P (cancel world at key)
-  cancels at key = made_found P _ _ _ (λ row there. made_require P _ _ _ (λ has. instructs at key row _ there))
+  cancels at key = made_refuse_if_none P _ _ _ (λ row there. made_refuse_unless P _ _ _ (λ has. instructs at key row _ there))
 
   pauses : (at : ℕ) (key : VehicleKey) → IfMade P (pause world at key)
-  pauses at key = made_found P _ _ _ (λ row there. instructs at key row _ there)
+  pauses at key = made_refuse_if_none P _ _ _ (λ row there. instructs at key row _ there)
 
   resumes : (at : ℕ) (key : VehicleKey) → IfMade P (resume world at key)
-  resumes at key = made_found P _ _ _ (λ row there. instructs at key row _ there)
+  resumes at key = made_refuse_if_none P _ _ _ (λ row there. instructs at key row _ there)
 
   begins_anew : (key : VehicleKey) → IfMade P (resync world key)
-  begins_anew key = made_found P _ _ _ (λ row there. notes answer.Done key row _ there)
+  begins_anew key = made_refuse_if_none P _ _ _ (λ row there. notes answer.Done key row _ there)
 
   advances_trip : (at : ℕ) (key : VehicleKey) (order : List ℕ) (update edges : ℕ) → IfMade P (advance world at key order update edges)
   advances_trip at key order update edges =
-      made_found P _ _ _ (λ row there. made_found P _ _ _ (λ trip b. made_require P _ _ _ (λ c. made_require P _ _ _ (λ d. made_require P _ _ _ (λ e. made_require P _ _ _ (λ f.
-      made_require P _ _ _ (λ g. made_unheld P _ _ (λ h. made_found P _ _ _ (λ number i. counts_none _ (λ lawful. as_many world _ (vehicle_len key row _ there) refl refl refl refl))))))))))
+      made_refuse_if_none P _ _ _ (λ row there. made_refuse_if_none P _ _ _ (λ trip b. made_refuse_unless P _ _ _ (λ c.
+      made_refuse_unless P _ _ _ (λ d. made_refuse_unless P _ _ _ (λ e. made_refuse_unless P _ _ _ (λ f.
+      made_refuse_unless P _ _ _ (λ g. made_unheld P _ _ (λ h.
+      made_refuse_if_none P _ _ _ (λ number i. counts_none _ (λ lawful. as_many world _ (vehicle_len key row _ there) refl refl refl refl))))))))))
 
   -- ---- states
 
@@ -129,17 +132,18 @@ module _ (world : World) where
 
   takes_fresh : (key : VehicleKey) (row : VehicleRow) (state : StateMessage) → row_of world key ≡ Some row → (trip : Option Trip) → trip_of world key ≡ trip → IfMade P (fresh_state world key row trip state)
   takes_fresh key row state there None same_trip = takes_idle key row state there
-  takes_fresh key row state there (Some trip) same_trip = made_branch P _ _ _ (goes_on_trip key row trip state there same_trip) (made_require P _ _ _ (λ fresh. takes_idle key row state there))
+  takes_fresh key row state there (Some trip) same_trip =
+      made_branch P _ _ _ (goes_on_trip key row trip state there same_trip) (made_refuse_unless P _ _ _ (λ fresh. takes_idle key row state there))
 
   takes_state : (key : VehicleKey) (state : StateMessage) → IfMade P (take_state world key state)
-  takes_state key state = made_found P _ _ _ (λ row there. made_branch P _ _ _ (takes_fresh key row state there (trip_of world key) refl) (tells (answer.Accepted false)))
+  takes_state key state = made_refuse_if_none P _ _ _ (λ row there. made_branch P _ _ _ (takes_fresh key row state there (trip_of world key) refl) (tells (answer.Accepted false)))
 
   -- ---- the calls that add one
 
   registers_vehicle : (seats : ℕ) (key : VehicleKey) (node : List ℕ) (capacity : ℕ) → IfMade (IsCounted world (Some counted.Vehicles)) (register_vehicle seats world key node capacity)
   registers_vehicle seats key node capacity =
       let One : Effect → Type 0 = IsCounted world (Some counted.Vehicles) in
-      made_require One _ _ _ (λ free. made_require One _ _ _ (λ known_node. made_unheld One _ _ (λ opened. made_require One _ _ _ (λ limits.
+      made_refuse_unless One _ _ _ (λ free. made_refuse_unless One _ _ _ (λ known_node. made_unheld One _ _ (λ opened. made_refuse_unless One _ _ _ (λ limits.
       counts_one counted.Vehicles _ (ltb-true _ _ (and_parts _ _ limits).0) (λ lawful. record {
         vehicles = len_new key_cmp-total world.vehicles key (new_vehicle capacity node) (unknown world key (missing _ free));
         loads = same _ _ refl;
@@ -151,7 +155,7 @@ module _ (world : World) where
   registers_load : (load : List ℕ) (station : Option (List ℕ)) → IfMade (IsCounted world (Some counted.Loads)) (register_load world load station)
   registers_load load station =
       let One : Effect → Type 0 = IsCounted world (Some counted.Loads) in
-      made_passed One _ _ (λ passed. made_require One _ _ _ (λ few.
+      made_passed One _ _ (λ passed. made_refuse_unless One _ _ _ (λ few.
       counts_one counted.Loads _ (ltb-true _ _ few) (λ lawful. record {
         vehicles = same _ _ refl;
         loads = len_new names_total world.places load (place_of station) (registers (finite.get world.places load) (goal_of world station) passed).0;
@@ -163,7 +167,7 @@ module _ (world : World) where
   adds_job : (job load to : List ℕ) → IfMade (IsCounted world (Some counted.Jobs)) (add_job world job load to)
   adds_job job load to =
       let One : Effect → Type 0 = IsCounted world (Some counted.Jobs) in
-      made_passed One _ _ (λ passed. made_found One _ _ _ (λ origin stands. made_require One _ _ _ (λ few.
+      made_passed One _ _ (λ passed. made_refuse_if_none One _ _ _ (λ origin stands. made_refuse_unless One _ _ _ (λ few.
       counts_one counted.Jobs _ (ltb-true _ _ few) (λ lawful. record {
         vehicles = same _ _ refl;
         loads = same _ _ refl;
@@ -175,9 +179,11 @@ module _ (world : World) where
   starts_order : (asked : AskedOrder) → IfMade (IsCounted world (Some counted.Orders)) (start_order world asked)
   starts_order asked =
       let One : Effect → Type 0 = IsCounted world (Some counted.Orders) in
-      made_require One _ _ _ (λ new. made_found One _ _ _ (λ row there. made_require One _ _ _ (λ c. made_found One _ _ _ (λ jobs read.
-      made_require One _ _ _ (λ e. made_require One _ _ _ (λ f. made_require One _ _ _ (λ g. made_require One _ _ _ (λ h. made_require One _ _ _ (λ i. made_require One _ _ _ (λ j. made_require One _ _ _ (λ k.
-      made_found One _ _ _ (λ layout l. made_planned One _ _ (λ trip m. made_unheld One _ _ (λ n. made_found One _ _ _ (λ number o. made_require One _ _ _ (λ few.
+      made_refuse_unless One _ _ _ (λ new. made_refuse_if_none One _ _ _ (λ row there. made_refuse_unless One _ _ _ (λ c. made_refuse_if_none One _ _ _ (λ jobs read.
+      made_refuse_unless One _ _ _ (λ e. made_refuse_unless One _ _ _ (λ f. made_refuse_unless One _ _ _ (λ g.
+      made_refuse_unless One _ _ _ (λ h. made_refuse_unless One _ _ _ (λ i. made_refuse_unless One _ _ _ (λ j. made_refuse_unless One _ _ _ (λ k.
+      made_refuse_if_none One _ _ _ (λ layout l. made_planned One _ _ (λ trip m. made_unheld One _ _ (λ n.
+      made_refuse_if_none One _ _ _ (λ number o. made_refuse_unless One _ _ _ (λ few.
       counts_one counted.Orders _ (ltb-true _ _ few) (λ lawful. record {
         vehicles = same _ _ (vehicle_len asked.key row _ there);
         loads = same _ _ refl;
@@ -193,27 +199,29 @@ module _ (world : World) where
 
   corrects_load : (load reference : List ℕ) (station : Option (List ℕ)) → IfMade R (correct_load world load reference station)
   corrects_load load reference station =
-      made_require R _ _ _ (λ new. made_passed R _ _ (λ passed. made_require R _ _ _ (λ few.
+      made_refuse_unless R _ _ _ (λ new. made_passed R _ _ (λ passed. made_refuse_unless R _ _ _ (λ few.
       let is = corrects (finite.get world.places load) (is_in_job world load) (goal_of world station) passed in
       counts_one counted.References _ (ltb-true _ _ few) (λ lawful.
       one_reference world _ refl (len_known names_total world.places load (place_of station) (is.0, is.1)) refl refl (reference_len reference new)))))
 
   lets_load_leave : (load reference : List ℕ) → IfMade R (leave_load world load reference)
   lets_load_leave load reference =
-      made_require R _ _ _ (λ new. made_passed R _ _ (λ passed. made_require R _ _ _ (λ few.
+      made_refuse_unless R _ _ _ (λ new. made_passed R _ _ (λ passed. made_refuse_unless R _ _ _ (λ few.
       let is = leaves (finite.get world.places load) (is_in_job world load) passed in
       counts_one counted.References _ (ltb-true _ _ few) (λ lawful.
       one_reference world _ refl (len_known names_total world.places load _ (is.0, is.1)) refl refl (reference_len reference new)))))
 
   places_vehicle : (key : VehicleKey) (reference node : List ℕ) → IfMade R (place_vehicle world key reference node)
   places_vehicle key reference node =
-      made_require R _ _ _ (λ new. made_found R _ _ _ (λ row there. made_require R _ _ _ (λ known_node. made_unheld R _ _ (λ opened. made_require R _ _ _ (λ few.
+      made_refuse_unless R _ _ _ (λ new. made_refuse_if_none R _ _ _ (λ row there.
+      made_refuse_unless R _ _ _ (λ known_node. made_unheld R _ _ (λ opened. made_refuse_unless R _ _ _ (λ few.
       counts_one counted.References _ (ltb-true _ _ few) (λ lawful.
       one_reference world _ (vehicle_len key row _ there) refl (len_stopped world (trip_of world key)) refl (reference_len reference new)))))))
 
   takes_stock : (reference : List ℕ) (rows : List Row) → IfMade R (take_stock world reference rows)
   takes_stock reference rows =
-      made_require R _ _ _ (λ new. made_require R _ _ _ (λ known_stations. made_require R _ _ _ (λ c. made_require R _ _ _ (λ d. made_require R _ _ _ (λ e. made_require R _ _ _ (λ f. made_require R _ _ _ (λ few.
+      made_refuse_unless R _ _ _ (λ new. made_refuse_unless R _ _ _ (λ known_stations. made_refuse_unless R _ _ _ (λ c.
+      made_refuse_unless R _ _ _ (λ d. made_refuse_unless R _ _ _ (λ e. made_refuse_unless R _ _ _ (λ f. made_refuse_unless R _ _ _ (λ few.
       counts_one counted.References _ (ltb-true _ _ few) (λ lawful.
       one_reference world _ refl (as_many_loads world rows known_stations) refl refl (reference_len reference new)))))))))
 
@@ -235,11 +243,11 @@ module _ (world : World) where
   each seats at (call.PlaceVehicle key reference node) = places_vehicle key reference node
   each seats at (call.Resync key) = begins_anew key
   each seats at (call.State key state) = takes_state key state
-  each seats at (call.GetOrder key) = made_found P _ _ _ (λ row is. tells _)
-  each seats at (call.GetInstant key) = made_found P _ _ _ (λ row is. tells _)
+  each seats at (call.GetOrder key) = made_refuse_if_none P _ _ _ (λ row is. tells _)
+  each seats at (call.GetInstant key) = made_refuse_if_none P _ _ _ (λ row is. tells _)
   each seats at (call.Stocktake reference rows) = takes_stock reference rows
-  each seats at (call.GetLoad load) = made_found P _ _ _ (λ place is. tells _)
-  each seats at (call.GetVehicle key) = made_found P _ _ _ (λ row is. tells _)
+  each seats at (call.GetLoad load) = made_refuse_if_none P _ _ _ (λ place is. tells _)
+  each seats at (call.GetVehicle key) = made_refuse_if_none P _ _ _ (λ row is. tells _)
   each seats at call.StockReport = tells _
   each seats at call.HoldReport = tells _
   each seats at call.LoadsExport = tells _

@@ -13,15 +13,15 @@ IfMade P (Refused why) = Unit {0}
 IfMade P (Made effect) = P effect
 
 module _ (P : Effect → Type 0) where
-  pub made_require : (test : Bool) (why : Refusal) (rest : Outcome) → (test ≡ true → IfMade P rest) → IfMade P (refuse_unless test why rest)
+  pub made_refuse_unless : (test : Bool) (why : Refusal) (rest : Outcome) → (test ≡ true → IfMade P rest) → IfMade P (refuse_unless test why rest)
   unfolding refuse_unless
-  made_require true why rest h = h refl
-  made_require false why rest h = tt
+  made_refuse_unless true why rest h = h refl
+  made_refuse_unless false why rest h = tt
 
-  pub made_found : {X : Type 0} (there : Option X) (why : Refusal) (rest : X → Outcome) → ((x : X) → there ≡ Some x → IfMade P (rest x)) → IfMade P (refuse_if_none there why rest)
+  pub made_refuse_if_none : {X : Type 0} (there : Option X) (why : Refusal) (rest : X → Outcome) → ((x : X) → there ≡ Some x → IfMade P (rest x)) → IfMade P (refuse_if_none there why rest)
   unfolding refuse_if_none
-  made_found None why rest h = tt
-  made_found (Some x) why rest h = h x refl
+  made_refuse_if_none None why rest h = tt
+  made_refuse_if_none (Some x) why rest h = h x refl
 
   pub made_checked : (check : Checked) (rest : Outcome) → IfMade P rest → IfMade P (checked check rest)
   unfolding checked

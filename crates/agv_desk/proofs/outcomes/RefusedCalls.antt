@@ -71,15 +71,15 @@ by_made : (effect : Effect) → IsFit effect.answer → Fits (Made effect)
 unfolding answer_of
 by_made effect h = h
 
-by_require : (test : Bool) (why : Refusal) (rest : Outcome) → is_of_call why ≡ true → Fits rest → Fits (refuse_unless test why rest)
+by_refuse_unless : (test : Bool) (why : Refusal) (rest : Outcome) → is_of_call why ≡ true → Fits rest → Fits (refuse_unless test why rest)
 unfolding refuse_unless answer_of
-by_require true why rest of h = h
-by_require false why rest of h = of
+by_refuse_unless true why rest of h = h
+by_refuse_unless false why rest of h = of
 
-by_found : {X : Type 0} (there : Option X) (why : Refusal) (rest : X → Outcome) → is_of_call why ≡ true → ((x : X) → Fits (rest x)) → Fits (refuse_if_none there why rest)
+by_refuse_if_none : {X : Type 0} (there : Option X) (why : Refusal) (rest : X → Outcome) → is_of_call why ≡ true → ((x : X) → Fits (rest x)) → Fits (refuse_if_none there why rest)
 unfolding refuse_if_none answer_of
-by_found None why rest of h = of
-by_found (Some x) why rest of h = h x
+by_refuse_if_none None why rest of h = of
+by_refuse_if_none (Some x) why rest of h = h x
 
 by_checked : (check : Checked) (rest : Outcome) → IsFitIn check → Fits rest → Fits (checked check rest)
 unfolding checked answer_of
@@ -130,21 +130,21 @@ by_plan layout vehicle jobs stops order at base rest h =
 
 -- ---- the checks of a load
 
-load_require : (test : Bool) (why : Refusal) (rest : Checked) → is_of_call why ≡ true → IsFitIn rest → IsFitIn (check_that test why rest)
-load_require true why rest of h = h
-load_require false why rest of h = of
+by_check_that : (test : Bool) (why : Refusal) (rest : Checked) → is_of_call why ≡ true → IsFitIn rest → IsFitIn (check_that test why rest)
+by_check_that true why rest of h = h
+by_check_that false why rest of h = of
 
 module _ (goal : Goal) where
   abbrev with_room : Checked
   with_room = check_that (has_room goal) refusal.Full passed
 
   has_space : IsFitIn with_room
-  has_space = load_require (has_room goal) refusal.Full passed refl tt
+  has_space = by_check_that (has_room goal) refusal.Full passed refl tt
 
   registers_load : (there : Option Place) → IsFitIn (register_check there goal)
   registers_load there =
-      load_require (not (is_some there)) refusal.Exists (check_that (is_known goal) refusal.NoStation with_room) refl
-      (load_require (is_known goal) refusal.NoStation with_room refl has_space)
+      by_check_that (not (is_some there)) refusal.Exists (check_that (is_known goal) refusal.NoStation with_room) refl
+      (by_check_that (is_known goal) refusal.NoStation with_room refl has_space)
 
   module _ (place : Place) (live : Bool) where
     abbrev apart : Checked
@@ -154,25 +154,25 @@ module _ (goal : Goal) where
     free = check_that (not live) refusal.InJob apart
 
     is_free : IsFitIn free
-    is_free = load_require (not live) refusal.InJob apart refl (load_require (not (is_there goal place)) refusal.SameStation with_room refl has_space)
+    is_free = by_check_that (not live) refusal.InJob apart refl (by_check_that (not (is_there goal place)) refusal.SameStation with_room refl has_space)
 
   corrects_load : (there : Option Place) (live : Bool) → IsFitIn (correct_check there live goal)
   corrects_load None live = refl
   corrects_load (Some place) live =
-      load_require (is_known goal) refusal.NoStation (check_that (not (has_left place)) refusal.Elsewhere (free place live)) refl
-      (load_require (not (has_left place)) refusal.Elsewhere (free place live) refl (is_free place live))
+      by_check_that (is_known goal) refusal.NoStation (check_that (not (has_left place)) refusal.Elsewhere (free place live)) refl
+      (by_check_that (not (has_left place)) refusal.Elsewhere (free place live) refl (is_free place live))
 
   adds_job : (known : Bool) (there : Option Place) (live : Bool) → IsFitIn (job_check known there live goal)
   adds_job true there live = refl
   adds_job false None live = refl
   adds_job false (Some place) live =
-      load_require (is_known goal) refusal.NoStation (check_that (is_stored place) refusal.Elsewhere (free place live)) refl
-      (load_require (is_stored place) refusal.Elsewhere (free place live) refl (is_free place live))
+      by_check_that (is_known goal) refusal.NoStation (check_that (is_stored place) refusal.Elsewhere (free place live)) refl
+      (by_check_that (is_stored place) refusal.Elsewhere (free place live) refl (is_free place live))
 
 lets_load_leave : (there : Option Place) (live : Bool) → IsFitIn (leave_check there live)
 lets_load_leave None live = refl
 lets_load_leave (Some place) live =
-    load_require (not (has_left place)) refusal.Elsewhere (check_that (not live) refusal.InJob passed) refl (load_require (not live) refusal.InJob passed refl tt)
+    by_check_that (not (has_left place)) refusal.Elsewhere (check_that (not live) refusal.InJob passed) refl (by_check_that (not live) refusal.InJob passed refl tt)
 
 -- ---- what a state is judged
 
@@ -210,31 +210,33 @@ tells_an_action key row (Some kind) = tt
 
 module _ (world : World) where
   instructs : (at : ℕ) (key : VehicleKey) (row : VehicleRow) (kind : InstantKind) → Fits (instruct at key row kind)
-  instructs at key row kind = by_require _ refusal.InstantPending _ refl (by_found _ refusal.Spent _ refl (λ number. by_made _ tt))
+  instructs at key row kind = by_refuse_unless _ refusal.InstantPending _ refl (by_refuse_if_none _ refusal.Spent _ refl (λ number. by_made _ tt))
 
   starts : (asked : AskedOrder) → Fits (start_order world asked)
   starts asked =
-      by_require _ refusal.Exists _ refl (by_found _ refusal.NoVehicle _ refl (λ row.
-      by_require _ refusal.BadStops _ refl (by_found _ refusal.NoJob _ refl (λ jobs.
-      by_require _ refusal.OrderKnown _ refl (by_require _ refusal.JobState _ refl (by_require _ refusal.Busy _ refl
-      (by_require _ refusal.Astray _ refl (by_require _ refusal.Loaded _ refl (by_require _ refusal.NotReady _ refl
-      (by_require _ refusal.InstantPending _ refl (by_found _ refusal.NoWalk _ refl (λ layout. by_plan layout asked.key jobs asked.stops asked.order row.node asked.edges (send_trip world asked row jobs) (λ trip.
-      by_unheld _ _ (by_found _ refusal.Spent _ refl (λ number. by_require _ refusal.Limit _ refl (by_made _ tt))))))))))))))))
+      by_refuse_unless _ refusal.Exists _ refl (by_refuse_if_none _ refusal.NoVehicle _ refl (λ row.
+      by_refuse_unless _ refusal.BadStops _ refl (by_refuse_if_none _ refusal.NoJob _ refl (λ jobs.
+      by_refuse_unless _ refusal.OrderKnown _ refl (by_refuse_unless _ refusal.JobState _ refl (by_refuse_unless _ refusal.Busy _ refl
+      (by_refuse_unless _ refusal.Astray _ refl (by_refuse_unless _ refusal.Loaded _ refl (by_refuse_unless _ refusal.NotReady _ refl
+      (by_refuse_unless _ refusal.InstantPending _ refl (by_refuse_if_none _ refusal.NoWalk _ refl (λ layout.
+      by_plan layout asked.key jobs asked.stops asked.order row.node asked.edges (send_trip world asked row jobs) (λ trip.
+      by_unheld _ _ (by_refuse_if_none _ refusal.Spent _ refl (λ number. by_refuse_unless _ refusal.Limit _ refl (by_made _ tt))))))))))))))))
 
   advances : (at : ℕ) (key : VehicleKey) (order : List ℕ) (update edges : ℕ) → Fits (advance world at key order update edges)
   advances at key order update edges =
-      by_found _ refusal.NoVehicle _ refl (λ row. by_found _ refusal.NoOrder _ refl (λ trip.
-      by_require _ (refusal.WrongUpdate trip.sent) _ refl (by_require _ refusal.NotConfirmed _ refl (by_require _ refusal.NotReady _ refl
-      (by_require _ refusal.InstantPending _ refl (by_require _ refusal.Beyond _ refl (by_unheld _ _ (by_found _ refusal.Spent _ refl (λ number. by_made _ tt)))))))))
+      by_refuse_if_none _ refusal.NoVehicle _ refl (λ row. by_refuse_if_none _ refusal.NoOrder _ refl (λ trip.
+      by_refuse_unless _ (refusal.WrongUpdate trip.sent) _ refl (by_refuse_unless _ refusal.NotConfirmed _ refl (by_refuse_unless _ refusal.NotReady _ refl
+      (by_refuse_unless _ refusal.InstantPending _ refl (by_refuse_unless _ refusal.Beyond _ refl
+      (by_unheld _ _ (by_refuse_if_none _ refusal.Spent _ refl (λ number. by_made _ tt)))))))))
 
   places : (key : VehicleKey) (reference node : List ℕ) → Fits (place_vehicle world key reference node)
   places key reference node =
-      by_require _ refusal.RefUsed _ refl (by_found _ refusal.NoVehicle _ refl (λ row. by_require _ refusal.NoNode _ refl
-      (by_unheld _ _ (by_require _ refusal.Limit _ refl (by_made _ tt)))))
+      by_refuse_unless _ refusal.RefUsed _ refl (by_refuse_if_none _ refusal.NoVehicle _ refl (λ row. by_refuse_unless _ refusal.NoNode _ refl
+      (by_unheld _ _ (by_refuse_unless _ refusal.Limit _ refl (by_made _ tt)))))
 
   registers : (seats : ℕ) (key : VehicleKey) (node : List ℕ) (capacity : ℕ) → Fits (register_vehicle seats world key node capacity)
   registers seats key node capacity =
-      by_require _ refusal.Exists _ refl (by_require _ refusal.NoNode _ refl (by_unheld _ _ (by_require _ refusal.Limit _ refl (by_made _ tt))))
+      by_refuse_unless _ refusal.Exists _ refl (by_refuse_unless _ refusal.NoNode _ refl (by_unheld _ _ (by_refuse_unless _ refusal.Limit _ refl (by_made _ tt))))
 
   takes_idle : (key : VehicleKey) (row : VehicleRow) (state : StateMessage) → Fits (idle_state key row state)
   takes_idle key row state = by_judged _ _ (judges_idle _ _ state) (λ over. by_made _ tt)
@@ -244,37 +246,45 @@ module _ (world : World) where
 
   takes_fresh : (key : VehicleKey) (row : VehicleRow) (trip : Option Trip) (state : StateMessage) → Fits (fresh_state world key row trip state)
   takes_fresh key row None state = takes_idle key row state
-  takes_fresh key row (Some trip) state = by_branch _ _ _ (goes_on key row trip state) (by_require _ refusal.OtherOrder _ refl (takes_idle key row state))
+  takes_fresh key row (Some trip) state = by_branch _ _ _ (goes_on key row trip state) (by_refuse_unless _ refusal.OtherOrder _ refl (takes_idle key row state))
 
   takes_state : (key : VehicleKey) (state : StateMessage) → Fits (take_state world key state)
-  takes_state key state = by_found _ refusal.NoVehicle _ refl (λ row. by_branch _ _ _ (takes_fresh key row _ state) (by_made _ tt))
+  takes_state key state = by_refuse_if_none _ refusal.NoVehicle _ refl (λ row. by_branch _ _ _ (takes_fresh key row _ state) (by_made _ tt))
 
   counts : (reference : List ℕ) (rows : List Row) → Fits (take_stock world reference rows)
   counts reference rows =
-      by_require _ refusal.RefUsed _ refl (by_require _ refusal.NoStation _ refl (by_require _ refusal.CountTwice _ refl
-      (by_require _ refusal.OnVehicle _ refl (by_require _ refusal.InJob _ refl (by_require _ refusal.Full _ refl (by_require _ refusal.Limit _ refl (by_made _ tt)))))))
+      by_refuse_unless _ refusal.RefUsed _ refl (by_refuse_unless _ refusal.NoStation _ refl (by_refuse_unless _ refusal.CountTwice _ refl
+      (by_refuse_unless _ refusal.OnVehicle _ refl (by_refuse_unless _ refusal.InJob _ refl
+      (by_refuse_unless _ refusal.Full _ refl (by_refuse_unless _ refusal.Limit _ refl (by_made _ tt)))))))
 
   each : (seats at : ℕ) (made : Call) → Fits (step seats world at made)
-  each seats at (call.SetLayout rows) = by_require _ refusal.LayoutSet _ refl (lays rows)
+  each seats at (call.SetLayout rows) = by_refuse_unless _ refusal.LayoutSet _ refl (lays rows)
   each seats at (call.RegisterVehicle key node capacity) = registers seats key node capacity
-  each seats at (call.RegisterLoad load station) = by_checked _ _ (registers_load (goal_of world station) (finite.get world.places load)) (by_require _ refusal.Limit _ refl (by_made _ tt))
-  each seats at (call.CorrectLoad load reference station) = by_require _ refusal.RefUsed _ refl (by_checked _ _ (corrects_load (goal_of world station) (finite.get world.places load) (is_in_job world load)) (by_require _ refusal.Limit _ refl (by_made _ tt)))
-  each seats at (call.LeaveLoad load reference) = by_require _ refusal.RefUsed _ refl (by_checked _ _ (lets_load_leave (finite.get world.places load) (is_in_job world load)) (by_require _ refusal.Limit _ refl (by_made _ tt)))
-  each seats at (call.AddJob job load to) = by_checked _ _ (adds_job (goal_of world (Some to)) (is_some (finite.get world.jobs job)) (finite.get world.places load) (is_in_job world load)) (by_found _ refusal.Elsewhere _ refl (λ origin. by_require _ refusal.Limit _ refl (by_made _ tt)))
-  each seats at (call.StopJob job) = by_found _ refusal.NoJob _ refl (λ row. by_require _ refusal.JobState _ refl (by_made _ tt))
+  each seats at (call.RegisterLoad load station) =
+      by_checked _ _ (registers_load (goal_of world station) (finite.get world.places load)) (by_refuse_unless _ refusal.Limit _ refl (by_made _ tt))
+  each seats at (call.CorrectLoad load reference station) =
+      by_refuse_unless _ refusal.RefUsed _ refl (by_checked _ _ (corrects_load (goal_of world station) (finite.get world.places load) (is_in_job world load))
+      (by_refuse_unless _ refusal.Limit _ refl (by_made _ tt)))
+  each seats at (call.LeaveLoad load reference) =
+      by_refuse_unless _ refusal.RefUsed _ refl (by_checked _ _ (lets_load_leave (finite.get world.places load) (is_in_job world load))
+      (by_refuse_unless _ refusal.Limit _ refl (by_made _ tt)))
+  each seats at (call.AddJob job load to) =
+      by_checked _ _ (adds_job (goal_of world (Some to)) (is_some (finite.get world.jobs job)) (finite.get world.places load) (is_in_job world load))
+      (by_refuse_if_none _ refusal.Elsewhere _ refl (λ origin. by_refuse_unless _ refusal.Limit _ refl (by_made _ tt)))
+  each seats at (call.StopJob job) = by_refuse_if_none _ refusal.NoJob _ refl (λ row. by_refuse_unless _ refusal.JobState _ refl (by_made _ tt))
   each seats at (call.StartOrder order key stops edges) = starts (record { at = at; order = order; key = key; stops = stops; edges = edges })
   each seats at (call.Advance key order update edges) = advances at key order update edges
-  each seats at (call.Cancel key) = by_found _ refusal.NoVehicle _ refl (λ row. by_require _ refusal.NoOrder _ refl (instructs at key row _))
-  each seats at (call.Pause key) = by_found _ refusal.NoVehicle _ refl (λ row. instructs at key row _)
-  each seats at (call.Resume key) = by_found _ refusal.NoVehicle _ refl (λ row. instructs at key row _)
+  each seats at (call.Cancel key) = by_refuse_if_none _ refusal.NoVehicle _ refl (λ row. by_refuse_unless _ refusal.NoOrder _ refl (instructs at key row _))
+  each seats at (call.Pause key) = by_refuse_if_none _ refusal.NoVehicle _ refl (λ row. instructs at key row _)
+  each seats at (call.Resume key) = by_refuse_if_none _ refusal.NoVehicle _ refl (λ row. instructs at key row _)
   each seats at (call.PlaceVehicle key reference node) = places key reference node
-  each seats at (call.Resync key) = by_found _ refusal.NoVehicle _ refl (λ row. by_made _ tt)
+  each seats at (call.Resync key) = by_refuse_if_none _ refusal.NoVehicle _ refl (λ row. by_made _ tt)
   each seats at (call.State key state) = takes_state key state
-  each seats at (call.GetOrder key) = by_found _ refusal.NoVehicle _ refl (λ row. by_made _ (tells_a_message key row _))
-  each seats at (call.GetInstant key) = by_found _ refusal.NoVehicle _ refl (λ row. by_made _ (tells_an_action key row row.pending))
+  each seats at (call.GetOrder key) = by_refuse_if_none _ refusal.NoVehicle _ refl (λ row. by_made _ (tells_a_message key row _))
+  each seats at (call.GetInstant key) = by_refuse_if_none _ refusal.NoVehicle _ refl (λ row. by_made _ (tells_an_action key row row.pending))
   each seats at (call.Stocktake reference rows) = counts reference rows
-  each seats at (call.GetLoad load) = by_found _ refusal.NoLoad _ refl (λ place. by_made _ tt)
-  each seats at (call.GetVehicle key) = by_found _ refusal.NoVehicle _ refl (λ row. by_made _ tt)
+  each seats at (call.GetLoad load) = by_refuse_if_none _ refusal.NoLoad _ refl (λ place. by_made _ tt)
+  each seats at (call.GetVehicle key) = by_refuse_if_none _ refusal.NoVehicle _ refl (λ row. by_made _ tt)
   each seats at call.StockReport = by_made _ tt
   each seats at call.HoldReport = by_made _ tt
   each seats at call.LoadsExport = by_made _ tt

@@ -11,7 +11,7 @@ use Rattle.agv_desk.specs.Outcomes.{Effect, Outcome, with_layout}
 use Rattle.agv_desk.proofs.row_changes.Effects.{LeadsTo, touches_none}
 use Rattle.agv_desk.proofs.row_changes.Given.{Given}
 use Rattle.agv_desk.proofs.outcomes.Known.{none_some}
-use Rattle.agv_desk.proofs.outcomes.Ladders.{IfMade, made_require}
+use Rattle.agv_desk.proofs.outcomes.Ladders.{IfMade, made_refuse_unless}
 use Rattle.agv_desk.proofs.row_changes.Steps.{missing, leads}
 
 pub made_given : (P : Effect → Type 0) (read : Result Layout LayoutFault) (rest : Layout → Outcome) → ((layout : Layout) → read ≡ Ok layout → IfMade P (rest layout)) → IfMade P (if_given read rest)
@@ -28,5 +28,5 @@ module _ (given : Given) (world : World) (in_order : IsInOrder world) where
 
   pub sets_layout : (rows : List LayoutRow) → IfMade (LeadsTo world) (set_layout world rows)
   sets_layout rows =
-      made_require (LeadsTo world) _ _ _ (λ unset. made_given (LeadsTo world) _ _ (λ layout read.
+      made_refuse_unless (LeadsTo world) _ _ _ (λ unset. made_given (LeadsTo world) _ _ (λ layout read.
       leads given world in_order _ (given.sets world layout (is_empty (missing _ unset) in_order.laid)) (touches_none (with_layout world (Some layout)))))

@@ -24,7 +24,7 @@ use Rattle.agv_desk.specs.Outcomes.{Effect, Outcome}
 use Rattle.agv_desk.proofs.row_changes.Effects.{LeadsTo, lays_none}
 use Rattle.agv_desk.proofs.row_changes.Given.{Given}
 use Rattle.agv_desk.proofs.outcomes.Known.{none_some, vehicle_with, known, has_trip}
-use Rattle.agv_desk.proofs.outcomes.Ladders.{IfMade, made_require, made_found, made_unheld}
+use Rattle.agv_desk.proofs.outcomes.Ladders.{IfMade, made_refuse_unless, made_refuse_if_none, made_unheld}
 use Rattle.agv_desk.proofs.row_changes.Steps.{missing, not_true, leads, puts}
 
 -- ---- a plan has the name of its order
@@ -80,7 +80,7 @@ module _ (given : Given) (world : World) (in_order : IsInOrder world) where
       → is_used world used.Order asked.order ≡ false → row_of world asked.key ≡ Some row → trip_of world asked.key ≡ None → trip.order ≡ asked.order
       → IfMade P (send_trip world asked row jobs trip)
   sends_trip asked row jobs trip unused there idle named =
-      made_unheld P _ _ (λ opened. made_found P _ _ _ (λ number next. made_require P _ _ _ (λ few.
+      made_unheld P _ _ (λ opened. made_refuse_if_none P _ _ _ (λ number next. made_refuse_unless P _ _ _ (λ few.
       let new = sent_on row asked.at number (Some trip) in
       leads given world in_order _ (lays_none world)
       (puts given world in_order asked.key (Some (vehicle_with row None)) new
@@ -93,18 +93,19 @@ module _ (given : Given) (world : World) (in_order : IsInOrder world) where
       → is_used world used.Order asked.order ≡ false → row_of world asked.key ≡ Some row → trip_of world asked.key ≡ None
       → IfMade P (send_order world asked row jobs)
   sends_order asked row jobs unused there idle =
-      made_found P _ _ _ (λ layout is_set. made_planned P _ _ (λ trip is_plan.
+      made_refuse_if_none P _ _ _ (λ layout is_set. made_planned P _ _ (λ trip is_plan.
       sends_trip asked row jobs trip unused there idle (plan_of_order layout asked.key jobs asked.stops asked.order row.node asked.edges trip is_plan)))
 
   takes_order : (asked : AskedOrder) (row : VehicleRow) (jobs : List Job)
       → is_used world used.Order asked.order ≡ false → row_of world asked.key ≡ Some row → IfMade P (take_order world asked row jobs)
   takes_order asked row jobs unused there =
-      made_require P _ _ _ (λ a. made_require P _ _ _ (λ b. made_require P _ _ _ (λ idle. made_require P _ _ _ (λ c. made_require P _ _ _ (λ d. made_require P _ _ _ (λ e. made_require P _ _ _ (λ f.
+      made_refuse_unless P _ _ _ (λ a. made_refuse_unless P _ _ _ (λ b. made_refuse_unless P _ _ _ (λ idle.
+      made_refuse_unless P _ _ _ (λ c. made_refuse_unless P _ _ _ (λ d. made_refuse_unless P _ _ _ (λ e. made_refuse_unless P _ _ _ (λ f.
       sends_order asked row jobs unused there (missing _ idle))))))))
 
   pub starts_order : (asked : AskedOrder) → IfMade P (start_order world asked)
   starts_order asked =
-      made_require P _ _ _ (λ unused. made_found P _ _ _ (λ row there. made_require P _ _ _ (λ fit. made_found P _ _ _ (λ jobs are.
+      made_refuse_unless P _ _ _ (λ unused. made_refuse_if_none P _ _ _ (λ row there. made_refuse_unless P _ _ _ (λ fit. made_refuse_if_none P _ _ _ (λ jobs are.
       takes_order asked row jobs (not_true _ unused) there))))
 
   -- the trip of an order is the open trip
@@ -119,7 +120,7 @@ module _ (given : Given) (world : World) (in_order : IsInOrder world) where
   sends_update : (at : ℕ) (key : VehicleKey) (row : VehicleRow) (trip : Trip) (update edges : ℕ) → row_of world key ≡ Some row → trip_of world key ≡ Some trip
       → IfMade P (send_update world at key row trip update edges)
   sends_update at key row trip update edges there same =
-      made_require P _ _ _ (λ a. made_unheld P _ _ (λ opened. made_found P _ _ _ (λ number next.
+      made_refuse_unless P _ _ _ (λ a. made_unheld P _ _ (λ opened. made_refuse_if_none P _ _ _ (λ number next.
       let new = sent_on row at number (Some (released trip edges)) in
       leads given world in_order _ (lays_none world)
       (puts given world in_order key (Some (vehicle_with row (Some trip))) new
@@ -130,5 +131,6 @@ module _ (given : Given) (world : World) (in_order : IsInOrder world) where
 
   pub advances_trip : (at : ℕ) (key : VehicleKey) (order : List ℕ) (update edges : ℕ) → IfMade P (advance world at key order update edges)
   advances_trip at key order update edges =
-      made_found P _ _ _ (λ row there. made_found P _ _ _ (λ trip is_trip. made_require P _ _ _ (λ a. made_require P _ _ _ (λ b. made_require P _ _ _ (λ c. made_require P _ _ _ (λ d.
+      made_refuse_if_none P _ _ _ (λ row there. made_refuse_if_none P _ _ _ (λ trip is_trip. made_refuse_unless P _ _ _ (λ a.
+      made_refuse_unless P _ _ _ (λ b. made_refuse_unless P _ _ _ (λ c. made_refuse_unless P _ _ _ (λ d.
       sends_update at key row trip update edges there (trip_is (trip_of world key) order trip is_trip)))))))

@@ -21,7 +21,7 @@ use Rattle.agv_desk.specs.VehicleSteps.{new_vehicle, placed, register_vehicle, p
 use Rattle.agv_desk.proofs.row_changes.Effects.{LeadsTo, lays_none, touches_none}
 use Rattle.agv_desk.proofs.row_changes.Given.{Given}
 use Rattle.agv_desk.proofs.outcomes.Known.{vehicle_with, known, unknown}
-use Rattle.agv_desk.proofs.outcomes.Ladders.{IfMade, made_require, made_found, made_checked, made_unheld, made_judged}
+use Rattle.agv_desk.proofs.outcomes.Ladders.{IfMade, made_refuse_unless, made_refuse_if_none, made_checked, made_unheld, made_judged}
 use Rattle.agv_desk.proofs.row_changes.Steps.{missing, leads, notes, puts}
 
 module _ (given : Given) (world : World) (in_order : IsInOrder world) where
@@ -30,57 +30,59 @@ module _ (given : Given) (world : World) (in_order : IsInOrder world) where
 
   -- ---- loads and jobs
   pub registers_load : (load : List ℕ) (station : Option (List ℕ)) → IfMade P (register_load world load station)
-  registers_load load station = made_checked P _ _ (made_require P _ _ _ (λ few. leads given world in_order _ (lays_none world) (touches_none world)))
+  registers_load load station = made_checked P _ _ (made_refuse_unless P _ _ _ (λ few. leads given world in_order _ (lays_none world) (touches_none world)))
 
   pub corrects_load : (load reference : List ℕ) (station : Option (List ℕ)) → IfMade P (correct_load world load reference station)
   corrects_load load reference station =
-      made_require P _ _ _ (λ new. made_checked P _ _ (made_require P _ _ _ (λ few. leads given world in_order _ (lays_none world) (touches_none world))))
+      made_refuse_unless P _ _ _ (λ new. made_checked P _ _ (made_refuse_unless P _ _ _ (λ few. leads given world in_order _ (lays_none world) (touches_none world))))
 
   pub lets_load_leave : (load reference : List ℕ) → IfMade P (leave_load world load reference)
   lets_load_leave load reference =
-      made_require P _ _ _ (λ new. made_checked P _ _ (made_require P _ _ _ (λ few. leads given world in_order _ (lays_none world) (touches_none world))))
+      made_refuse_unless P _ _ _ (λ new. made_checked P _ _ (made_refuse_unless P _ _ _ (λ few. leads given world in_order _ (lays_none world) (touches_none world))))
 
   pub adds_job : (job load to : List ℕ) → IfMade P (add_job world job load to)
   adds_job job load to =
-      made_checked P _ _ (made_found P _ _ _ (λ origin is. made_require P _ _ _ (λ few. leads given world in_order _ (lays_none world) (touches_none world))))
+      made_checked P _ _ (made_refuse_if_none P _ _ _ (λ origin is. made_refuse_unless P _ _ _ (λ few. leads given world in_order _ (lays_none world) (touches_none world))))
 
   pub stops_job : (job : List ℕ) → IfMade P (stop_job world job)
-  stops_job job = made_found P _ _ _ (λ row is. made_require P _ _ _ (λ waits. leads given world in_order _ (lays_none world) (touches_none world)))
+  stops_job job = made_refuse_if_none P _ _ _ (λ row is. made_refuse_unless P _ _ _ (λ waits. leads given world in_order _ (lays_none world) (touches_none world)))
 
   pub takes_stock : (reference : List ℕ) (rows : List Row) → IfMade P (take_stock world reference rows)
   takes_stock reference rows =
-      made_require P _ _ _ (λ a. made_require P _ _ _ (λ b. made_require P _ _ _ (λ c. made_require P _ _ _ (λ d. made_require P _ _ _ (λ e. made_require P _ _ _ (λ f. made_require P _ _ _ (λ g.
+      made_refuse_unless P _ _ _ (λ a. made_refuse_unless P _ _ _ (λ b. made_refuse_unless P _ _ _ (λ c.
+      made_refuse_unless P _ _ _ (λ d. made_refuse_unless P _ _ _ (λ e. made_refuse_unless P _ _ _ (λ f. made_refuse_unless P _ _ _ (λ g.
       leads given world in_order _ (lays_none world) (touches_none world))))))))
 
   -- ---- what is only told
   pub tells_order : (key : VehicleKey) → IfMade P (get_order world key)
-  tells_order key = made_found P _ _ _ (λ row is. leads given world in_order _ (lays_none world) (touches_none world))
+  tells_order key = made_refuse_if_none P _ _ _ (λ row is. leads given world in_order _ (lays_none world) (touches_none world))
 
   pub tells_instant : (key : VehicleKey) → IfMade P (get_instant world key)
-  tells_instant key = made_found P _ _ _ (λ row is. leads given world in_order _ (lays_none world) (touches_none world))
+  tells_instant key = made_refuse_if_none P _ _ _ (λ row is. leads given world in_order _ (lays_none world) (touches_none world))
 
   pub tells_load : (load : List ℕ) → IfMade P (get_load world load)
-  tells_load load = made_found P _ _ _ (λ place is. leads given world in_order _ (lays_none world) (touches_none world))
+  tells_load load = made_refuse_if_none P _ _ _ (λ place is. leads given world in_order _ (lays_none world) (touches_none world))
 
   pub tells_vehicle : (key : VehicleKey) → IfMade P (get_vehicle world key)
-  tells_vehicle key = made_found P _ _ _ (λ row is. leads given world in_order _ (lays_none world) (touches_none world))
+  tells_vehicle key = made_refuse_if_none P _ _ _ (λ row is. leads given world in_order _ (lays_none world) (touches_none world))
 
   -- ---- the row of a vehicle
   pub instructs : (at : ℕ) (key : VehicleKey) (row : VehicleRow) (kind : InstantKind) → row_of world key ≡ Some row → IfMade P (instruct at key row kind)
   instructs at key row kind there =
-      made_require P _ _ _ (λ free. made_found P _ _ _ (λ number is. leads given world in_order _ (lays_none world) (notes given world in_order key row _ there refl refl)))
+      made_refuse_unless P _ _ _ (λ free.
+      made_refuse_if_none P _ _ _ (λ number is. leads given world in_order _ (lays_none world) (notes given world in_order key row _ there refl refl)))
 
   pub cancels : (at : ℕ) (key : VehicleKey) → IfMade P (cancel world at key)
-  cancels at key = made_found P _ _ _ (λ row there. made_require P _ _ _ (λ has. instructs at key row _ there))
+  cancels at key = made_refuse_if_none P _ _ _ (λ row there. made_refuse_unless P _ _ _ (λ has. instructs at key row _ there))
 
   pub pauses : (at : ℕ) (key : VehicleKey) → IfMade P (pause world at key)
-  pauses at key = made_found P _ _ _ (λ row there. instructs at key row _ there)
+  pauses at key = made_refuse_if_none P _ _ _ (λ row there. instructs at key row _ there)
 
   pub resumes : (at : ℕ) (key : VehicleKey) → IfMade P (resume world at key)
-  resumes at key = made_found P _ _ _ (λ row there. instructs at key row _ there)
+  resumes at key = made_refuse_if_none P _ _ _ (λ row there. instructs at key row _ there)
 
   pub begins_anew : (key : VehicleKey) → IfMade P (resync world key)
-  begins_anew key = made_found P _ _ _ (λ row there. leads given world in_order _ (lays_none world) (notes given world in_order key row _ there refl refl))
+  begins_anew key = made_refuse_if_none P _ _ _ (λ row there. leads given world in_order _ (lays_none world) (notes given world in_order key row _ there refl refl))
 
   pub takes_idle : (key : VehicleKey) (row : VehicleRow) (state : StateMessage) → row_of world key ≡ Some row → IfMade P (idle_state key row state)
   takes_idle key row state there =
@@ -90,7 +92,7 @@ module _ (given : Given) (world : World) (in_order : IsInOrder world) where
   pub registers_vehicle : (seats : ℕ) (key : VehicleKey) (node : List ℕ) (capacity : ℕ) → IfMade P (register_vehicle seats world key node capacity)
   unfolding footprint_of
   registers_vehicle seats key node capacity =
-      made_require P _ _ _ (λ free. made_require P _ _ _ (λ known_node. made_unheld P _ _ (λ opened. made_require P _ _ _ (λ few.
+      made_refuse_unless P _ _ _ (λ free. made_refuse_unless P _ _ _ (λ known_node. made_unheld P _ _ (λ opened. made_refuse_unless P _ _ _ (λ few.
       let new = new_vehicle capacity node in
       leads given world in_order _ (lays_none world)
       (puts given world in_order key None new (unknown world key (missing _ free)) (given.without world key new in_order.one_trip refl) (given.by_claim world key new in_order.apart opened) tt)))))
@@ -98,7 +100,8 @@ module _ (given : Given) (world : World) (in_order : IsInOrder world) where
   pub places_vehicle : (key : VehicleKey) (reference node : List ℕ) → IfMade P (place_vehicle world key reference node)
   unfolding footprint_of
   places_vehicle key reference node =
-      made_require P _ _ _ (λ new_reference. made_found P _ _ _ (λ row there. made_require P _ _ _ (λ known_node. made_unheld P _ _ (λ opened. made_require P _ _ _ (λ few.
+      made_refuse_unless P _ _ _ (λ new_reference. made_refuse_if_none P _ _ _ (λ row there.
+      made_refuse_unless P _ _ _ (λ known_node. made_unheld P _ _ (λ opened. made_refuse_unless P _ _ _ (λ few.
       let new = placed row node in
       leads given world in_order _ (lays_none world)
       (puts given world in_order key (Some (vehicle_with row (trip_of world key))) new (known world key row there) (given.without world key new in_order.one_trip refl) (given.by_claim world key new in_order.apart opened) (ended (trip_of world key))))))))

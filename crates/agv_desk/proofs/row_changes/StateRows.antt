@@ -24,7 +24,7 @@ use Rattle.agv_desk.specs.StateSteps.{pending_of, row_after, trip_left, trip_sta
 use Rattle.agv_desk.proofs.row_changes.Effects.{LeadsTo, lays_none, touches_none}
 use Rattle.agv_desk.proofs.row_changes.Given.{Given}
 use Rattle.agv_desk.proofs.outcomes.Known.{none_some, same_some, vehicle_with, known, has_trip}
-use Rattle.agv_desk.proofs.outcomes.Ladders.{IfMade, made_require, made_found, made_branch, made_judged}
+use Rattle.agv_desk.proofs.outcomes.Ladders.{IfMade, made_refuse_unless, made_refuse_if_none, made_branch, made_judged}
 use Rattle.agv_desk.proofs.row_changes.PlainSteps.{takes_idle}
 use Rattle.agv_desk.proofs.row_changes.Steps.{leads, puts}
 
@@ -125,9 +125,9 @@ module _ (given : Given) (world : World) (in_order : IsInOrder world) where
   pub takes_fresh : (key : VehicleKey) (row : VehicleRow) (state : StateMessage) → row_of world key ≡ Some row → (trip : Option Trip) → trip_of world key ≡ trip → IfMade P (fresh_state world key row trip state)
   takes_fresh key row state there None same = takes_idle given world in_order key row state there
   takes_fresh key row state there (Some trip) same =
-      made_branch P _ _ _ (goes_on_trip key row trip state there same) (made_require P _ _ _ (λ fresh. takes_idle given world in_order key row state there))
+      made_branch P _ _ _ (goes_on_trip key row trip state there same) (made_refuse_unless P _ _ _ (λ fresh. takes_idle given world in_order key row state there))
 
   pub takes_state : (key : VehicleKey) (state : StateMessage) → IfMade P (take_state world key state)
   takes_state key state =
-      made_found P _ _ _ (λ row there. made_branch P _ _ _ (takes_fresh key row state there (trip_of world key) refl)
+      made_refuse_if_none P _ _ _ (λ row there. made_branch P _ _ _ (takes_fresh key row state there (trip_of world key) refl)
       (leads given world in_order _ (lays_none world) (touches_none world)))

@@ -34,13 +34,13 @@ use Rattle.agv_desk.proofs.lists.Writes.{none_passes, one_if}
 err_ok : {X : Type 0} (why : Refusal) → ◌≡◌ {A = Checked} (Err why) (Ok tt) → X
 err_ok why e = cc
 
-passed_test : (test : Bool) (why : Refusal) (rest : Checked) → check.check_that test why rest ≡ Ok tt → (test ≡ true) × (rest ≡ Ok tt)
-passed_test true why rest e = (refl, e)
-passed_test false why rest e = err_ok why e
+passed_check_that : (test : Bool) (why : Refusal) (rest : Checked) → check.check_that test why rest ≡ Ok tt → (test ≡ true) × (rest ≡ Ok tt)
+passed_check_that true why rest e = (refl, e)
+passed_check_that false why rest e = err_ok why e
 
-passed_found : (known : Option Place) (rest : Place → Checked) → check.check_load known rest ≡ Ok tt → (at : Place) × (known ≡ Some at) × (rest at ≡ Ok tt)
-passed_found None rest e = err_ok _ e
-passed_found (Some at) rest e = (at, refl, e)
+passed_check_load : (known : Option Place) (rest : Place → Checked) → check.check_load known rest ≡ Ok tt → (at : Place) × (known ≡ Some at) × (rest at ≡ Ok tt)
+passed_check_load None rest e = err_ok _ e
+passed_check_load (Some at) rest e = (at, refl, e)
 
 pub not_there : {A : Type 0} (there : Option A) → not (is_some there) ≡ true → there ≡ None
 not_there None e = refl
@@ -49,40 +49,40 @@ not_there (Some x) e = absurd (false≢true e)
 -- a load that is registered is new, and fits where it goes
 pub registers : (known : Option Place) (goal : Goal) → check.register_check known goal ≡ Ok tt → (known ≡ None) × (is_known goal ≡ true) × (has_room goal ≡ true)
 registers known goal e =
-    let new = passed_test _ _ _ e in
-    let there = passed_test _ _ _ new.1 in
-    let room = passed_test _ _ _ there.1 in
+    let new = passed_check_that _ _ _ e in
+    let there = passed_check_that _ _ _ new.1 in
+    let room = passed_check_that _ _ _ there.1 in
     (not_there known new.0, there.0, room.0)
 
 -- a load whose place is corrected is known and in no job, and fits where it goes
 pub corrects : (known : Option Place) (live : Bool) (goal : Goal) → check.correct_check known live goal ≡ Ok tt → (at : Place) × (known ≡ Some at) × (live ≡ false) × (is_known goal ≡ true) × (has_room goal ≡ true)
 corrects known live goal e =
-    let found = passed_found known _ e in
-    let there = passed_test _ _ _ found.2 in
-    let stays = passed_test _ _ _ there.1 in
-    let free = passed_test _ _ _ stays.1 in
-    let other = passed_test _ _ _ free.1 in
-    let room = passed_test _ _ _ other.1 in
+    let found = passed_check_load known _ e in
+    let there = passed_check_that _ _ _ found.2 in
+    let stays = passed_check_that _ _ _ there.1 in
+    let free = passed_check_that _ _ _ stays.1 in
+    let other = passed_check_that _ _ _ free.1 in
+    let room = passed_check_that _ _ _ other.1 in
     (found.0, found.1, not-true live free.0, there.0, room.0)
 
 -- a load that leaves is known and in no job
 pub leaves : (known : Option Place) (live : Bool) → check.leave_check known live ≡ Ok tt → (at : Place) × (known ≡ Some at) × (live ≡ false)
 leaves known live e =
-    let found = passed_found known _ e in
-    let stays = passed_test _ _ _ found.2 in
-    let free = passed_test _ _ _ stays.1 in
+    let found = passed_check_load known _ e in
+    let stays = passed_check_that _ _ _ found.2 in
+    let free = passed_check_that _ _ _ stays.1 in
     (found.0, found.1, not-true live free.0)
 
 -- a job that is added is new, its load is in no job, and fits where it goes
 pub adds : (job_known : Bool) (known : Option Place) (live : Bool) (goal : Goal) → check.job_check job_known known live goal ≡ Ok tt → (job_known ≡ false) × (live ≡ false) × (is_known goal ≡ true) × (has_room goal ≡ true)
 adds job_known known live goal e =
-    let new = passed_test _ _ _ e in
-    let found = passed_found known _ new.1 in
-    let there = passed_test _ _ _ found.2 in
-    let stands = passed_test _ _ _ there.1 in
-    let free = passed_test _ _ _ stands.1 in
-    let other = passed_test _ _ _ free.1 in
-    let room = passed_test _ _ _ other.1 in
+    let new = passed_check_that _ _ _ e in
+    let found = passed_check_load known _ new.1 in
+    let there = passed_check_that _ _ _ found.2 in
+    let stands = passed_check_that _ _ _ there.1 in
+    let free = passed_check_that _ _ _ stands.1 in
+    let other = passed_check_that _ _ _ free.1 in
+    let room = passed_check_that _ _ _ other.1 in
     (not-true job_known new.0, not-true live free.0, there.0, room.0)
 
 -- a load that stands at a station is there

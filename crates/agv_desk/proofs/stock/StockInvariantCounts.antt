@@ -28,7 +28,7 @@ use Rattle.agv_desk.proofs.stocktakes.CountedRoom.{counted_few}
 use Rattle.agv_desk.proofs.stocktakes.CountedWhole.{passes}
 use Rattle.agv_desk.proofs.outcomes.Keeping.{KeepsStock}
 use Rattle.agv_desk.proofs.outcomes.Known.{none_some}
-use Rattle.agv_desk.proofs.outcomes.Ladders.{IfMade, made_require}
+use Rattle.agv_desk.proofs.outcomes.Ladders.{IfMade, made_refuse_unless}
 use Rattle.agv_desk.proofs.lists.SameNames.{same_name, name_itself}
 use Rattle.agv_desk.proofs.stock.Shifts.{live_if_riding, live_if_waiting, stands_still}
 use Rattle.agv_desk.proofs.stock.StockChecks.{free_if}
@@ -272,7 +272,8 @@ module _ (world : World) (stock : HasStockInvariant world) where
   pub stocktake_keeps : (reference : List ℕ) (rows : List Row) → IfMade (KeepsStock world) (take_stock world reference rows)
   stocktake_keeps reference rows =
       let P : Effect → Type 0 = KeepsStock world in
-      made_require P _ _ _ (λ new. made_require P _ _ _ (λ known. made_require P _ _ _ (λ one_each. made_require P _ _ _ (λ ashore. made_require P _ _ _ (λ free. made_require P _ _ _ (λ room. made_require P _ _ _ (λ few.
+      made_refuse_unless P _ _ _ (λ new. made_refuse_unless P _ _ _ (λ known. made_refuse_unless P _ _ _ (λ one_each.
+      made_refuse_unless P _ _ _ (λ ashore. made_refuse_unless P _ _ _ (λ free. made_refuse_unless P _ _ _ (λ room. made_refuse_unless P _ _ _ (λ few.
       let moves = count_moves world rows in
       let all = all_moves world rows known in
       record {

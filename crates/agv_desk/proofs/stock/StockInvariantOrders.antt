@@ -24,7 +24,7 @@ use Rattle.agv_desk.specs.Outcomes.{Effect, Outcome}
 use Rattle.agv_desk.proofs.stock.StockInvariantTrips.{FitsAsSaid, depart}
 use Rattle.agv_desk.proofs.outcomes.Keeping.{KeepsStock}
 use Rattle.agv_desk.proofs.outcomes.Known.{known, vehicle_with}
-use Rattle.agv_desk.proofs.outcomes.Ladders.{IfMade, made_found, made_require, made_unheld}
+use Rattle.agv_desk.proofs.outcomes.Ladders.{IfMade, made_refuse_if_none, made_refuse_unless, made_unheld}
 use Rattle.agv_desk.proofs.trip_acts.OrderJobs.{acts_begin, begins, riding_is, stops_made, stops_wait}
 use Rattle.agv_desk.proofs.trip_acts.Starts.{starts}
 use Rattle.agv_desk.proofs.row_changes.Steps.{missing}
@@ -66,7 +66,7 @@ module _ (fits : FitsAsSaid) (plans : PlansGoByRoutes) (world : World) (stock : 
         starts world stock asked.key trip.acts stops (ap action_views_for here) (stops_made world stops jobs read layout row.node 0 stops trip.edges trip.acts plan.goes) can
         (acts_begin world stops jobs read layout row.node 0 stops trip.edges trip.acts plan.goes)
         (stops_wait world stops jobs read wait) (subst (λ n. loads_on_vehicle world.places asked.key + count_by stop_picks stops ≤ n) (sym (ap capacity_for here)) free) in
-        made_unheld P _ _ (λ opened. made_found P _ _ _ (λ number next. made_require P _ _ _ (λ few.
+        made_unheld P _ _ (λ opened. made_refuse_if_none P _ _ _ (λ number next. made_refuse_unless P _ _ _ (λ few.
         let after = with_vehicle world asked.key (sent_on row asked.at number (Some trip)) in
         record {
           stock =
@@ -76,10 +76,11 @@ module _ (fits : FitsAsSaid) (plans : PlansGoByRoutes) (world : World) (stock : 
         })))
 
     order_keeps : IfMade P (send_order world asked row jobs)
-    order_keeps = made_found P _ _ _ (λ layout is_set. made_planned P _ _ (λ trip is. trip_keeps layout trip is))
+    order_keeps = made_refuse_if_none P _ _ _ (λ layout is_set. made_planned P _ _ (λ trip is. trip_keeps layout trip is))
 
   pub start_keeps : (asked : AskedOrder) → IfMade P (start_order world asked)
   start_keeps asked =
-      made_require P _ _ _ (λ unused. made_found P _ _ _ (λ row there. made_require P _ _ _ (λ fit. made_found P _ _ _ (λ jobs read.
-      made_require P _ _ _ (λ new. made_require P _ _ _ (λ wait. made_require P _ _ _ (λ idle. made_require P _ _ _ (λ no_rest. made_require P _ _ _ (λ free. made_require P _ _ _ (λ ready. made_require P _ _ _ (λ going.
+      made_refuse_unless P _ _ _ (λ unused. made_refuse_if_none P _ _ _ (λ row there. made_refuse_unless P _ _ _ (λ fit. made_refuse_if_none P _ _ _ (λ jobs read.
+      made_refuse_unless P _ _ _ (λ new. made_refuse_unless P _ _ _ (λ wait. made_refuse_unless P _ _ _ (λ idle. made_refuse_unless P _ _ _ (λ no_rest.
+      made_refuse_unless P _ _ _ (λ free. made_refuse_unless P _ _ _ (λ ready. made_refuse_unless P _ _ _ (λ going.
       order_keeps asked row jobs there (missing _ idle) ((fits asked.stops).0 fit) read wait (capacity_on_vehicle world asked.key (count_by stop_picks asked.stops) row.capacity free))))))))))))

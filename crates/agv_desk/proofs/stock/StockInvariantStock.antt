@@ -26,7 +26,7 @@ use Rattle.agv_desk.specs.Outcomes.{Effect}
 use Rattle.agv_desk.proofs.stock.StockInvariantChanges.{job_kept, place_kept}
 use Rattle.agv_desk.proofs.outcomes.Keeping.{KeepsStock}
 use Rattle.agv_desk.proofs.outcomes.Known.{none_some}
-use Rattle.agv_desk.proofs.outcomes.Ladders.{IfMade, made_found, made_passed, made_require}
+use Rattle.agv_desk.proofs.outcomes.Ladders.{IfMade, made_refuse_if_none, made_passed, made_refuse_unless}
 use Rattle.agv_desk.proofs.stock.StockChecks.{adds, corrects, fits_more, free_if, goal_fits, goal_known, leaves, registers, station_there}
 use Rattle.agv_desk.proofs.lists.Writes.{is_written, len-written, len-written-le}
 
@@ -84,7 +84,7 @@ module _ (world : World) (stock : HasStockInvariant world) where
   -- ---- loads
   pub register_keeps : (load : List ℕ) (station : Option (List ℕ)) → IsName load → IfMade P (register_load world load station)
   register_keeps load station named =
-      made_passed P _ _ (λ passed. made_require P _ _ _ (λ few.
+      made_passed P _ _ (λ passed. made_refuse_unless P _ _ _ (λ few.
       let is = registers _ _ passed in
       let to = place_of station in
       record {
@@ -104,7 +104,7 @@ module _ (world : World) (stock : HasStockInvariant world) where
 
   pub correct_keeps : (load reference : List ℕ) (station : Option (List ℕ)) → IfMade P (correct_load world load reference station)
   correct_keeps load reference station =
-      made_require P _ _ _ (λ new. made_passed P _ _ (λ passed. made_require P _ _ _ (λ few.
+      made_refuse_unless P _ _ _ (λ new. made_passed P _ _ (λ passed. made_refuse_unless P _ _ _ (λ few.
       let is = corrects _ _ _ passed in
       let to = place_of station in
       record {
@@ -124,7 +124,7 @@ module _ (world : World) (stock : HasStockInvariant world) where
 
   pub leave_keeps : (load reference : List ℕ) → IfMade P (leave_load world load reference)
   leave_keeps load reference =
-      made_require P _ _ _ (λ new. made_passed P _ _ (λ passed. made_require P _ _ _ (λ few.
+      made_refuse_unless P _ _ _ (λ new. made_passed P _ _ (λ passed. made_refuse_unless P _ _ _ (λ few.
       let is = leaves _ _ passed in
       record {
         stock = place_kept world.layout (action_views_of world) (capacity_of world) world.places world.jobs stock (record {
@@ -144,7 +144,7 @@ module _ (world : World) (stock : HasStockInvariant world) where
   -- ---- jobs
   pub add_keeps : (job load to : List ℕ) → IsName job → IfMade P (add_job world job load to)
   add_keeps job load to named =
-      made_passed P _ _ (λ passed. made_found P _ _ _ (λ origin stands. made_require P _ _ _ (λ few.
+      made_passed P _ _ (λ passed. made_refuse_if_none P _ _ _ (λ origin stands. made_refuse_unless P _ _ _ (λ few.
       let is = adds _ _ _ _ passed in
       let row : JobRow = record { load = load; origin = origin; target = to; phase = Waiting } in
       let at = station_there (finite.get world.places load) origin stands in
@@ -168,7 +168,7 @@ module _ (world : World) (stock : HasStockInvariant world) where
 
   pub stop_keeps : (job : List ℕ) → IfMade P (stop_job world job)
   stop_keeps job =
-      made_found P _ _ _ (λ old there. made_require P _ _ _ (λ waits.
+      made_refuse_if_none P _ _ _ (λ old there. made_refuse_unless P _ _ _ (λ waits.
       let row : JobRow = record old { phase = Stopped } in
       let known = stock.known job old there in
       record {

@@ -33,7 +33,7 @@ use Rattle.agv_desk.proofs.trip_acts.FitStops.{Fit, fit_of}
 use Rattle.agv_desk.proofs.row_changes.Given.{AdvancesTrips}
 use Rattle.agv_desk.proofs.outcomes.Keeping.{KeepsStock}
 use Rattle.agv_desk.proofs.outcomes.Known.{known, vehicle_with}
-use Rattle.agv_desk.proofs.outcomes.Ladders.{IfMade, made_branch, made_found, made_judged, made_require, made_unheld}
+use Rattle.agv_desk.proofs.outcomes.Ladders.{IfMade, made_branch, made_refuse_if_none, made_judged, made_refuse_unless, made_unheld}
 use Rattle.agv_desk.proofs.trip_acts.TripActs.{after_picks, all_after_is, no_moves, same_before, same_renews, same_stops, zip_before, zip_renews, zip_stops}
 use Rattle.agv_desk.proofs.trip_acts.WalkSteps.{Now, with_action_views, with_here, with_there}
 use Rattle.agv_desk.proofs.trip_acts.Walks.{walk, walk_off}
@@ -145,11 +145,11 @@ module _ (fits : FitsAsSaid) (advances : AdvancesTrips) (seats : ℕ) (world : W
   fresh_keeps key row state there None same = idle_keeps world stock key row state there
   fresh_keeps key row state there (Some trip) same =
       made_branch P _ _ _ (trip_state_keeps key row trip (known world key row there ∙ ap (λ t. Some (vehicle_with row t)) same) state)
-      (made_require P _ _ _ (λ fresh. idle_keeps world stock key row state there))
+      (made_refuse_unless P _ _ _ (λ fresh. idle_keeps world stock key row state there))
 
   pub state_keeps : (key : VehicleKey) (state : StateMessage) → IfMade P (take_state world key state)
   state_keeps key state =
-      made_found P _ _ _ (λ row there. made_branch P _ _ _ (fresh_keeps key row state there (trip_of world key) refl) (record { stock = stock }))
+      made_refuse_if_none P _ _ _ (λ row there. made_branch P _ _ _ (fresh_keeps key row state there (trip_of world key) refl) (record { stock = stock }))
 
   -- ---- a vehicle is placed, and its trip ends as it stands
 
@@ -167,5 +167,6 @@ module _ (fits : FitsAsSaid) (advances : AdvancesTrips) (seats : ℕ) (world : W
 
   pub place_keeps : (key : VehicleKey) (reference node : List ℕ) → IfMade P (place_vehicle world key reference node)
   place_keeps key reference node =
-      made_require P _ _ _ (λ new_reference. made_found P _ _ _ (λ row there. made_require P _ _ _ (λ known_node. made_unheld P _ _ (λ opened. made_require P _ _ _ (λ few.
+      made_refuse_unless P _ _ _ (λ new_reference. made_refuse_if_none P _ _ _ (λ row there.
+      made_refuse_unless P _ _ _ (λ known_node. made_unheld P _ _ (λ opened. made_refuse_unless P _ _ _ (λ few.
       record { stock = placed_keeps key row node (trip_of world key) (known world key row there) })))))

@@ -35,7 +35,7 @@ use Rattle.agv_desk.proofs.stock.StockInvariantChanges.{action_views_told, vehic
 use Rattle.agv_desk.proofs.row_changes.Given.{GivesItself}
 use Rattle.agv_desk.proofs.outcomes.Keeping.{KeepsStock}
 use Rattle.agv_desk.proofs.outcomes.Known.{none_some, same_some, unknown, vehicle_with}
-use Rattle.agv_desk.proofs.outcomes.Ladders.{IfMade, made_found, made_judged, made_require, made_unheld}
+use Rattle.agv_desk.proofs.outcomes.Ladders.{IfMade, made_refuse_if_none, made_judged, made_refuse_unless, made_unheld}
 use Rattle.agv_desk.proofs.row_changes.LayoutRows.{made_given}
 use Rattle.agv_desk.proofs.row_changes.Steps.{missing}
 use Rattle.agv_desk.proofs.lists.Writes.{tally-none}
@@ -70,16 +70,16 @@ module _ (world : World) (stock : HasStockInvariant world) where
   tells answer = record { stock = stock }
 
   pub order_keeps : (key : VehicleKey) → IfMade P (get_order world key)
-  order_keeps key = made_found P _ _ _ (λ row is. tells _)
+  order_keeps key = made_refuse_if_none P _ _ _ (λ row is. tells _)
 
   pub instant_keeps : (key : VehicleKey) → IfMade P (get_instant world key)
-  instant_keeps key = made_found P _ _ _ (λ row is. tells _)
+  instant_keeps key = made_refuse_if_none P _ _ _ (λ row is. tells _)
 
   pub load_keeps : (load : List ℕ) → IfMade P (get_load world load)
-  load_keeps load = made_found P _ _ _ (λ place is. tells _)
+  load_keeps load = made_refuse_if_none P _ _ _ (λ place is. tells _)
 
   pub vehicle_keeps : (key : VehicleKey) → IfMade P (get_vehicle world key)
-  vehicle_keeps key = made_found P _ _ _ (λ row is. tells _)
+  vehicle_keeps key = made_refuse_if_none P _ _ _ (λ row is. tells _)
 
   -- ---- the row of a vehicle
   noted : (key : VehicleKey) (row new : VehicleRow) → row_of world key ≡ Some row → new.capacity ≡ row.capacity → HasStockInvariant (with_vehicle world key (vehicle_with new (trip_of world key)))
@@ -88,19 +88,19 @@ module _ (world : World) (stock : HasStockInvariant world) where
       (subst (λ n. capacity_of world key ≤ n) (sym same) (capacity_told (finite.get world.vehicles key) row is)) stock
 
   pub instruct_keeps : (at : ℕ) (key : VehicleKey) (row : VehicleRow) (kind : InstantKind) → row_of world key ≡ Some row → IfMade P (instruct at key row kind)
-  instruct_keeps at key row kind there = made_require P _ _ _ (λ free. made_found P _ _ _ (λ number is. record { stock = noted key row _ there refl }))
+  instruct_keeps at key row kind there = made_refuse_unless P _ _ _ (λ free. made_refuse_if_none P _ _ _ (λ number is. record { stock = noted key row _ there refl }))
 
   pub cancel_keeps : (at : ℕ) (key : VehicleKey) → IfMade P (cancel world at key)
-  cancel_keeps at key = made_found P _ _ _ (λ row there. made_require P _ _ _ (λ has. instruct_keeps at key row _ there))
+  cancel_keeps at key = made_refuse_if_none P _ _ _ (λ row there. made_refuse_unless P _ _ _ (λ has. instruct_keeps at key row _ there))
 
   pub pause_keeps : (at : ℕ) (key : VehicleKey) → IfMade P (pause world at key)
-  pause_keeps at key = made_found P _ _ _ (λ row there. instruct_keeps at key row _ there)
+  pause_keeps at key = made_refuse_if_none P _ _ _ (λ row there. instruct_keeps at key row _ there)
 
   pub resume_keeps : (at : ℕ) (key : VehicleKey) → IfMade P (resume world at key)
-  resume_keeps at key = made_found P _ _ _ (λ row there. instruct_keeps at key row _ there)
+  resume_keeps at key = made_refuse_if_none P _ _ _ (λ row there. instruct_keeps at key row _ there)
 
   pub resync_keeps : (key : VehicleKey) → IfMade P (resync world key)
-  resync_keeps key = made_found P _ _ _ (λ row there. record { stock = noted key row _ there refl })
+  resync_keeps key = made_refuse_if_none P _ _ _ (λ row there. record { stock = noted key row _ there refl })
 
   pub idle_keeps : (key : VehicleKey) (row : VehicleRow) (state : StateMessage) → row_of world key ≡ Some row → IfMade P (idle_state key row state)
   idle_keeps key row state there = made_judged P _ _ (λ over is. record { stock = noted key row (with_state row state over) there refl })
@@ -108,14 +108,14 @@ module _ (world : World) (stock : HasStockInvariant world) where
   -- ---- a new vehicle
   pub register_keeps : (seats : ℕ) (key : VehicleKey) (node : List ℕ) (capacity : ℕ) → IfMade P (register_vehicle seats world key node capacity)
   register_keeps seats key node capacity =
-      made_require P _ _ _ (λ free. made_require P _ _ _ (λ known_node. made_unheld P _ _ (λ opened. made_require P _ _ _ (λ few.
+      made_refuse_unless P _ _ _ (λ free. made_refuse_unless P _ _ _ (λ known_node. made_unheld P _ _ (λ opened. made_refuse_unless P _ _ _ (λ few.
       let none = unknown world key (missing _ free) in
       record { stock = vehicle_kept world key (new_vehicle capacity node) (ap action_views_for (sym none)) (no_places (finite.get world.vehicles key) capacity none) stock }))))
 
   -- ---- an update of a trip
   send_keeps : (at : ℕ) (key : VehicleKey) (row : VehicleRow) (trip : Trip) (update edges : ℕ) → row_of world key ≡ Some row → trip_of world key ≡ Some trip → IfMade P (send_update world at key row trip update edges)
   send_keeps at key row trip update edges there same =
-      made_require P _ _ _ (λ can. made_unheld P _ _ (λ opened. made_found P _ _ _ (λ number is.
+      made_refuse_unless P _ _ _ (λ can. made_unheld P _ _ (λ opened. made_refuse_if_none P _ _ _ (λ number is.
       record {
         stock = vehicle_kept world key (sent_on row at number (Some (released trip edges))) (ap action_views_by (sym same) ∙ action_views_told (finite.get world.vehicles key))
             (capacity_told (finite.get world.vehicles key) row there) stock;
@@ -123,7 +123,8 @@ module _ (world : World) (stock : HasStockInvariant world) where
 
   pub advance_keeps : (at : ℕ) (key : VehicleKey) (order : List ℕ) (update edges : ℕ) → IfMade P (advance world at key order update edges)
   advance_keeps at key order update edges =
-      made_found P _ _ _ (λ row there. made_found P _ _ _ (λ trip is. made_require P _ _ _ (λ next. made_require P _ _ _ (λ confirmed. made_require P _ _ _ (λ ready. made_require P _ _ _ (λ going.
+      made_refuse_if_none P _ _ _ (λ row there. made_refuse_if_none P _ _ _ (λ trip is. made_refuse_unless P _ _ _ (λ next.
+      made_refuse_unless P _ _ _ (λ confirmed. made_refuse_unless P _ _ _ (λ ready. made_refuse_unless P _ _ _ (λ going.
       send_keeps at key row trip update edges there (trip_open (trip_of world key) order trip is)))))))
 
 -- ---- the layout
@@ -178,5 +179,5 @@ module _ (gives : GivesItself) (seats : ℕ) (world : World) (lawful : HasLawful
 
   pub layout_keeps : (rows : List LayoutRow) → IfMade (KeepsStock world) (set_layout world rows)
   layout_keeps rows =
-      made_require (KeepsStock world) _ _ _ (λ unset. made_given (KeepsStock world) _ _ (λ layout read.
+      made_refuse_unless (KeepsStock world) _ _ _ (λ unset. made_given (KeepsStock world) _ _ (λ layout read.
       record { stock = with_layout_kept (is_empty gives world (missing _ unset) lawful.laid) layout }))

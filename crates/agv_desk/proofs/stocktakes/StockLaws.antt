@@ -26,10 +26,10 @@ refused_made why effect e = cc
 pub same_made : (one other : Effect) → Made one ≡ Made other → one ≡ other
 same_made one other e = cc
 
-pub require_made : (test : Bool) (why : Refusal) (rest : Outcome) (effect : Effect) → refuse_unless test why rest ≡ Made effect → (test ≡ true) × (rest ≡ Made effect)
+pub refuse_unless_made : (test : Bool) (why : Refusal) (rest : Outcome) (effect : Effect) → refuse_unless test why rest ≡ Made effect → (test ≡ true) × (rest ≡ Made effect)
 unfolding refuse_unless
-require_made true why rest effect e = (refl, e)
-require_made false why rest effect e = absurd (refused_made why effect e)
+refuse_unless_made true why rest effect e = (refl, e)
+refuse_unless_made false why rest effect e = absurd (refused_made why effect e)
 
 -- ---- the places after moves in the order of names
 abbrev pub or_else : Option Place → Option Place → Option Place
@@ -153,11 +153,11 @@ taken world rows ashore = record {
 
 pub stock_taken : (world : World) (reference : List ℕ) (rows : List Row) (effect : Effect) → take_stock world reference rows ≡ Made effect → IsStockTaken world rows (with_effect world effect).places
 stock_taken world reference rows effect made =
-    let fresh = require_made _ _ _ effect made in
-    let known = require_made _ _ _ effect fresh.1 in
-    let once = require_made _ _ _ effect known.1 in
-    let ashore = require_made _ _ _ effect once.1 in
-    let free = require_made _ _ _ effect ashore.1 in
-    let room = require_made _ _ _ effect free.1 in
-    let few = require_made _ _ _ effect room.1 in
+    let fresh = refuse_unless_made _ _ _ effect made in
+    let known = refuse_unless_made _ _ _ effect fresh.1 in
+    let once = refuse_unless_made _ _ _ effect known.1 in
+    let ashore = refuse_unless_made _ _ _ effect once.1 in
+    let free = refuse_unless_made _ _ _ effect ashore.1 in
+    let room = refuse_unless_made _ _ _ effect free.1 in
+    let few = refuse_unless_made _ _ _ effect room.1 in
     subst (λ (e : Effect). IsStockTaken world rows (with_effect world e).places) (same_made _ effect few.1) (taken world rows (not-true _ ashore.0))

@@ -22,7 +22,7 @@ use Rattle.agv_desk.specs.declared.answer.Answer.TheVariants as answer
 use Rattle.agv_desk.proofs.stocktakes.PlacedLoads.{Loads}
 use Rattle.agv_desk.proofs.stocktakes.PlacedLoads as placed
 use Rattle.agv_desk.proofs.lists.SameNames.{name_itself}
-use Rattle.agv_desk.proofs.stocktakes.StockLaws.{after, get-after, or_else, require_made, same_made}
+use Rattle.agv_desk.proofs.stocktakes.StockLaws.{after, get-after, or_else, refuse_unless_made, same_made}
 
 -- ---- one load
 
@@ -87,12 +87,12 @@ module _ (world : World) (rows : List Row) where
 pub number_told : (world : World) (reference : List ℕ) (rows : List Row) (effect : Effect) → take_stock world reference rows ≡ Made effect
     → effect.answer ≡ answer.Counted (number_moved world.places (with_effect world effect).places) (unknown_in world rows)
 number_told world reference rows effect made =
-    let fresh = require_made _ _ _ effect made in
-    let known = require_made _ _ _ effect fresh.1 in
-    let once = require_made _ _ _ effect known.1 in
-    let ashore = require_made _ _ _ effect once.1 in
-    let free = require_made _ _ _ effect ashore.1 in
-    let room = require_made _ _ _ effect free.1 in
-    let few = require_made _ _ _ effect room.1 in
+    let fresh = refuse_unless_made _ _ _ effect made in
+    let known = refuse_unless_made _ _ _ effect fresh.1 in
+    let once = refuse_unless_made _ _ _ effect known.1 in
+    let ashore = refuse_unless_made _ _ _ effect once.1 in
+    let free = refuse_unless_made _ _ _ effect ashore.1 in
+    let room = refuse_unless_made _ _ _ effect free.1 in
+    let few = refuse_unless_made _ _ _ effect room.1 in
     subst (λ (e : Effect). e.answer ≡ answer.Counted (number_moved world.places (with_effect world e).places) (unknown_in world rows)) (same_made _ effect few.1)
     (ap (λ number. answer.Counted number (unknown_in world rows)) (moved_number world rows))

@@ -35,7 +35,7 @@ use Rattle.agv_desk.proofs.trip_acts.ActionViews.{AfterPicks}
 use Rattle.agv_desk.proofs.trip_acts.FoundActs.{EachMove, Finds, each_at, turns_kept, walk_finds}
 use Rattle.agv_desk.proofs.row_changes.Given.{AdvancesTrips}
 use Rattle.agv_desk.proofs.outcomes.Known.{known, vehicle_with}
-use Rattle.agv_desk.proofs.outcomes.Ladders.{IfMade, made_branch, made_checked, made_found, made_judged, made_require, made_unheld}
+use Rattle.agv_desk.proofs.outcomes.Ladders.{IfMade, made_branch, made_checked, made_refuse_if_none, made_judged, made_refuse_unless, made_unheld}
 use Rattle.agv_desk.proofs.row_changes.LayoutRows.{made_given}
 use Rattle.agv_desk.proofs.trip_acts.TripActs.{after_picks, all_after_is, zip_renews}
 
@@ -71,75 +71,80 @@ module _ (world : World) where
 
   -- ---- loads and jobs
   registers_load : (load : List ℕ) (station : Option (List ℕ)) → IfMade P (register_load world load station)
-  registers_load load station = made_checked P _ _ (made_require P _ _ _ (λ few. plain _ (tt, tt)))
+  registers_load load station = made_checked P _ _ (made_refuse_unless P _ _ _ (λ few. plain _ (tt, tt)))
 
   corrects_load : (load reference : List ℕ) (station : Option (List ℕ)) → IfMade P (correct_load world load reference station)
-  corrects_load load reference station = made_require P _ _ _ (λ new. made_checked P _ _ (made_require P _ _ _ (λ few. plain _ (tt, tt))))
+  corrects_load load reference station = made_refuse_unless P _ _ _ (λ new. made_checked P _ _ (made_refuse_unless P _ _ _ (λ few. plain _ (tt, tt))))
 
   lets_load_leave : (load reference : List ℕ) → IfMade P (leave_load world load reference)
-  lets_load_leave load reference = made_require P _ _ _ (λ new. made_checked P _ _ (made_require P _ _ _ (λ few. plain _ (tt, tt))))
+  lets_load_leave load reference = made_refuse_unless P _ _ _ (λ new. made_checked P _ _ (made_refuse_unless P _ _ _ (λ few. plain _ (tt, tt))))
 
   adds_job : (job load to : List ℕ) → IfMade P (add_job world job load to)
-  adds_job job load to = made_checked P _ _ (made_found P _ _ _ (λ origin is. made_require P _ _ _ (λ few. plain _ tt)))
+  adds_job job load to = made_checked P _ _ (made_refuse_if_none P _ _ _ (λ origin is. made_refuse_unless P _ _ _ (λ few. plain _ tt)))
 
   stops_job : (job : List ℕ) → IfMade P (stop_job world job)
-  stops_job job = made_found P _ _ _ (λ row is. made_require P _ _ _ (λ waits. plain _ tt))
+  stops_job job = made_refuse_if_none P _ _ _ (λ row is. made_refuse_unless P _ _ _ (λ waits. plain _ tt))
 
   takes_stock : (reference : List ℕ) (rows : List Row) → IfMade P (take_stock world reference rows)
   takes_stock reference rows =
-      made_require P _ _ _ (λ a. made_require P _ _ _ (λ b. made_require P _ _ _ (λ c. made_require P _ _ _ (λ d. made_require P _ _ _ (λ e. made_require P _ _ _ (λ f. made_require P _ _ _ (λ g.
+      made_refuse_unless P _ _ _ (λ a. made_refuse_unless P _ _ _ (λ b. made_refuse_unless P _ _ _ (λ c.
+      made_refuse_unless P _ _ _ (λ d. made_refuse_unless P _ _ _ (λ e. made_refuse_unless P _ _ _ (λ f. made_refuse_unless P _ _ _ (λ g.
       plain _ (all_counted _))))))))
 
   -- ---- what is only told, the layout and the vehicles
   tells_order : (key : VehicleKey) → IfMade P (get_order world key)
-  tells_order key = made_found P _ _ _ (λ row is. plain _ tt)
+  tells_order key = made_refuse_if_none P _ _ _ (λ row is. plain _ tt)
 
   tells_instant : (key : VehicleKey) → IfMade P (get_instant world key)
-  tells_instant key = made_found P _ _ _ (λ row is. plain _ tt)
+  tells_instant key = made_refuse_if_none P _ _ _ (λ row is. plain _ tt)
 
   tells_load : (load : List ℕ) → IfMade P (get_load world load)
-  tells_load load = made_found P _ _ _ (λ place is. plain _ tt)
+  tells_load load = made_refuse_if_none P _ _ _ (λ place is. plain _ tt)
 
   tells_vehicle : (key : VehicleKey) → IfMade P (get_vehicle world key)
-  tells_vehicle key = made_found P _ _ _ (λ row is. plain _ tt)
+  tells_vehicle key = made_refuse_if_none P _ _ _ (λ row is. plain _ tt)
 
   sets_layout : (rows : List LayoutRow) → IfMade P (set_layout world rows)
-  sets_layout rows = made_require P _ _ _ (λ unset. made_given P _ _ (λ layout read. plain _ tt))
+  sets_layout rows = made_refuse_unless P _ _ _ (λ unset. made_given P _ _ (λ layout read. plain _ tt))
 
   instructs : (at : ℕ) (key : VehicleKey) (row : VehicleRow) (kind : InstantKind) → IfMade P (instruct at key row kind)
-  instructs at key row kind = made_require P _ _ _ (λ free. made_found P _ _ _ (λ number is. plain _ tt))
+  instructs at key row kind = made_refuse_unless P _ _ _ (λ free. made_refuse_if_none P _ _ _ (λ number is. plain _ tt))
 
   cancels : (at : ℕ) (key : VehicleKey) → IfMade P (cancel world at key)
-  cancels at key = made_found P _ _ _ (λ row there. made_require P _ _ _ (λ has. instructs at key row _))
+  cancels at key = made_refuse_if_none P _ _ _ (λ row there. made_refuse_unless P _ _ _ (λ has. instructs at key row _))
 
   pauses : (at : ℕ) (key : VehicleKey) → IfMade P (pause world at key)
-  pauses at key = made_found P _ _ _ (λ row there. instructs at key row _)
+  pauses at key = made_refuse_if_none P _ _ _ (λ row there. instructs at key row _)
 
   resumes : (at : ℕ) (key : VehicleKey) → IfMade P (resume world at key)
-  resumes at key = made_found P _ _ _ (λ row there. instructs at key row _)
+  resumes at key = made_refuse_if_none P _ _ _ (λ row there. instructs at key row _)
 
   begins_anew : (key : VehicleKey) → IfMade P (resync world key)
-  begins_anew key = made_found P _ _ _ (λ row there. plain _ tt)
+  begins_anew key = made_refuse_if_none P _ _ _ (λ row there. plain _ tt)
 
   registers_vehicle : (seats : ℕ) (key : VehicleKey) (node : List ℕ) (capacity : ℕ) → IfMade P (register_vehicle seats world key node capacity)
-  registers_vehicle seats key node capacity = made_require P _ _ _ (λ free. made_require P _ _ _ (λ known_node. made_unheld P _ _ (λ opened. made_require P _ _ _ (λ few. plain _ tt))))
+  registers_vehicle seats key node capacity =
+      made_refuse_unless P _ _ _ (λ free. made_refuse_unless P _ _ _ (λ known_node. made_unheld P _ _ (λ opened. made_refuse_unless P _ _ _ (λ few. plain _ tt))))
 
   places_vehicle : (key : VehicleKey) (reference node : List ℕ) → IfMade P (place_vehicle world key reference node)
   places_vehicle key reference node =
-      made_require P _ _ _ (λ new. made_found P _ _ _ (λ row there. made_require P _ _ _ (λ known_node. made_unheld P _ _ (λ opened. made_require P _ _ _ (λ few. plain _ tt)))))
+      made_refuse_unless P _ _ _ (λ new. made_refuse_if_none P _ _ _ (λ row there. made_refuse_unless P _ _ _ (λ known_node.
+      made_unheld P _ _ (λ opened. made_refuse_unless P _ _ _ (λ few. plain _ tt)))))
 
   -- ---- orders
   starts_order : (asked : AskedOrder) → IfMade P (start_order world asked)
   starts_order asked =
-      made_require P _ _ _ (λ a. made_found P _ _ _ (λ row b. made_require P _ _ _ (λ c. made_found P _ _ _ (λ jobs d.
-      made_require P _ _ _ (λ e. made_require P _ _ _ (λ f. made_require P _ _ _ (λ g. made_require P _ _ _ (λ h. made_require P _ _ _ (λ i. made_require P _ _ _ (λ j. made_require P _ _ _ (λ k.
-      made_found P _ _ _ (λ layout l. made_planned P _ _ (λ trip m. made_unheld P _ _ (λ n. made_found P _ _ _ (λ number o. made_require P _ _ _ (λ p.
+      made_refuse_unless P _ _ _ (λ a. made_refuse_if_none P _ _ _ (λ row b. made_refuse_unless P _ _ _ (λ c. made_refuse_if_none P _ _ _ (λ jobs d.
+      made_refuse_unless P _ _ _ (λ e. made_refuse_unless P _ _ _ (λ f. made_refuse_unless P _ _ _ (λ g.
+      made_refuse_unless P _ _ _ (λ h. made_refuse_unless P _ _ _ (λ i. made_refuse_unless P _ _ _ (λ j. made_refuse_unless P _ _ _ (λ k.
+      made_refuse_if_none P _ _ _ (λ layout l. made_planned P _ _ (λ trip m. made_unheld P _ _ (λ n. made_refuse_if_none P _ _ _ (λ number o. made_refuse_unless P _ _ _ (λ p.
       plain _ tt))))))))))))))))
 
   advances_trip : (at : ℕ) (key : VehicleKey) (order : List ℕ) (update edges : ℕ) → IfMade P (advance world at key order update edges)
   advances_trip at key order update edges =
-      made_found P _ _ _ (λ row a. made_found P _ _ _ (λ trip b. made_require P _ _ _ (λ c. made_require P _ _ _ (λ d. made_require P _ _ _ (λ e. made_require P _ _ _ (λ f.
-      made_require P _ _ _ (λ g. made_unheld P _ _ (λ h. made_found P _ _ _ (λ number i. plain _ tt)))))))))
+      made_refuse_if_none P _ _ _ (λ row a. made_refuse_if_none P _ _ _ (λ trip b. made_refuse_unless P _ _ _ (λ c.
+      made_refuse_unless P _ _ _ (λ d. made_refuse_unless P _ _ _ (λ e. made_refuse_unless P _ _ _ (λ f.
+      made_refuse_unless P _ _ _ (λ g. made_unheld P _ _ (λ h. made_refuse_if_none P _ _ _ (λ number i. plain _ tt)))))))))
 
   -- ---- states
   takes_idle : (key : VehicleKey) (row : VehicleRow) (state : StateMessage) → IfMade P (idle_state key row state)
@@ -166,10 +171,11 @@ module _ (world : World) where
     takes_fresh : (key : VehicleKey) (row : VehicleRow) (state : StateMessage) → row_of world key ≡ Some row → (trip : Option Trip) → trip_of world key ≡ trip → IfMade P (fresh_state world key row trip state)
     takes_fresh key row state there None same = takes_idle key row state
     takes_fresh key row state there (Some trip) same =
-        made_branch P _ _ _ (goes_on_trip key row trip state (known world key row there ∙ ap (λ t. Some (vehicle_with row t)) same)) (made_require P _ _ _ (λ fresh. takes_idle key row state))
+        made_branch P _ _ _ (goes_on_trip key row trip state (known world key row there ∙ ap (λ t. Some (vehicle_with row t)) same))
+        (made_refuse_unless P _ _ _ (λ fresh. takes_idle key row state))
 
     takes_state : (key : VehicleKey) (state : StateMessage) → IfMade P (take_state world key state)
-    takes_state key state = made_found P _ _ _ (λ row there. made_branch P _ _ _ (takes_fresh key row state there (trip_of world key) refl) (plain _ tt))
+    takes_state key state = made_refuse_if_none P _ _ _ (λ row there. made_branch P _ _ _ (takes_fresh key row state there (trip_of world key) refl) (plain _ tt))
 
     -- ---- every call
     pub finds_all : (at : ℕ) (made : Call) → IfMade P (step seats world at made)

@@ -58,7 +58,8 @@ pub fn moves_are_told()
     ensures { (effect : Effect) → moves_in (changes_of effect) ≡ moves_made effect }
 {}
 
-/// Over a world in memory no decision is a fault of the store: none that ends as [`decide`](crate::decide) says of the floor.
+/// Over a world in memory no decision is a fault of the store: none that ends as [`decide`](crate::decide) says of the
+/// floor.
 #[tactic(auto, using(crate::proofs::outcomes::DecisionEnds::no_storage))]
 pub fn never_fails_in_memory()
     ensures { (floor floor_then : OfPlainFloor) (result : Result Decision Fault)

@@ -22,8 +22,8 @@ use agv_order::laws::fits_as_said;
 use agv_track::laws::advances;
 use agv_world::laws::holds_are_footprints;
 
-/// Each call of a list is made at a moment before 2100, and is well typed, since the parts of the list are of their types. It
-/// does nothing: a proof calls it for its clause, which the laws below take of a list of calls.
+/// Each call of a list is made at a moment before 2100, and is well typed, since the parts of the list are of their types.
+/// It does nothing: a proof calls it for its clause, which the laws below take of a list of calls.
 pub fn types_each_call(calls: &[(Moment, Call)])
     ensures { AreWellTyped calls.now }
 {

@@ -100,5 +100,5 @@ pub text_within : (a : Answer) → IsOfItsTypes a
     → length (answer_text a report close) ≤ most_answer
 text_within a types seats world at line body made report close is fits more same =
     let told : is_outcome a ≡ true = subst (λ (b : Answer). is_outcome b ≡ true) (sym same) (told_outcome seats world at made more) in
-    let room : FitsBuffer a = subst FitsBuffer (sym same) (fits_buffer seats world at line body made is fits more) in
-    omega (arith, room.0, outcome_short a told types room.1 report close)
+    let buffer : FitsBuffer a = subst FitsBuffer (sym same) (fits_buffer seats world at line body made is fits more) in
+    omega (arith, buffer.0, outcome_short a told types buffer.1 report close)

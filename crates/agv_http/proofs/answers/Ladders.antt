@@ -21,15 +21,15 @@ module _ (P : Answer → Type 0) (refused : (why : Refusal) → P (answer.Refuse
   unfolding answer_of
   of_made effect h = h
 
-  pub of_require : (test : Bool) (why : Refusal) (rest : Outcome) → P (answer_of rest) → P (answer_of (refuse_unless test why rest))
+  pub of_refuse_unless : (test : Bool) (why : Refusal) (rest : Outcome) → P (answer_of rest) → P (answer_of (refuse_unless test why rest))
   unfolding refuse_unless answer_of
-  of_require true why rest h = h
-  of_require false why rest h = refused why
+  of_refuse_unless true why rest h = h
+  of_refuse_unless false why rest h = refused why
 
-  pub of_found : {X : Type 0} (there : Option X) (why : Refusal) (rest : X → Outcome) → ((x : X) → P (answer_of (rest x))) → P (answer_of (refuse_if_none there why rest))
+  pub of_refuse_if_none : {X : Type 0} (there : Option X) (why : Refusal) (rest : X → Outcome) → ((x : X) → P (answer_of (rest x))) → P (answer_of (refuse_if_none there why rest))
   unfolding refuse_if_none answer_of
-  of_found None why rest h = refused why
-  of_found (Some x) why rest h = h x
+  of_refuse_if_none None why rest h = refused why
+  of_refuse_if_none (Some x) why rest h = h x
 
   pub of_checked : (check : Checked) (rest : Outcome) → P (answer_of rest) → P (answer_of (checked check rest))
   unfolding checked answer_of

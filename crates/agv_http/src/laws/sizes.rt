@@ -29,8 +29,8 @@ pub fn answers_briefly()
     ensures { (a : AnswerOf) (report : List ℕ) (close : Bool) → IsBrief a → length (answer_text a report close) ≤ 1024 }
 {}
 
-/// The answer to a refused request has at most 1,024 bytes. It reads a name or a number of the refusal and goes over nothing: a
-/// proof calls it for its clause.
+/// The answer to a refused request has at most 1,024 bytes. It reads a name or a number of the refusal and goes over
+/// nothing: a proof calls it for its clause.
 pub fn refusals_fit(why: &Refusal)
     ensures { (report : List ℕ) (close : Bool) → length (answer_text (answer.Refused why.now) report close) ≤ 1024 }
 {

@@ -91,7 +91,7 @@ GET /report/holds
 | held 1 of 7
 "#;
 
-/// A state tells of an action that is to come; it is heard again once the action is there.
+/// A state tells of an action that is to come; it is taken again once the action is there.
 const CANCELLED_BY_OLD: &str = r#"
 state 0001 2 O1 0 N1 0 instant-1=FINISHED
 200 {"accepted":true}

@@ -153,8 +153,8 @@ GET /uagv/v2/KIT/0001/order
 row vehicle KIT 0001 N1 NULL NULL 2 O1 1 0 2 1700000001239 1 1700000002000 startPause
 "#;
 
-/// The load is picked at A, on its way to B; another one came to the checking place, and a third has left. The vehicle is to
-/// pause.
+/// The load is picked at A, on its way to B; another one came to the checking place, and a third has left. The vehicle is
+/// to pause.
 pub(crate) const PICKED: &str = r#"
 POST /loads {"load":"L1","station":"A"}
 200 {}

@@ -98,7 +98,7 @@ GET /vehicles/KIT/0003
 200 {"astray":false,"capacity":2,"confirmed":null,"headerId":3,"manufacturer":"KIT","node":"N3","order":null,"paused":false,"pending":null,"ready":true,"sent":null,"serialNumber":"0003"}
 "#;
 
-/// One load is aboard, so there is room for one more job.
+/// One load is aboard, so the capacity is enough for one more job.
 const MORE: &str = r#"
 POST /loads {"load":"L5","station":"C"}
 200 {}

@@ -74,7 +74,8 @@ GET /export/loads
 | L3,left,
 "#;
 
-/// The vehicle gets the rest of its way and drops the load at B; then a load comes to A with a job to C, which is taken back.
+/// The vehicle gets the remaining edges of its way and drops the load at B; then a load comes to A with a job to C, which is
+/// taken back.
 pub(crate) const DROPPED: &str = r#"
 POST /vehicles/KIT/0001/advance {"order":"O1","orderUpdateId":1,"edges":1}
 200 {"orderUpdateId":1}
@@ -214,8 +215,8 @@ rows
 | act O2 1 J2 drop 2 WAITING
 "#;
 
-/// A person places KIT/0001 and puts its load to B, a stocktake finds that at C, and the number of the last state is forgotten.
-/// KIT/0002 is released as far as N2, by an update that it hasn't confirmed.
+/// A person places KIT/0001 and puts its load to B, a stocktake finds that at C, and the number of the last state is
+/// forgotten. KIT/0002 is released as far as N2, by an update that it hasn't confirmed.
 const SET_RIGHT: &str = r#"
 POST /vehicles/KIT/0001/place {"ref":"R1","node":"N1"}
 200 {}

@@ -21,7 +21,7 @@ use Rattle.sqlite.specs.Listing.{understood, reads_listing, IsSourceOf}
 use Rattle.sqlite.specs.State.{State, IsNotRun, FailsToQuery}
 use Rattle.sqlite.proofs.Callers.{IsPlain, command_of}
 use Rattle.std.proofs.lemmas.Bool.{and_parts}
-use Rattle.agv_schema.specs.DeskRows.{TableKeys, columns_by, rowid_of, table_for, Placing, IsDesk, StandApart, is_of_kind, fits}
+use Rattle.agv_schema.specs.DeskRows.{RowidColumn, TableKeys, columns_by, rowid_column_of, table_for, Placing, IsDesk, StandApart, is_of_kind, fits}
 use Rattle.agv_schema.specs.Errors.{IsOfStore}
 use Rattle.agv_schema.specs.declared.table_name.TableName.{TableName}
 use Rattle.agv_schema.specs.declared.table_name.TableName.TheVariants as the
@@ -145,11 +145,11 @@ query_typed by.LoadJobs params h =
     rw (text_compares (column params 0) k0, text_compares (column params 1) k1)
 
 all_typed : (name : TableName) (keys : TableKeys) → IsTypedTo name [] (shown_terms name keys) []
-all_typed the.Meta keys = meta_typed keys.rowid
+all_typed the.Meta keys = meta_typed keys.rowid_column
   where
-    meta_typed : (r : Option Bool) → IsTypedTo the.Meta [] (terms_by r 2) []
+    meta_typed : (r : Option RowidColumn) → IsTypedTo the.Meta [] (terms_by r 2) []
     meta_typed None = refl
-    meta_typed (Some not_null) = refl
+    meta_typed (Some first) = refl
 all_typed _ keys = refl
 
 -- ---- why it fails
@@ -163,10 +163,10 @@ abbrev pub NeverOverflows : Option Grouping → Type 0
 NeverOverflows group = (all : List Env) → ¬ Overflows (option_map grouping_of group) all
 
 -- the rowid is of the class of the column that it is
-same_classes : (r : Option Bool) (columns : List Column) → map class_in (columns_by r columns) ≡ map class_in columns
+same_classes : (r : Option RowidColumn) (columns : List Column) → map class_in (columns_by r columns) ≡ map class_in columns
 same_classes None columns = refl
-same_classes (Some not_null) [] = refl
-same_classes (Some not_null) (c ∷ columns) = refl
+same_classes (Some first) [] = refl
+same_classes (Some first) (c ∷ columns) = refl
 
 module _ (group : Option Grouping) (fit : NeverOverflows group) (name : TableName) (terms project : List Term) (names : List (List ℕ)) (sql : List ℕ)
     (params : Row) (whole : IsWholeText sql (length params)) (typed : IsTypedIn group name terms project params)
@@ -175,7 +175,7 @@ module _ (group : Option Grouping) (fit : NeverOverflows group) (name : TableNam
   accepted : accepts_program desk.schema [] (query_in group (desk.tree name) terms project) params ≡ true
   accepted =
       let here = is_in_alone desk name stand.stands.0 stand.apart in
-      rw (here.low, here.by_tree, same_classes (rowid_of name (desk.keys name)) (table_for name).columns, typed)
+      rw (here.low, here.by_tree, same_classes (rowid_column_of name (desk.keys name)) (table_for name).columns, typed)
 
   refused : (db : Database) → db.schema ≡ desk.schema → RefusesToRead old.step_limit (Select (record { lets = []; body = query_in group (desk.tree name) terms project }) names) db params e → IsCaused old new
   refused db schema (inl untyped) = absurd (let wrong = sym (ap (λ s. accepts_program s [] (query_in group (desk.tree name) terms project) params) schema ∙ accepted) ∙ untyped.1 in cc)

@@ -9,5 +9,5 @@ use Rattle.agv_creation.proofs.standing_tables.meta_stands.Goals as goal
 
 pub returns : goal.returns
 returns c =
-    let defined = subst (λ (texts : List (List _)). AllZip (λ text (table : Table). table_defined_by text ≡ Ok table) texts meta_forms) (sym c.meta_texts.ensures) meta_defined_so in
-    c.one_stands.ensures meta_forms defined forms_plain
+    let defined = subst (λ (texts : List (List _)). AllZip (λ text (table : Table). table_defined_by text ≡ Ok table) texts meta_forms) (sym c.meta_forms_texts.ensures) meta_defined_so in
+    c.any_stands.ensures meta_forms defined forms_plain

@@ -7,7 +7,7 @@ use Rattle.agv_creation.specs.StandingTables.{IsAlike}
 use Rattle.agv_creation.proofs.standing_tables.stands_alike.Goals as goal
 
 -- a table with the keys of another, however written, is alike
-alike_by : (found wanted : Table) (tree : ℕ) (keys : TableKeys) → found ≡ with_keys keys (record wanted { tree = tree }) → SameKeys keys.all wanted.uniques → IsAlike found wanted
+alike_by : (found wanted : Table) (tree : ℕ) (keys : TableKeys) → found ≡ with_keys keys (record wanted { tree = tree }) → SameKeys keys.indexed wanted.uniques → IsAlike found wanted
 alike_by found wanted tree keys same same_keys = subst (λ (t : Table). IsAlike t wanted) (sym same) (refl, same_keys)
 
 pub returns-then-found-lt-MAX_TREES : goal.returns-then-found-lt-MAX_TREES

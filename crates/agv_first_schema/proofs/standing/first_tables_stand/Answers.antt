@@ -1,6 +1,6 @@
-use Rattle.std.proofs.Common.{◌≡◌, ◌≢◌, ◌∙◌, Bor, List, [], ◌∷◌, Ok, drop, false, map, refl, take, true, ap, subst, sym, ℕ}
+use Rattle.std.proofs.Common.{◌≡◌, ◌≢◌, ◌∙◌, Bor, List, Ok, drop, false, take, true, ap, subst, sym, ℕ}
 use Rattle.std.proofs.lemmas.Bool.{both_ways}
-use Rattle.std.proofs.lemmas.List.{take-map}
+use Rattle.std.proofs.lemmas.List.{drop-map, take-map}
 use Rattle.std.specs.List.{AllZip}
 use Rattle.sqlite_resolve.specs.Compile.{table_defined_by}
 use Rattle.sqlite_schema.specs.declared.schema.Table.{Table}
@@ -26,10 +26,6 @@ returns-then-not-are_apart c =
 pub returns-then-not-has_meta : goal.returns-then-not-has_meta
 returns-then-not-has_meta c = ((λ yes. absurd (cc yes)), (λ stand. let one = c.in_ok-has_meta.ensures.1 (each_alike c.args.schema.now stand).0 in absurd (cc)))
 
-texts_but_the_first : {A B : Type 0} (f : A → B) (xs : List A) → map f (drop 1 xs) ≡ drop 1 (map f xs)
-texts_but_the_first f [] = refl
-texts_but_the_first f (x ∷ xs) = refl
-
 pub returns : goal.returns
 returns c =
     let s = c.args.schema.now in
@@ -39,6 +35,6 @@ returns c =
     let apart = subst (IsAscending (λ (t u : Table). t.tree ≢ u.tree)) same (c.are_apart.ensures.0 c.if-not-are_apart.false) in
     let meta = c.in_ok-has_meta.ensures.0 c.if-not-has_meta.false in
     let text : Bor (List ℕ) → List ℕ = λ it. it.now in
-    let texts = sym (take-map text 10 (drop 1 c.creation_texts-texts.result)) ∙ ap (take 10) (texts_but_the_first text c.creation_texts-texts.result ∙ ap (drop 1) c.creation_texts-texts.ensures) in
+    let texts = sym (take-map text 10 (drop 1 c.creation_texts-texts.result)) ∙ ap (take 10) (sym (drop-map text 1 c.creation_texts-texts.result) ∙ ap (drop 1) c.creation_texts-texts.ensures) in
     let defined = subst (λ (texts : List (List ℕ)). AllZip (λ text (table : Table). table_defined_by text ≡ Ok table) texts (the_ten desk_tables)) (sym texts) (ten_defined c.texts_define_the_tables.ensures) in
     told_so s c.stand_by.result free apart meta (c.stand_by.ensures (the_ten desk_tables) defined ten_plain)

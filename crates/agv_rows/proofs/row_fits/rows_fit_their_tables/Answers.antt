@@ -18,7 +18,7 @@ pub returns-clause-vehicle : goal.returns-clause-vehicle
 returns-clause-vehicle c = vehicle_fits
 
 pub returns-clause-capacity : goal.returns-clause-capacity
-returns-clause-capacity c = λ key room. refl
+returns-clause-capacity c = λ key own. refl
 
 pub returns-clause-journey : goal.returns-clause-journey
 returns-clause-journey c = journey_fits
