@@ -26,7 +26,6 @@ agv_middle_tests: agv_app
 RT = """#!/bin/sh
 crate=${PWD##*/}
 echo "$crate $*" >>"$NOTES/calls"
-[ ! -e "$NOTES/tunables" ] || echo "$GLIBC_TUNABLES" >"$NOTES/tunables-$crate"
 [ ! -e "$NOTES/niceness" ] || awk '{ print $19 }' /proc/$$/stat >"$NOTES/niceness-$crate"
 if [ "$1" = try ]; then
     if [ ! -e "$NOTES/no-module" ]; then

@@ -105,12 +105,6 @@ class Building(Tree):
         self.assertEqual([self.read(os.path.join(self.notes, 'niceness-' + it)).strip() for it in ('agv_first', 'agv_left', 'agv_right', 'agv_app')],
                          [str(min(19, own + more)) for more in (0, 0, 10, 0)])
 
-    def test_proofs_are_given_large_pages(self) -> None:
-        self.note('tunables')
-        self.assertEqual(self.run_desk('replay')[0], 3)
-        for crate in ('agv_first', 'agv_app'):
-            self.assertEqual(self.read(os.path.join(self.notes, 'tunables-' + crate)), BUILDER.LARGE_PAGES + '\n')
-
     def test_the_longest_chain_of_crates_begins_first(self) -> None:
         """By the processor seconds of the page, and as many for each other crate as one of the usual size takes."""
         lines = ['agv_small:', 'agv_large:', 'agv_over_small: agv_small', 'agv_app: agv_large agv_over_small']
