@@ -1,11 +1,11 @@
 //! From a request to the call of the desk that it is.
 ghost use Rattle.std.specs.Prelude.{◌≡◌, Ok, IfOk, IfErr};
-ghost use Rattle.agv_message.specs.Body.{IsFaultOf};
+ghost use Rattle.agv_json.specs.Body.{IsFaultOf};
 ghost use Rattle.agv_face.specs.Replies.{call_of_lent};
 
 use agv_desk::Call;
 use agv_http::{RequestRef, Routes};
-use agv_message::BodyFault;
+use agv_json::BodyFault;
 use std::alloc::Global;
 
 /// The call of the desk that the request is, or why it is refused before it is one.

@@ -17,7 +17,7 @@ use agv_desk::{Answer, Call};
 use agv_header::Moment;
 use agv_http::laws::sizes::{outcomes_fit, tells_outcomes};
 use agv_http::{RequestRef, Routes, put_answer};
-use agv_message::BodyFault;
+use agv_json::BodyFault;
 use agv_reports::laws::gives_only_what_is_named;
 use agv_store::Desk;
 use agv_world::Fault;

@@ -1,13 +1,3 @@
-pub mod Action
-pub mod Appending
-pub mod Body
 pub mod Instant
-pub mod Json
-pub mod Members
 pub mod Order
-pub mod Parts
-pub mod Pieces
-pub mod Position
-pub mod Readable
-pub mod State
 pub mod Status

@@ -1,5 +1,5 @@
 //! The tests of the crates below the world. They stand in one crate, since a crate with tests is proved twice; the world
-//! and the desk are tried by the scripts of `agv_script_tests`. The expected values are written out or worked out by
+//! and the desk are tried by the scripts of `agv_test_support`. The expected values are written out or worked out by
 //! hand, or come from another program.
 //!
 //! Each case is a line of a table: a call with its arguments, ` => `, and the answer that is wanted, as it is printed.

@@ -3,10 +3,8 @@
 
 use crate::cases::{check, check_text, kit, number, parts, row, shown, word};
 use agv_header::Moment;
-use agv_message::{
-    BodyFault, Header, InstantKind, InstantMessage, StateMessage, Status, instant_text, read_body,
-    read_state,
-};
+use agv_json::{BodyFault, instant_text, read_body, read_state};
+use agv_message::{Header, InstantKind, InstantMessage, StateMessage, Status};
 use std::alloc::Global;
 use std::process::Abort;
 use std::str;

@@ -28,11 +28,6 @@ pub(crate) fn shown(rt: &impl Abort, alloc: Global, value: &impl Debug) -> Strin
     format!(in alloc; "{value:?}").expect(rt, "memory")
 }
 
-/// The number that the digits are.
-pub(crate) fn number(rt: &impl Abort, digits: &str) -> usize {
-    digits.parse::<usize>().expect(rt, digits)
-}
-
 /// The moment of this many milliseconds.
 pub(crate) fn moment(rt: &impl Abort, ms: i64) -> Moment {
     Moment::of(ms).expect(rt, "a moment")

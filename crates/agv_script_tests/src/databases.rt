@@ -1,9 +1,9 @@
 //! Databases that others have changed: each line is tried in a database of its own.
 
-use crate::lines::whole;
-use crate::scripts::starts::{A_TO_B, LAYOUT, ONE_EDGE, READY};
-use crate::scripts::written::{DROPPED, PICKED};
 use crate::ways::{Way, in_memory};
+use agv_test_support::lines::whole;
+use agv_test_support::scripts::starts::{A_TO_B, LAYOUT, ONE_EDGE, READY};
+use agv_test_support::scripts::written::{DROPPED, PICKED};
 use std::alloc::Global;
 use std::process::Abort;
 
@@ -17,7 +17,7 @@ pub(crate) fn check_each(
     lines: &str,
     behind: &str,
 ) {
-    let base = whole(rt, alloc, base);
+    let base = whole(alloc, base).expect(rt, "a script");
     for line in lines.lines() {
         if !line.is_empty() {
             let line = line.replace(alloc, '%', "\n").expect(rt, "memory");
@@ -118,7 +118,8 @@ UPDATE job SET target = 'C'
 fn databases_of_others(rt: HostRuntime) {
     let alloc = rt.alloc();
     let base = &["create ok", LAYOUT, READY, PICKED];
-    let behind = whole(&rt, alloc, &["\nadopt ok\nopen ok", DROPPED]);
+    let behind = whole(alloc, &["\nadopt ok\nopen ok", DROPPED]);
+    let behind = behind.expect(&rt, "a script");
     check_each(&rt, alloc, base, "sql ", KEPT, behind.as_str());
 }
 

@@ -1,13 +1,11 @@
-//! One set of scripts: requests and their answers as text, worked out by hand. Each is played over a world in memory and by
-//! a desk over its tables, in memory and on a disk, whose answers and rows are compared; and as one list, and as streams of
-//! bytes.
+//! The scripts of `agv_test_support`, requests and their answers as text, worked out by hand. Each is played over a world in
+//! memory and by a desk over its tables, in memory and on a disk, whose answers and rows are compared; and as one list.
+//! `agv_stream_tests` serves them as streams of bytes.
 //!
-//! - `lines` reads the text of a script, and `scripts` has the scripts.
-//! - `memory` plays them over a world in memory, whose floor `fails_at` each question in turn.
+//! - `scripts` has each script played.
+//! - `memory` plays them over a world in memory, whose floor fails at each question in turn.
 //! - `player` plays them call by call in a database, of which it looks at more: `databases` has those that others have
 //!   changed, `migrations` those of the first schema, and `strangers` tables that anyone made. `tables` reads the rows.
-//! - `streams` serves them as bytes in pieces, and `inputs` has streams that end, wait or fail; `fakes` has their reader
-//!   and writer.
 //! - `lists` has a desk serve the calls of a script in one list, and `stops` while the files fail and the machine stops.
 //! - `desks` opens databases and desks, and `ways` puts what is tried into a database in memory and on files: all else is
 //!   over any.
@@ -20,14 +18,6 @@ mod cases;
 mod databases;
 #[cfg(test)]
 mod desks;
-#[cfg(test)]
-mod fails_at;
-#[cfg(test)]
-mod fakes;
-#[cfg(test)]
-mod inputs;
-#[cfg(test)]
-mod lines;
 #[cfg(test)]
 mod lists;
 #[cfg(test)]
@@ -42,8 +32,6 @@ mod scripts;
 mod stops;
 #[cfg(test)]
 mod strangers;
-#[cfg(test)]
-mod streams;
 #[cfg(test)]
 mod tables;
 #[cfg(test)]

@@ -2,14 +2,14 @@
 
 use crate::cases::{check, check_bytes, moment};
 use crate::desks::desk;
-use crate::lines::{answer_of, asks, parted, request_of, said_in};
-use crate::memory::{Asked, InMemory, MOMENT, asked, in_memory};
+use crate::memory::{Asked, InMemory, asked, in_memory};
 use crate::tables::{told_text, world_text};
 use agv_desk::{Answer, Call};
 use agv_header::Moment;
 use agv_http::{Routes, answer_bytes};
 use agv_reports::report_named;
 use agv_store::Desk;
+use agv_test_support::lines::{MOMENT, answer_of, asks, parted, request_of, said_in};
 use sqlite::{Alter, Connection};
 use std::alloc::Global;
 use std::process::Abort;
@@ -83,18 +83,18 @@ pub(crate) fn list_of(rt: &impl Abort, alloc: Global, text: &str) -> List {
     list.worlds.push(empty).expect(rt, "memory");
     let mut request = String::new(alloc);
     let mut is_call = false;
-    for said in &said_in(rt, alloc, text) {
+    for said in &said_in(alloc, text).expect(rt, "a script") {
         let (word, rest) = parted(said.line);
         match word {
             "at" => at = moment(rt, rest.parse::<i64>().expect(rt, rest)),
             "moves" | "row" | "rows" => {}
             _ => {
                 if asks(word) {
-                    request = request_of(rt, alloc, said);
+                    request = request_of(alloc, said).expect(rt, said.line);
                     let asked = asked(rt, alloc, &routes, request.as_str());
                     is_call = list.put(rt, alloc, &mut memory, at, asked);
                 } else if is_call {
-                    let answer = answer_of(rt, alloc, request.as_str(), said);
+                    let answer = answer_of(alloc, request.as_str(), said).expect(rt, said.line);
                     list.answers.push(answer).expect(rt, "memory");
                 }
             }

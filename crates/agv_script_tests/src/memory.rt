@@ -2,19 +2,16 @@
 ghost use Rattle.std.specs.Prelude.{◌≤◌};
 
 use crate::cases::{check, check_bytes, check_text, moment};
-use crate::fails_at::FailsAt;
-use crate::lines::{answer_of, asks, parted, request_of, said_in};
 use agv_desk::{Answer, Call, Decision, decide, moves_of};
 use agv_header::{Moment, Name, Refusal};
 use agv_http::{Heard, RequestRef, Routes, answer_bytes, call_of, read_request};
-use agv_message::BodyFault;
+use agv_json::BodyFault;
 use agv_stock::Place;
+use agv_test_support::fails_at::FailsAt;
+use agv_test_support::lines::{MOMENT, answer_of, asks, parted, request_of, said_in};
 use agv_world::{Fault, PlainFloor, World};
 use std::alloc::Global;
 use std::process::Abort;
-
-/// The moment of all calls, unless a script says another one.
-pub(crate) const MOMENT: i64 = 1_700_000_000_000;
 
 /// The most questions of a call.
 const MOST: usize = 1000;
@@ -169,10 +166,10 @@ pub(crate) fn play_in_memory(rt: &impl Abort, alloc: Global, seats: u32, text: &
     let mut at = moment(rt, MOMENT);
     let mut request = String::new(alloc);
     let mut found = Vec::new(alloc);
-    for said in &said_in(rt, alloc, text) {
+    for said in &said_in(alloc, text).expect(rt, "a script") {
         let (word, rest) = parted(said.line);
         if asks(word) {
-            request = request_of(rt, alloc, said);
+            request = request_of(alloc, said).expect(rt, said.line);
             let asked = asked(rt, alloc, &routes, request.as_str());
             found = desk.answer(rt, alloc, at, &asked, b"");
         } else if word == "at" {
@@ -180,7 +177,7 @@ pub(crate) fn play_in_memory(rt: &impl Abort, alloc: Global, seats: u32, text: &
         } else if word == "moves" {
             desk.check_moves(rt, alloc, rest);
         } else if word.parse::<u32>().is_ok() && said.text.is_empty() {
-            let wanted = answer_of(rt, alloc, request.as_str(), said);
+            let wanted = answer_of(alloc, request.as_str(), said).expect(rt, said.line);
             check_bytes(rt, &found, wanted.as_str(), request.as_str());
         }
     }

@@ -1,8 +1,8 @@
 //! Databases of the first schema: those that are migrated, those that are not, and migrations that stop midway.
 
 use crate::databases::check_each;
-use crate::lines::texts_of;
 use crate::stops::{Work, stop_each};
+use agv_test_support::lines::texts_of;
 use std::alloc::Global;
 use std::process::Abort;
 
@@ -258,9 +258,9 @@ fn databases_that_are_not_moved(rt: HostRuntime) {
 
 /// The files fail at each of their calls, and the machine stops then, while a database is moved.
 fn stop_move(rt: &impl Abort, alloc: Global, parts: &[&str], before: &str, after: &str) {
-    let texts = texts_of(rt, alloc, parts);
-    let before = texts_of(rt, alloc, &[before]);
-    let after = texts_of(rt, alloc, &[after]);
+    let texts = texts_of(alloc, parts).expect(rt, "a script");
+    let before = texts_of(alloc, &[before]).expect(rt, "rows");
+    let after = texts_of(alloc, &[after]).expect(rt, "rows");
     let work = Work::Move(before.as_str(), after.as_str());
     for of_log in [true, false] {
         stop_each(rt, alloc, texts.as_str(), &work, of_log);

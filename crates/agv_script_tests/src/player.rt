@@ -1,6 +1,6 @@
 //! Scripts are played in a database: a desk is adopted before each call and released behind it. Each answer is the one that
 //! is wanted and the one that is decided in memory, and the world that is read of the tables is the one in memory. Besides
-//! what `lines` has, a script says of the database:
+//! what `lines` of `agv_test_support` has, a script says of the database:
 //!
 //! ```text
 //! sql                       statements, behind it, that others carry out: from here on nothing is decided in memory
@@ -16,8 +16,7 @@
 
 use crate::cases::{check, check_bytes, check_text, moment, shown};
 use crate::desks::{desk, opened};
-use crate::lines::{Said, answer_of, asks, parted, request_of, said_in};
-use crate::memory::{Asked, InMemory, MOMENT, asked, in_memory};
+use crate::memory::{Asked, InMemory, asked, in_memory};
 use crate::tables::{check_read, check_row, check_rows, is_lawful, rows_text};
 use agv_creation::desk_tables::make_desk_tables;
 use agv_creation::standing_tables::tables_stand;
@@ -28,6 +27,7 @@ use agv_header::Moment;
 use agv_http::{Routes, answer_bytes};
 use agv_row_reading::rowid_reading::query_rowids;
 use agv_store::Desk;
+use agv_test_support::lines::{MOMENT, Said, answer_of, asks, parted, request_of, said_in};
 use sqlite::{Alter, Connection};
 use std::alloc::Global;
 use std::process::Abort;
@@ -85,7 +85,7 @@ impl Player {
         conn: Connection<S>,
         said: &Said<'_>,
     ) -> Connection<S> {
-        self.request = request_of(rt, alloc, said);
+        self.request = request_of(alloc, said).expect(rt, said.line);
         let asked = asked(rt, alloc, &self.routes, self.request.as_str());
         let mut desk = desk(rt, alloc, conn, "adopt");
         let (found, report) = answer(rt, alloc, &mut desk, self.at, &asked);
@@ -138,7 +138,8 @@ impl Player {
             "rows" => check_rows(rt, alloc, conn, said.text.as_str()),
             "fault" => check_bytes(rt, &self.found, rest, self.request.as_str()),
             _ => {
-                let wanted = answer_of(rt, alloc, self.request.as_str(), said);
+                let wanted = answer_of(alloc, self.request.as_str(), said);
+                let wanted = wanted.expect(rt, said.line);
                 check_bytes(rt, &self.found, wanted.as_str(), self.request.as_str());
             }
         }
@@ -204,7 +205,7 @@ pub(crate) fn play<S: Alter + Drop>(
         request: String::new(alloc),
         found: Vec::new(alloc),
     };
-    for said in &said_in(rt, alloc, text) {
+    for said in &said_in(alloc, text).expect(rt, "a script") {
         let (word, rest) = parted(said.line);
         match word {
             "create" | "adopt" | "open" | "migrate" => {

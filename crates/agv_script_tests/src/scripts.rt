@@ -1,44 +1,18 @@
-//! The scripts, by their subjects: requests and their answers, worked out by hand. `starts` has what they begin with.
+//! The scripts are played: over a world in memory, call by call, as one list, and on files that fail.
 
-mod cancels;
-mod instants;
-mod layouts;
-mod loads;
-mod orders;
-mod refusals;
-pub(crate) mod starts;
-mod stocktakes;
-mod trips;
-mod two_loads;
-mod ways;
-pub(crate) mod written;
-
-use crate::lines::whole;
 use crate::lists::list_of;
 use crate::memory::play_in_memory;
 use crate::stops::stop_script;
-use crate::streams::{FAST, PACES};
 use crate::ways::{Way, in_memory, on_files};
+use agv_test_support::lines::whole;
+use agv_test_support::scripts::{FOR_ONE, cancels, stocktakes, trips, two_loads};
 use std::alloc::Global;
 use std::process::Abort;
 
-/// Scripts of vehicles for one load.
-const FOR_ONE: [&[&[&str]]; 14] = [
-    cancels::CANCELS,
-    instants::INSTANTS,
-    layouts::LAYOUTS,
-    layouts::MOST_VEHICLES,
-    loads::LOADS,
-    orders::ORDERS,
-    orders::UPDATES,
-    refusals::REFUSALS,
-    refusals::REFUSED_ORDERS,
-    stocktakes::STOCKTAKES,
-    stocktakes::OF_TWO_LOADS,
-    trips::TRIPS,
-    ways::WAYS,
-    written::WRITTEN,
-];
+/// The text of a script's parts.
+fn text_of(rt: &impl Abort, alloc: Global, parts: &[&str]) -> String {
+    whole(alloc, parts).expect(rt, "a script")
+}
 
 /// Plays a script call by call, in memory and on files.
 fn play(rt: &impl Abort, alloc: Global, text: &str) {
@@ -46,12 +20,8 @@ fn play(rt: &impl Abort, alloc: Global, text: &str) {
     on_files(rt, alloc, &Way::Calls(text));
 }
 
-/// Serves a script as streams at each pace, and as one list.
+/// Serves a script as one list.
 fn serve(rt: &impl Abort, alloc: Global, text: &str) {
-    for pace in PACES {
-        in_memory(rt, alloc, &Way::Stream(pace, text));
-    }
-    on_files(rt, alloc, &Way::Stream(FAST, text));
     let list = list_of(rt, alloc, text);
     in_memory(rt, alloc, &Way::List(&list));
     on_files(rt, alloc, &Way::List(&list));
@@ -62,7 +32,7 @@ fn serve(rt: &impl Abort, alloc: Global, text: &str) {
 fn call_by_call(rt: HostRuntime) {
     for scripts in FOR_ONE {
         for parts in scripts {
-            let text = whole(&rt, rt.alloc(), parts);
+            let text = text_of(&rt, rt.alloc(), parts);
             play_in_memory(&rt, rt.alloc(), 1, text.as_str());
             play(&rt, rt.alloc(), text.as_str());
         }
@@ -70,10 +40,10 @@ fn call_by_call(rt: HostRuntime) {
 }
 
 #[test]
-fn as_streams_and_lists(rt: HostRuntime) {
+fn as_lists(rt: HostRuntime) {
     for scripts in FOR_ONE {
         for parts in scripts {
-            let text = whole(&rt, rt.alloc(), parts);
+            let text = text_of(&rt, rt.alloc(), parts);
             serve(&rt, rt.alloc(), text.as_str());
         }
     }
@@ -83,12 +53,12 @@ fn as_streams_and_lists(rt: HostRuntime) {
 #[test]
 fn up_to_four_loads(rt: HostRuntime) {
     for parts in two_loads::TWO_LOADS {
-        let text = whole(&rt, rt.alloc(), parts);
+        let text = text_of(&rt, rt.alloc(), parts);
         play(&rt, rt.alloc(), text.as_str());
         serve(&rt, rt.alloc(), text.as_str());
     }
     for parts in two_loads::ONE_LOAD {
-        let text = whole(&rt, rt.alloc(), parts);
+        let text = text_of(&rt, rt.alloc(), parts);
         play_in_memory(&rt, rt.alloc(), 1, text.as_str());
     }
 }
@@ -96,18 +66,18 @@ fn up_to_four_loads(rt: HostRuntime) {
 /// An order that is carried out, one that is cancelled and its vehicle set right, and stocktakes, on files that fail.
 #[test]
 fn files_fail_while_an_order_is_carried_out(rt: HostRuntime) {
-    let text = whole(&rt, rt.alloc(), trips::CARRIED_OUT);
+    let text = text_of(&rt, rt.alloc(), trips::CARRIED_OUT);
     stop_script(&rt, rt.alloc(), text.as_str());
 }
 
 #[test]
 fn files_fail_while_an_order_is_cancelled(rt: HostRuntime) {
-    let text = whole(&rt, rt.alloc(), cancels::PLACED_THEN);
+    let text = text_of(&rt, rt.alloc(), cancels::PLACED_THEN);
     stop_script(&rt, rt.alloc(), text.as_str());
 }
 
 #[test]
 fn files_fail_while_stock_is_taken(rt: HostRuntime) {
-    let text = whole(&rt, rt.alloc(), stocktakes::STOCKTAKES[0]);
+    let text = text_of(&rt, rt.alloc(), stocktakes::STOCKTAKES[0]);
     stop_script(&rt, rt.alloc(), text.as_str());
 }

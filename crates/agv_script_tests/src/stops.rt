@@ -4,7 +4,6 @@
 use crate::cases::check;
 use crate::desks::{after_a_stop, blank, copied_out, desk, fused, open, opened};
 use crate::lists::{List, list_of, serve_from};
-use crate::streams::refused;
 use crate::tables::{rows_text, told_text};
 use agv_store::{Desk, OpenFault};
 use agv_world::Fault;
@@ -30,18 +29,12 @@ fn with_short_log() -> Options {
     options
 }
 
-/// Each call is answered `Storage`, and so is the first one of each stream.
-fn check_stays_failed<S: Alter + Drop>(
-    rt: &impl Abort,
-    alloc: Global,
-    desk: &mut Desk<S>,
-    list: &List,
-) {
+/// Each call is answered `Storage`. What becomes of streams then is in `stops` of `agv_stream_tests`.
+fn check_stays_failed<S: Alter + Drop>(rt: &impl Abort, desk: &mut Desk<S>, list: &List) {
     for (at, call) in &list.calls {
         let ended = desk.serve(*at, call);
         check(rt, ended.err() == Some(Fault::Storage), "it fails again");
     }
-    refused(rt, alloc, desk);
     check(rt, desk.failed(), "it has failed still");
 }
 
@@ -58,7 +51,7 @@ fn serve_until_it_fails<S: Alter + Drop>(
     check(rt, desk.failed() == fault.is_some(), "it has failed");
     if let Some(why) = fault {
         check(rt, why == Fault::Storage, "the store fails");
-        check_stays_failed(rt, alloc, desk, list);
+        check_stays_failed(rt, desk, list);
     } else {
         let whole = answers.len() == list.calls.len();
         check(rt, whole, "an answer to each call");

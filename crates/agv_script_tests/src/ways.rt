@@ -3,7 +3,6 @@
 use crate::desks::{blank, desk, open};
 use crate::lists::{List, serve_list};
 use crate::player::play;
-use crate::streams::{Cut, Pace, Whole, patient, serve_cut, stream, ten_reads};
 use sqlite::{Alter, Connection};
 use std::alloc::Global;
 use std::process::Abort;
@@ -15,16 +14,8 @@ pub(crate) enum Way<'t> {
     Database(&'t str),
     /// A script of a new desk, call by call.
     Calls(&'t str),
-    /// A script as streams.
-    Stream(Pace, &'t str),
     /// A script as one list.
     List(&'t List),
-    /// A stream that is cut.
-    Cut(&'t Whole, Cut),
-    /// A stream whose second request waits for the first answer.
-    Patient(&'t Whole),
-    /// A stream with ten reads at most.
-    TenReads(&'t Whole),
 }
 
 impl Way<'_> {
@@ -38,11 +29,7 @@ impl Way<'_> {
                 let conn = desk(rt, alloc, conn, "create").release_conn();
                 play(rt, alloc, conn, text);
             }
-            Way::Stream(pace, text) => stream(rt, alloc, conn, *pace, text),
             Way::List(list) => serve_list(rt, alloc, conn, list),
-            Way::Cut(whole, at) => serve_cut(rt, alloc, conn, whole, *at),
-            Way::Patient(whole) => patient(rt, alloc, conn, whole),
-            Way::TenReads(whole) => ten_reads(rt, alloc, conn, whole),
         }
     }
 }

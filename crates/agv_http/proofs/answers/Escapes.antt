@@ -5,8 +5,8 @@ use Rattle.json.specs.Print.{escape, escape_byte}
 use Rattle.serde_json.specs.View.{items_of}
 use Rattle.serde_json.specs.Written.{compact_text, items_text}
 use Rattle.agv_header.specs.Name.{IsName}
-use Rattle.agv_message.specs.Json.{text}
-use Rattle.agv_message.proofs.Escapes.{escape-name}
+use Rattle.agv_json.specs.Json.{text}
+use Rattle.agv_json.proofs.Escapes.{escape-name}
 use Rattle.agv_http.specs.answers.Pieces.{more_names}
 
 -- `KIT/0001` has no escapes

@@ -22,12 +22,12 @@ use Rattle.agv_header.specs.declared.refusal.Refusal.{Refusal}
 use Rattle.agv_header.specs.declared.refusal.Refusal.TheVariants as refusal
 use Rattle.agv_header.specs.declared.refusal.Verb.{Verb}
 use Rattle.agv_header.specs.declared.refusal.Verb.TheVariants as verb
-use Rattle.agv_message.specs.Json.{list, text}
+use Rattle.agv_json.specs.Json.{list, text}
 use Rattle.agv_http.specs.answers.Answers.{allowed, answer_text}
 use Rattle.agv_http.specs.answers.Bodies.{accepted_data, counted_data, held_data, instructed_data, plain_refusal_data, refusal_data, update_data, wrong_update_data}
 use Rattle.agv_http.specs.answers.Heads.{allow_line, connection_line, content_lines, head_text, line_end, status_line}
 use Rattle.agv_http.specs.answers.Sizes.{IsBrief, IsOfItsTypes, IsToldBriefly, is_outcome, names_size, outcome_bytes}
-use Rattle.agv_message.proofs.Escapes.{escape-name, escape-decimal}
+use Rattle.agv_json.proofs.Escapes.{escape-name, escape-decimal}
 use Rattle.agv_http.proofs.answers.Escapes.{escape-key}
 use Rattle.agv_http.proofs.answers.RefusalNames.{escape-refusal}
 use Rattle.agv_http.proofs.answers.ShortRefusals.{short_refusal}

@@ -14,12 +14,12 @@ use Rattle.agv_message.specs.declared.instant.InstantKind.TheVariants as kind
 use Rattle.agv_stock.specs.declared.place.Place.{Place}
 use Rattle.agv_stock.specs.declared.place.Place.TheVariants as place
 use Rattle.agv_world.specs.declared.row.VehicleRow.{VehicleRow}
-use Rattle.agv_message.specs.Json.{text, truth, whole}
+use Rattle.agv_json.specs.Json.{text, truth, whole}
 use Rattle.agv_http.specs.answers.Answers.{answer_text}
 use Rattle.agv_http.specs.answers.Bodies.{load_data, or_null, place_words}
 use Rattle.agv_http.specs.answers.Sizes.{IsNameIfAny, IsOrderShort, IsShortIfAny, IsVehicleShort}
 use Rattle.agv_http.specs.answers.VehicleBody.{vehicle_data, vehicle_parts}
-use Rattle.agv_message.proofs.Escapes.{escape-name}
+use Rattle.agv_json.proofs.Escapes.{escape-name}
 use Rattle.agv_http.proofs.answers.Lengths.{name_length, digits_length, key_length, whole_length}
 
 name_text_length : (s : List ℕ) → IsName s → length (compact_text (text s)) ≤ 34

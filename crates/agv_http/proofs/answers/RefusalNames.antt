@@ -8,7 +8,7 @@ use Rattle.agv_header.specs.declared.key.Thing.{Thing}
 use Rattle.agv_header.specs.declared.key.VehicleKey.{VehicleKey}
 use Rattle.agv_header.specs.declared.refusal.Refusal.{Refusal}
 use Rattle.agv_header.specs.declared.refusal.Refusal.TheVariants as refusal
-use Rattle.agv_message.specs.Json.{field, object_of, text, whole}
+use Rattle.agv_json.specs.Json.{field, object_of, text, whole}
 
 pub escape-refusal : (r : Refusal) → escape (name_of r) ≡ name_of r
 unfolding escape_byte

@@ -5,8 +5,8 @@ use Rattle.std.proofs.lemmas.List.{take_all, drop_all, append-nil, length-take-l
 use Rattle.std.proofs.Math.Seq.{take-append_seam, drop-append_seam}
 use borrow.Rule.Slice.PartMut.{post_of}
 use Rattle.agv_header.specs.declared.memory.Memory.{Memory}
-use Rattle.agv_message.specs.Appending.{Appended}
-use Rattle.agv_message.proofs.Appending.{appended_whole, joined, len_so_far, refused_then}
+use Rattle.agv_json.specs.Appending.{Appended}
+use Rattle.agv_json.proofs.Appending.{appended_whole, joined, len_so_far, refused_then}
 use Rattle.agv_http.specs.answers.Given.{turned}
 
 turned_length : (s : List ℕ) (a len : ℕ) → a + len ≤ length s → length (turned a len s) ≡ length s

@@ -2,9 +2,9 @@
 use Rattle.std.proofs.Common.{◌≡◌, Result, Ok, Err, IfErr, ap, subst, sym}
 use Rattle.std.specs.Result.{IsErrAnd}
 use Rattle.agv_header.specs.declared.refusal.Refusal.{Refusal}
-use Rattle.agv_message.specs.Body.{IsFaultOf}
-use Rattle.agv_message.specs.declared.body.BodyFault.{BodyFault}
-use Rattle.agv_message.specs.declared.body.BodyFault.TheVariants as fault
+use Rattle.agv_json.specs.Body.{IsFaultOf}
+use Rattle.agv_json.specs.declared.body.BodyFault.{BodyFault}
+use Rattle.agv_json.specs.declared.body.BodyFault.TheVariants as fault
 use Rattle.agv_http.specs.bodies.StateBody.{unless_refused}
 
 -- what is read is gone on with

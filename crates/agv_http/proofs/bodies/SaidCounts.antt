@@ -7,8 +7,8 @@ use Rattle.agv_header.specs.declared.refusal.Refusal.TheVariants as refusal
 use Rattle.agv_layout.specs.declared.row.LayoutRow.{LayoutRow}
 use Rattle.agv_count.specs.CountFile as stocktake
 use Rattle.agv_count.specs.LayoutFile as layout
-use Rattle.agv_message.specs.Body.{body_of}
-use Rattle.agv_message.specs.Members.{whole_at}
+use Rattle.agv_json.specs.Body.{body_of}
+use Rattle.agv_json.specs.Members.{whole_at}
 use Rattle.agv_message.specs.declared.state.StateMessage.{StateMessage}
 use Rattle.agv_desk.specs.StocktakeSteps.{Row}
 use Rattle.agv_desk.specs.declared.call.Call.{Call}

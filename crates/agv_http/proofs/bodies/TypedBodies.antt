@@ -21,10 +21,10 @@ use Rattle.agv_count.specs.LayoutFile.{edge_row, is_capacity, layout_columns, no
 use Rattle.agv_count.specs.LayoutFile as layout
 use Rattle.agv_count.specs.Records.{records_of}
 use Rattle.agv_count.specs.Table.{is_record, rows_under}
-use Rattle.agv_message.specs.Body.{body_of}
-use Rattle.agv_message.specs.Members.{below_2_32, member_at, text_at, whole_at}
-use Rattle.agv_message.specs.Position.{has_position}
-use Rattle.agv_message.specs.State.{is_bad, is_other_version, state_or_refusal, state_message, stamped, state_of, text}
+use Rattle.agv_json.specs.Body.{body_of}
+use Rattle.agv_json.specs.Members.{below_2_32, member_at, text_at, whole_at}
+use Rattle.agv_json.specs.Position.{has_position}
+use Rattle.agv_json.specs.State.{is_bad, is_other_version, state_or_refusal, state_message, stamped, state_of, text}
 use Rattle.agv_message.specs.declared.state.StateMessage.{StateMessage}
 use Rattle.agv_world.specs.Lawful.{IsKey}
 use Rattle.agv_desk.specs.StocktakeSteps.{Row}

@@ -5,8 +5,8 @@ use Rattle.serde_json.specs.Written.{compact_text}
 use Rattle.agv_header.specs.Refusal.{status_of}
 use Rattle.agv_header.specs.declared.refusal.Refusal.TheVariants as refusal
 use Rattle.agv_header.specs.declared.refusal.Verb.{Verb}
-use Rattle.agv_message.specs.Instant.{instant_data}
-use Rattle.agv_message.specs.Order.{order_data}
+use Rattle.agv_json.specs.InstantData.{instant_data}
+use Rattle.agv_json.specs.OrderData.{order_data}
 use Rattle.agv_desk.specs.declared.answer.Answer.{Answer}
 use Rattle.agv_desk.specs.declared.answer.Answer.TheVariants as answer
 use Rattle.agv_http.specs.answers.Bodies.{done_data, update_data, instructed_data, accepted_data, counted_data, load_data, refusal_data}

@@ -8,7 +8,7 @@ use Rattle.agv_header.specs.declared.key.VehicleKey.{VehicleKey}
 use Rattle.agv_header.specs.declared.refusal.Refusal.{Refusal}
 use Rattle.agv_header.specs.declared.refusal.Refusal.TheVariants as refusal
 use Rattle.agv_message.specs.Instant.{instant_id}
-use Rattle.agv_message.specs.Json.{field, list, object_of, text, truth, whole}
+use Rattle.agv_json.specs.Json.{field, list, object_of, text, truth, whole}
 use Rattle.agv_stock.specs.declared.place.Place.{Place}
 use Rattle.agv_stock.specs.declared.place.Place.TheVariants as place
 

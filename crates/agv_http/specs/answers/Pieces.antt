@@ -5,7 +5,7 @@ use Rattle.serde_json.specs.Data.{Data}
 use Rattle.serde_json.specs.Written.{compact_text}
 use Rattle.agv_count.specs.Reports.{key_text, thing_text}
 use Rattle.agv_message.specs.Instant.{instant_id, instant_name}
-use Rattle.agv_message.specs.Json.{list, text, truth, whole}
+use Rattle.agv_json.specs.Json.{list, text, truth, whole}
 use Rattle.agv_message.specs.declared.instant.InstantKind.{InstantKind}
 use Rattle.agv_http.specs.answers.Bodies.{or_null, place_words}
 use Rattle.agv_http.specs.declared.answers.piece.Piece.{Piece}

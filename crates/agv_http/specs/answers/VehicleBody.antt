@@ -3,7 +3,7 @@ use Rattle.std.specs.Prelude.{ℕ, Bool, List, [], ◌∷◌, Option, option_map
 use Rattle.serde_json.specs.Data.{Data}
 use Rattle.agv_header.specs.declared.key.VehicleKey.{VehicleKey}
 use Rattle.agv_message.specs.Instant.{instant_name}
-use Rattle.agv_message.specs.Json.{field, object_of, text, truth, whole}
+use Rattle.agv_json.specs.Json.{field, object_of, text, truth, whole}
 use Rattle.agv_world.specs.declared.row.VehicleRow.{VehicleRow}
 use Rattle.agv_desk.specs.declared.answer.OpenOrder.{OpenOrder}
 use Rattle.agv_http.specs.answers.Bodies.{or_null}

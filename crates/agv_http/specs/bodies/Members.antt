@@ -6,8 +6,8 @@ use Rattle.agv_header.specs.Name.{as_name}
 use Rattle.agv_header.specs.declared.key.VehicleKey.{VehicleKey}
 use Rattle.agv_header.specs.declared.refusal.Refusal.{Refusal}
 use Rattle.agv_header.specs.declared.refusal.Refusal.TheVariants as refusal
-use Rattle.agv_message.specs.Body.{body_of}
-use Rattle.agv_message.specs.Members.{below_2_32, member_at, text_at}
+use Rattle.agv_json.specs.Body.{body_of}
+use Rattle.agv_json.specs.Members.{below_2_32, member_at, text_at}
 
 -- go on with what is said, if it is
 abbrev pub given : {A B : Type 0} → Option A → (A → Option B) → Option B

@@ -1,7 +1,7 @@
 //! The bodies of answers.
 ghost use Rattle.serde_json.specs.Written.{compact_text};
 ghost use Rattle.agv_http.specs.answers.Bodies.{accepted_data, counted_data, held_data, instructed_data, load_data, plain_refusal_data, refusal_data, update_data, wrong_update_data};
-ghost use Rattle.agv_message.specs.Appending.{Appended};
+ghost use Rattle.agv_json.specs.Appending.{Appended};
 
 use crate::answers::piece::{Piece, put_pieces};
 use agv_header::{Memory, Name, Refusal, Thing, VehicleKey};

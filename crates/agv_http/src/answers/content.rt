@@ -2,7 +2,7 @@
 ghost use Rattle.std.specs.Prelude.{◌≡◌, ◌+◌, ◌<◌, ◌≤◌, option_map, vec_len, vec_capacity};
 ghost use Rattle.agv_http.specs.answers.Answers.{allowed, answer_content, answer_status, answer_text, content_text, media_type};
 ghost use Rattle.agv_http.specs.answers.Given.{head_of, turned};
-ghost use Rattle.agv_message.specs.Appending.{Appended};
+ghost use Rattle.agv_json.specs.Appending.{Appended};
 
 use crate::answers::body::{
     put_accepted, put_counted, put_instructed, put_load, put_refusal, put_update,
@@ -11,7 +11,7 @@ use crate::answers::head::put_head;
 use crate::answers::vehicle_body::put_vehicle;
 use agv_desk::Answer;
 use agv_header::{Memory, Refusal, Verb};
-use agv_message::{put_bytes, put_instant, put_order};
+use agv_json::{put_bytes, put_instant, put_order};
 
 /// Appends an answer, or a part of it where memory is refused: first its body and then its head, which then change
 /// places.

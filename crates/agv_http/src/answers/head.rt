@@ -2,7 +2,7 @@
 ghost use Rattle.std.specs.Prelude.{◌≡◌, ◌<◌, ◌≤◌, [], ◌++◌, unwrap_or, option_map};
 ghost use Rattle.http.specs.StatusCode.{reason_phrase};
 ghost use Rattle.agv_http.specs.answers.Heads.{allow_line, connection_line, content_lines, head_text, line_end, status_line};
-ghost use Rattle.agv_message.specs.Appending.{Appended};
+ghost use Rattle.agv_json.specs.Appending.{Appended};
 
 use crate::answers::piece::{Piece, put_pieces};
 use agv_header::{Memory, Verb};

@@ -1,14 +1,13 @@
 //! The pieces of a text, and appending them.
 ghost use Rattle.std.specs.List.{flat_map};
 ghost use Rattle.serde_json.specs.Written.{compact_text};
-ghost use Rattle.agv_message.specs.Appending.{Appended};
+ghost use Rattle.agv_json.specs.Appending.{Appended};
 ghost use Rattle.agv_http.specs.answers.Pieces.{piece_text, maybe_number, maybe_name, maybe_kind};
 
 use crate::answers::words::{put_key, put_names, put_place, put_thing};
 use agv_header::{Memory, Name, Thing, VehicleKey};
-use agv_message::{
-    InstantKind, put_action_id, put_bytes, put_instant_kind, put_name, put_number, put_truth,
-};
+use agv_json::{put_action_id, put_bytes, put_instant_kind, put_name, put_number, put_truth};
+use agv_message::InstantKind;
 use agv_stock::Place;
 
 /// A piece of a text: bytes as they are, or a JSON value.

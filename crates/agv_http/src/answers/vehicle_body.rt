@@ -1,7 +1,7 @@
 //! The description of a vehicle.
 ghost use Rattle.std.specs.Prelude.{◌≡◌, is_some};
 ghost use Rattle.serde_json.specs.Written.{compact_text};
-ghost use Rattle.agv_message.specs.Appending.{Appended};
+ghost use Rattle.agv_json.specs.Appending.{Appended};
 ghost use Rattle.agv_http.specs.answers.VehicleBody.{vehicle_data, vehicle_parts};
 
 use crate::answers::piece::{Piece, put_pieces};

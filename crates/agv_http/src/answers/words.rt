@@ -3,13 +3,13 @@ ghost use Rattle.std.specs.Prelude.{[], ◌∷◌, ◌++◌, map};
 ghost use Rattle.json.specs.Print.{escape};
 ghost use Rattle.serde_json.specs.Written.{compact_text};
 ghost use Rattle.agv_count.specs.Reports.{key_text, thing_text};
-ghost use Rattle.agv_message.specs.Appending.{Appended};
-ghost use Rattle.agv_message.specs.Json.{list, text};
+ghost use Rattle.agv_json.specs.Appending.{Appended};
+ghost use Rattle.agv_json.specs.Json.{list, text};
 ghost use Rattle.agv_http.specs.answers.Bodies.{place_words};
 ghost use Rattle.agv_http.specs.answers.Pieces.{more_names};
 
 use agv_header::{Memory, Name, Thing, VehicleKey};
-use agv_message::{put_bytes, put_name_after, put_words};
+use agv_json::{put_bytes, put_name_after, put_words};
 use agv_stock::Place;
 
 /// Appends `"KIT/0001"`.

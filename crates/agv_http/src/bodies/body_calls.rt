@@ -2,8 +2,8 @@
 ghost use Rattle.std.specs.Prelude.{◌≡◌, false, true, Ok, Err, IfOk, IfErr, IsOk};
 ghost use Rattle.std.specs.Str.{is_utf8};
 ghost use Rattle.agv_header.specs.declared.refusal.Refusal.TheVariants as refusal;
-ghost use Rattle.agv_message.specs.Body.{IsFaultOf};
-ghost use Rattle.agv_message.specs.declared.body.BodyFault.TheVariants as fault;
+ghost use Rattle.agv_json.specs.Body.{IsFaultOf};
+ghost use Rattle.agv_json.specs.declared.body.BodyFault.TheVariants as fault;
 ghost use Rattle.agv_http.specs.bodies.BodyCalls.{call_of_body, is_json, is_unread};
 
 use crate::Route::{self, Fixed, OfName, OfVehicle};
@@ -16,7 +16,7 @@ use crate::bodies::order_body::order_in;
 use crate::bodies::state_body::state_in;
 use crate::{FixedRoute, NamedRoute, VehicleRoute};
 use agv_desk::Call;
-use agv_message::{BodyFault, read_body};
+use agv_json::{BodyFault, read_body};
 use std::alloc::Global;
 
 /// The call that a request is, by its line of the table of routes and its body.

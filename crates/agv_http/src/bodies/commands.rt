@@ -1,14 +1,14 @@
 //! The calls that the bodies of commands say.
 ghost use Rattle.std.specs.Prelude.{◌≡◌, Ok, Err, IfOk, IfErr};
 ghost use Rattle.serde_json.specs.View.{view};
-ghost use Rattle.agv_message.specs.Body.{IsFaultOf};
+ghost use Rattle.agv_json.specs.Body.{IsFaultOf};
 ghost use Rattle.agv_http.specs.bodies.CommandBodies.{capacity_at, vehicle_from_json, load_from_json, correction_from_json, leave_from_json, job_from_json, advance_from_json, place_from_json};
 ghost use Rattle.agv_http.specs.bodies.Members.{or_bad_body};
 
 use crate::bodies::members::{key, name, optional_name, whole_or};
 use agv_desk::Call;
 use agv_header::{Name, Refusal, VehicleKey};
-use agv_message::{BodyFault, whole};
+use agv_json::{BodyFault, whole};
 use serde_json::Value;
 
 /// What the body of `RegisterVehicle` says.

@@ -1,12 +1,12 @@
 //! Bodies that are tables: the layout file and the stocktake file.
 ghost use Rattle.std.specs.Prelude.{◌≡◌, Ok, IfErr, IfOk};
 ghost use Rattle.agv_http.specs.bodies.CsvBodies.{stocktake_call, layout_call};
-ghost use Rattle.agv_message.specs.Body.{IsFaultOf};
+ghost use Rattle.agv_json.specs.Body.{IsFaultOf};
 
 use agv_count::{CsvFault, read_count, read_layout};
 use agv_desk::Call;
 use agv_header::{Name, Refusal};
-use agv_message::BodyFault;
+use agv_json::BodyFault;
 use std::alloc::Global;
 
 /// The call that the body of `SetLayout` makes.

@@ -1,15 +1,15 @@
-//! Members of a JSON object, as bodies have them: each reader gives what the member of that name says. `agv_message`
+//! Members of a JSON object, as bodies have them: each reader gives what the member of that name says. `agv_json`
 //! finds the members.
 ghost use Rattle.std.specs.Prelude.{◌≡◌};
 ghost use Rattle.serde_json.specs.View.{view};
 ghost use Rattle.agv_http.specs.bodies.Members.{key_at, name_at, name_in, optional_name_at, whole_in, whole_or_at};
 
 use agv_header::{Name, VehicleKey};
-use agv_message::{below_2_32, member};
+use agv_json::{below_2_32, member};
 use serde_json::Value;
 
 /// The member as a name.
-#[tactic(auto, unfolding(crate::specs::bodies::Members::name_at, agv_message::specs::Members::text_at))]
+#[tactic(auto, unfolding(crate::specs::bodies::Members::name_at, agv_json::specs::Members::text_at))]
 pub(crate) fn name(object: &Value, member_name: &str) -> Option<Name>
     ensures { result ≡ name_at member_name.now (view object.now) }
 {

@@ -6,14 +6,15 @@ ghost use Rattle.agv_header.specs.Each.{each};
 ghost use Rattle.agv_header.specs.declared.refusal.Refusal.TheVariants as refusal;
 ghost use Rattle.agv_http.specs.bodies.OrderBody.{both_stops, kind_of, listed_stops, order_in, order_from_json, stop_in, stops_from_json};
 ghost use Rattle.agv_http.specs.bodies.Members.{name_at};
-ghost use Rattle.agv_message.specs.Body.{IsFaultOf};
-ghost use Rattle.agv_message.specs.Members.{text_at};
-ghost use Rattle.agv_message.specs.declared.body.BodyFault.TheVariants as fault;
+ghost use Rattle.agv_json.specs.Body.{IsFaultOf};
+ghost use Rattle.agv_json.specs.Members.{text_at};
+ghost use Rattle.agv_json.specs.declared.body.BodyFault.TheVariants as fault;
 
 use crate::bodies::members::{key, name};
 use agv_desk::Call;
 use agv_header::{Memory, Name, Refusal};
-use agv_message::{ActKind, BodyFault, Sequence, has, items, member, read_body, whole};
+use agv_json::{BodyFault, has, items, member, read_body, whole};
+use agv_message::{ActKind, Sequence};
 use agv_order::Stop;
 use serde_json::Value;
 use std::alloc::Global;
@@ -133,7 +134,7 @@ fn stop_in(value: &Value) -> Option<Stop>
     Some(Stop { kind, job })
 }
 
-#[tactic(auto, unfolding(agv_message::specs::Members::text_at))]
+#[tactic(auto, unfolding(agv_json::specs::Members::text_at))]
 fn kind(stop: &Value) -> Option<ActKind>
     ensures { result ≡ option_and_then kind_of (text_at (codes "action") (view stop.now)) }
 {

@@ -3,12 +3,13 @@ ghost use Rattle.std.specs.Prelude.{◌≡◌, false, Ok, Err, IfErr, IfOk};
 ghost use Rattle.std.specs.Str.{is_utf8};
 ghost use Rattle.agv_header.specs.declared.refusal.Refusal.TheVariants as refusal;
 ghost use Rattle.agv_http.specs.bodies.StateBody.{is_sent_by, message_in, state_in};
-ghost use Rattle.agv_message.specs.Body.{IsFaultOf};
-ghost use Rattle.agv_message.specs.declared.body.BodyFault.TheVariants as fault;
+ghost use Rattle.agv_json.specs.Body.{IsFaultOf};
+ghost use Rattle.agv_json.specs.declared.body.BodyFault.TheVariants as fault;
 
 use agv_desk::Call;
 use agv_header::{Refusal, VehicleKey};
-use agv_message::{BodyFault, StateMessage, read_body, read_state};
+use agv_json::{BodyFault, read_body, read_state};
+use agv_message::StateMessage;
 use std::alloc::Global;
 
 /// The call that the body of `State` makes, where the path names the vehicle

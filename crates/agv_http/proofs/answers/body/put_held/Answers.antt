@@ -1,6 +1,6 @@
 use Rattle.std.proofs.Common.{ap, ◌∙◌}
 use Rattle.json.specs.Print.{escape_byte}
-use Rattle.agv_message.proofs.Appending.{same_text}
+use Rattle.agv_json.proofs.Appending.{same_text}
 use Rattle.agv_http.proofs.answers.RefusalNames.{held_text}
 use Rattle.agv_http.proofs.answers.body.put_held.Goals as goal
 

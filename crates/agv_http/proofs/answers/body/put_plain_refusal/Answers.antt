@@ -1,6 +1,6 @@
 use Rattle.std.proofs.Common.{◌∙◌}
 use Rattle.json.specs.Print.{escape_byte}
-use Rattle.agv_message.proofs.Appending.{same_text}
+use Rattle.agv_json.proofs.Appending.{same_text}
 use Rattle.agv_http.proofs.answers.RefusalNames.{escape-refusal, refusal_text}
 use Rattle.agv_http.proofs.answers.body.put_plain_refusal.Goals as goal
 

@@ -2,7 +2,7 @@ use Rattle.std.proofs.Common.{ℕ, ap}
 use Rattle.json.specs.Print.{escape_byte}
 use Rattle.serde_json.specs.Written.{compact_text}
 use Rattle.agv_http.specs.answers.Bodies.{update_data}
-use Rattle.agv_message.proofs.Appending.{same_text}
+use Rattle.agv_json.proofs.Appending.{same_text}
 use Rattle.agv_http.proofs.answers.body.put_update.Goals as goal
 
 pub returns : goal.returns

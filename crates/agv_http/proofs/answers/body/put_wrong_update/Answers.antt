@@ -1,7 +1,7 @@
 use Rattle.std.proofs.Common.{◌∙◌}
 use Rattle.std.proofs.Math.Path.{ap₂}
 use Rattle.json.specs.Print.{escape_byte}
-use Rattle.agv_message.proofs.Appending.{same_text}
+use Rattle.agv_json.proofs.Appending.{same_text}
 use Rattle.agv_http.proofs.answers.RefusalNames.{wrong_update_text}
 use Rattle.agv_http.proofs.answers.body.put_wrong_update.Goals as goal
 

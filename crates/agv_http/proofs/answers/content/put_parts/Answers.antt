@@ -1,7 +1,7 @@
 use Rattle.std.proofs.Common.{ℕ, List, [], ◌++◌, ◌-◌, ap, arith, length, length-append}
 use Rattle.agv_http.specs.answers.Answers.{answer_content, answer_text, content_text}
 use Rattle.agv_http.specs.answers.Given.{head_of}
-use Rattle.agv_message.proofs.Appending.{nothing_yet, refused_then}
+use Rattle.agv_json.proofs.Appending.{nothing_yet, refused_then}
 use Rattle.agv_http.proofs.answers.Turning.{len_of_two, second_unturned, two_turned}
 use Rattle.agv_http.proofs.answers.content.put_parts.Goals as goal
 

@@ -1,6 +1,6 @@
 use Rattle.std.proofs.Common.{◌≡◌, ℕ, List, ◌∷◌, ◌++◌, Option, Some, ap, sym, ◌∙◌, codes, decimal, append_assoc, option_map, Bor}
 use Rattle.agv_http.specs.answers.Heads.{content_lines, line_end}
-use Rattle.agv_message.proofs.Appending.{same_text}
+use Rattle.agv_json.proofs.Appending.{same_text}
 use Rattle.agv_http.proofs.answers.head.put_content_lines.Goals as goal
 
 two_lines : (kind : List ℕ) (len : ℕ)

@@ -1,6 +1,6 @@
 use Rattle.std.proofs.Common.{refl}
 use Rattle.agv_http.specs.answers.Heads.{head_text}
-use Rattle.agv_message.proofs.Appending.{three_texts, first_refused, second_refused}
+use Rattle.agv_json.proofs.Appending.{three_texts, first_refused, second_refused}
 use Rattle.agv_http.proofs.answers.head.put_head.Goals as goal
 
 pub returns-in_err-put_status_line : goal.returns-in_err-put_status_line

@@ -1,5 +1,5 @@
 use Rattle.std.proofs.Common.{refl}
-use Rattle.agv_message.proofs.Appending.{first_refused, two_texts}
+use Rattle.agv_json.proofs.Appending.{first_refused, two_texts}
 use Rattle.agv_http.proofs.answers.head.put_last_lines.Goals as goal
 
 pub returns-in_err-put_allow_line : goal.returns-in_err-put_allow_line

@@ -3,7 +3,7 @@ use Rattle.std.specs.List.{flat_map}
 use Rattle.std.proofs.lemmas.List.Folds.{length-flat_map-take}
 use Rattle.agv_http.specs.answers.Pieces.{piece_text}
 use Rattle.agv_http.specs.declared.answers.piece.Piece.{Piece}
-use Rattle.agv_message.proofs.Appending.{refused_then}
+use Rattle.agv_json.proofs.Appending.{refused_then}
 use Rattle.agv_http.proofs.answers.piece.put_pieces.Goals as goal
 
 pub returns-in_err-put_piece : goal.returns-in_err-put_piece

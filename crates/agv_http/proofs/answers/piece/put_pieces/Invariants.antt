@@ -1,6 +1,6 @@
 use Rattle.std.proofs.Common.{take}
 use Rattle.std.specs.List.{flat_map}
-use Rattle.agv_message.specs.Appending.{SoFar}
+use Rattle.agv_json.specs.Appending.{SoFar}
 use Rattle.agv_http.specs.answers.Pieces.{piece_text}
 use Rattle.agv_http.proofs.answers.piece.put_pieces.Given as goal
 

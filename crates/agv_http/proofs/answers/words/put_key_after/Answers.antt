@@ -1,5 +1,5 @@
 use Rattle.std.proofs.Common.{List, ℕ, ◌∷◌, [], ◌++◌, ◌∙◌, ap, ap₂}
-use Rattle.agv_message.proofs.Appending.{same_text}
+use Rattle.agv_json.proofs.Appending.{same_text}
 use Rattle.agv_http.proofs.answers.Escapes.{key_between}
 use Rattle.agv_http.proofs.answers.words.put_key_after.Goals as goal
 

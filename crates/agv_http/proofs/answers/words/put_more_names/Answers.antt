@@ -1,9 +1,9 @@
 use Rattle.std.proofs.Common.{arith, ◌≤◌, ◌+◌, sym, subst, List, ℕ, ◌∷◌, length, take}
 use Rattle.std.proofs.lemmas.List.Folds.{length-flat_map-take}
 use Rattle.serde_json.specs.Written.{compact_text}
-use Rattle.agv_message.specs.Json.{text}
+use Rattle.agv_json.specs.Json.{text}
 use Rattle.agv_http.specs.answers.Pieces.{more_names}
-use Rattle.agv_message.proofs.Appending.{refused_then}
+use Rattle.agv_json.proofs.Appending.{refused_then}
 use Rattle.agv_http.proofs.answers.words.put_more_names.Goals as goal
 
 pub returns-in_err-put_name_after : goal.returns-in_err-put_name_after

@@ -1,5 +1,5 @@
 use Rattle.std.proofs.Common.{take}
-use Rattle.agv_message.specs.Appending.{SoFar}
+use Rattle.agv_json.specs.Appending.{SoFar}
 use Rattle.agv_http.specs.answers.Pieces.{more_names}
 use Rattle.agv_http.proofs.answers.words.put_more_names.Given as goal
 

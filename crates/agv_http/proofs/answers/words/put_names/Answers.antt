@@ -1,5 +1,5 @@
 use Rattle.std.proofs.Common.{◌≡◌, ◌∷◌, []}
-use Rattle.agv_message.proofs.Appending.{three_texts, second_refused}
+use Rattle.agv_json.proofs.Appending.{three_texts, second_refused}
 use Rattle.agv_http.proofs.answers.Escapes.{names_text}
 use Rattle.agv_http.proofs.answers.words.put_names.Goals as goal
 

@@ -2,8 +2,8 @@ use Rattle.std.proofs.Common.{List, ℕ, ◌∷◌, [], ◌++◌, ◌∙◌, ap,
 use Rattle.json.specs.Print.{escape_byte, quoted}
 use Rattle.agv_stock.specs.declared.place.Place.{Place}
 use Rattle.agv_http.specs.answers.Bodies.{place_words}
-use Rattle.agv_message.proofs.Appending.{same_text}
-use Rattle.agv_message.proofs.Escapes.{escape-name}
+use Rattle.agv_json.proofs.Appending.{same_text}
+use Rattle.agv_json.proofs.Escapes.{escape-name}
 use Rattle.agv_http.proofs.answers.words.put_place.Goals as goal
 
 pub returns-in-Station : goal.returns-in-Station

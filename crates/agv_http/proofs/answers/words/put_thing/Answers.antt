@@ -2,8 +2,8 @@ use Rattle.std.proofs.Common.{List, ℕ, ◌∷◌, [], ◌++◌, ◌∙◌, ap,
 use Rattle.json.specs.Print.{escape_byte, quoted}
 use Rattle.agv_count.specs.Reports.{thing_text}
 use Rattle.agv_header.specs.declared.key.Thing.{Thing}
-use Rattle.agv_message.proofs.Appending.{same_text}
-use Rattle.agv_message.proofs.Escapes.{escape-name}
+use Rattle.agv_json.proofs.Appending.{same_text}
+use Rattle.agv_json.proofs.Escapes.{escape-name}
 use Rattle.agv_http.proofs.answers.words.put_thing.Goals as goal
 
 pub returns-in-Node : goal.returns-in-Node

@@ -1,5 +1,5 @@
 use Rattle.std.proofs.Common.{Some, sym, ap, ◌∙◌}
-use Rattle.agv_message.proofs.Arrays.{after-all, after-none, after-read, after-unread}
+use Rattle.agv_json.proofs.Arrays.{after-all, after-none, after-read, after-unread}
 use Rattle.agv_http.specs.bodies.OrderBody.{stop_in}
 use Rattle.agv_http.proofs.bodies.order_body.stops_in.Goals as goal
 

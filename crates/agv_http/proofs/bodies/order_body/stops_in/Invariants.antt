@@ -1,7 +1,7 @@
 use Rattle.std.proofs.Common.{◌≡◌, map, drop}
 use Rattle.serde_json.specs.View.{view}
 use Rattle.agv_header.specs.Each.{each}
-use Rattle.agv_message.proofs.Arrays.{after}
+use Rattle.agv_json.proofs.Arrays.{after}
 use Rattle.agv_http.specs.bodies.OrderBody.{stop_in}
 use Rattle.agv_http.proofs.bodies.order_body.stops_in.Given as goal
 

@@ -1,7 +1,7 @@
 use Rattle.std.proofs.Common.{◌≡◌, Result, Ok, IfOk, IfErr, subst, sym}
 use Rattle.agv_header.specs.declared.refusal.Refusal.{Refusal}
-use Rattle.agv_message.specs.Body.{IsFaultOf}
-use Rattle.agv_message.specs.State.{state_of}
+use Rattle.agv_json.specs.Body.{IsFaultOf}
+use Rattle.agv_json.specs.State.{state_of}
 use Rattle.agv_message.specs.declared.state.StateMessage.{StateMessage}
 use Rattle.agv_http.proofs.bodies.Readings.{passed_on, read_on, refused_on}
 use Rattle.agv_http.specs.bodies.StateBody.{message_in}

@@ -1,0 +1,12 @@
+pub mod Action
+pub mod Appending
+pub mod Body
+pub mod InstantData
+pub mod Json
+pub mod Members
+pub mod OrderData
+pub mod Parts
+pub mod Pieces
+pub mod Position
+pub mod Readable
+pub mod State

@@ -1,0 +1,252 @@
+//! The text of a script. A line begins with what it says, and lines behind it that begin with `| ` are its text:
+//!
+//! ```text
+//! # what is going on
+//! at 1700000000000                        the moment of the calls from here on
+//! POST /loads {"load":"L1"}               a request: its method, its target and its body
+//! 200 {}                                  its answer: the status and the body; `200!` says that the stream ends, too
+//! state 0001 2 O1 0 N1 0 O1.0=FINISHED    a state of KIT/0001, number 2: its order (- for none), the update, the last
+//! 200 {"accepted":true}                   node and its place, and statuses of actions
+//! moves L1 station B                      the loads that the last call moved, in turn, with commas between
+//! row job J1 L1 A B done                  a row that a table has
+//! rows                                    all rows of all tables
+//! | meta 1 2
+//! *100 load L# station A# NULL NULL       so many lines, in which # is 000, 001 and so on, and % the end of a line
+//! ```
+//!
+//! The heads of requests and answers are worked out. What a database and a stream say besides is in `player` of
+//! `agv_script_tests` and `streams` of `agv_stream_tests`.
+//!
+//! A function that reads a text gives `None` where an allocation is refused, or where the text is no line of a script.
+
+use std::alloc::Global;
+
+/// The moment of all calls, in milliseconds, unless a script says another one.
+pub const MOMENT: i64 = 1_700_000_000_000;
+
+/// A line of a script, and the text behind it.
+#[derive(Drop)]
+pub struct Said<'s> {
+    /// The line.
+    pub line: &'s str,
+    /// The lines behind it, each with its end.
+    pub text: String,
+}
+
+/// Puts a text and the end of its line.
+fn put(whole: &mut String, line: &str) -> Option<()> {
+    whole.push_str(line).ok()?;
+    whole.push_str("\n").ok()
+}
+
+/// Puts a line so often as it says.
+fn put_often(alloc: Global, whole: &mut String, line: &str) -> Option<()> {
+    let (times, line) = parted(line);
+    let lines = line.replace(alloc, '%', "\n").ok()?;
+    for i in 0..number(times)? {
+        let digits = format!(in alloc; "{i:03}").ok()?;
+        let line = lines.replace(alloc, '#', digits.as_str()).ok()?;
+        put(whole, line.as_str())?;
+    }
+    Some(())
+}
+
+/// The number that the digits are.
+fn number(digits: &str) -> Option<usize> {
+    digits.parse::<usize>().ok()
+}
+
+/// Puts the lines of a text.
+fn put_lines(alloc: Global, whole: &mut String, text: &str) -> Option<()> {
+    for line in text.lines() {
+        match line.strip_prefix("*") {
+            Some(often) => put_often(alloc, whole, often)?,
+            None => put(whole, line)?,
+        }
+    }
+    Some(())
+}
+
+/// The text of a script's parts.
+pub fn whole(alloc: Global, parts: &[&str]) -> Option<String> {
+    let mut whole = String::new(alloc);
+    for text in parts {
+        put_lines(alloc, &mut whole, text)?;
+    }
+    Some(whole)
+}
+
+/// Puts a line, or more of the text of the last one.
+fn put_line<'s>(alloc: Global, said: &mut Vec<Said<'s>>, line: &'s str) -> Option<()> {
+    if line.is_empty() || line.starts_with('#') {
+        return Some(());
+    }
+    match line.strip_prefix("| ") {
+        Some(more) => {
+            let last = said.last_mut()?;
+            put(&mut last.text, more)
+        }
+        None => {
+            let text = String::new(alloc);
+            said.push(Said { line, text }).ok()
+        }
+    }
+}
+
+/// The lines of a text, each with the text behind it.
+pub fn said_in<'s>(alloc: Global, text: &'s str) -> Option<Vec<Said<'s>>> {
+    let mut said = Vec::new(alloc);
+    for line in text.lines() {
+        put_line(alloc, &mut said, line)?;
+    }
+    Some(said)
+}
+
+/// The texts behind the lines of a script's parts.
+pub fn texts_of(alloc: Global, parts: &[&str]) -> Option<String> {
+    let whole = whole(alloc, parts)?;
+    let mut texts = String::new(alloc);
+    for said in &said_in(alloc, whole.as_str())? {
+        texts.push_str(said.text.as_str()).ok()?;
+    }
+    Some(texts)
+}
+
+/// The two parts of a line at its first blank; the second is empty where there is none.
+pub fn parted(line: &str) -> (&str, &str) {
+    line.split_once(' ').unwrap_or((line, ""))
+}
+
+/// The text in the line, or else the one behind it.
+fn text_of<'t>(in_line: &'t str, behind: &'t str) -> &'t str {
+    if in_line.is_empty() { behind } else { in_line }
+}
+
+/// The request with this method, this target and this body. A `GET` or `DELETE` without a body says no length.
+fn request_text(alloc: Global, method: &str, target: &str, body: &str) -> Option<String> {
+    let text = if body.is_empty() && (method == "GET" || method == "DELETE") {
+        format!(in alloc; "{method} {target} HTTP/1.1\r\n\r\n")
+    } else {
+        format!(in alloc;
+            "{method} {target} HTTP/1.1\r\nContent-Length: {}\r\n\r\n{body}",
+            body.len()
+        )
+    };
+    text.ok()
+}
+
+/// The statuses of actions, as JSON.
+fn put_action(actions: &mut String, word: &str) -> Option<()> {
+    let (id, status) = word.split_once('=')?;
+    if !actions.is_empty() {
+        actions.push_str(",").ok()?;
+    }
+    let put = write!(
+        actions,
+        "{{\"actionId\":\"{id}\",\"actionStatus\":\"{status}\"}}"
+    );
+    put.ok()
+}
+
+/// The state that the words say, of a vehicle that is ready.
+fn state_text(alloc: Global, line: &str) -> Option<String> {
+    let mut words = line.split_whitespace();
+    let serial = words.next()?;
+    let number = words.next()?;
+    let order = words.next()?.trim_matches('-');
+    let update = words.next()?;
+    let node = words.next()?;
+    let place = words.next()?;
+    let mut actions = String::new(alloc);
+    for word in words {
+        put_action(&mut actions, word)?;
+    }
+    let body = format!(in alloc;
+        "{{\"headerId\":{number},\"timestamp\":\"2023-11-14T22:13:19.50Z\",\"version\":\"2.0.0\",\
+         \"manufacturer\":\"KIT\",\"serialNumber\":\"{serial}\",\"orderId\":\"{order}\",\"orderUpdateId\":{update},\
+         \"lastNodeId\":\"{node}\",\"lastNodeSequenceId\":{place},\"driving\":false,\"nodeStates\":[],\
+         \"edgeStates\":[],\"actionStates\":[{actions}],\
+         \"batteryState\":{{\"batteryCharge\":80,\"charging\":false}},\"operatingMode\":\"AUTOMATIC\",\
+         \"errors\":[],\"safetyState\":{{\"eStop\":\"NONE\",\"fieldViolation\":false}}}}"
+    );
+    let body = body.ok()?;
+    let target = format!(in alloc; "/uagv/v2/KIT/{serial}/state").ok()?;
+    request_text(alloc, "POST", target.as_str(), body.as_str())
+}
+
+/// Whether a line begins with this word for a request.
+pub fn asks(word: &str) -> bool {
+    matches!(word, "GET" | "POST" | "PUT" | "DELETE" | "state")
+}
+
+/// The request of a line.
+pub fn request_of(alloc: Global, said: &Said<'_>) -> Option<String> {
+    let (first, rest) = parted(said.line);
+    if first == "state" {
+        return state_text(alloc, rest);
+    }
+    let (target, body) = parted(rest);
+    let body = text_of(body, said.text.as_str());
+    request_text(alloc, first, target, body)
+}
+
+/// The reason of a status of a script.
+fn reason_of(status: &str) -> Option<&'static str> {
+    Some(match status {
+        "200" => "OK",
+        "400" => "Bad Request",
+        "404" => "Not Found",
+        "405" => "Method Not Allowed",
+        "409" => "Conflict",
+        "411" => "Length Required",
+        "413" => "Payload Too Large",
+        "422" => "Unprocessable Entity",
+        "501" => "Not Implemented",
+        "503" => "Service Unavailable",
+        _ => return None,
+    })
+}
+
+/// The type of an answer to a request.
+fn type_of(request: &str, status: &str) -> &'static str {
+    if status != "200" {
+        "application/json"
+    } else if request.starts_with("GET /report/") {
+        "text/plain"
+    } else if request.starts_with("GET /export/") {
+        "text/csv"
+    } else {
+        "application/json"
+    }
+}
+
+/// The answer of a line to a request. That of 405 has the method that is allowed before its body.
+pub fn answer_of(alloc: Global, request: &str, said: &Said<'_>) -> Option<String> {
+    let (status, body) = parted(said.line);
+    let body = text_of(body, said.text.as_str());
+    let (status, close) = match status.strip_suffix("!") {
+        Some(status) => (status, "Connection: close\r\n"),
+        None => (status, ""),
+    };
+    if status == "204" {
+        let text = format!(in alloc; "HTTP/1.1 204 No Content\r\n{close}\r\n");
+        return text.ok();
+    }
+    let (allow, body) = if status == "405" {
+        parted(body)
+    } else {
+        ("", body)
+    };
+    let reason = reason_of(status)?;
+    let kind = type_of(request, status);
+    let len = body.len();
+    let (name, end) = if allow.is_empty() {
+        ("", "")
+    } else {
+        ("Allow: ", "\r\n")
+    };
+    let text = format!(in alloc;
+        "HTTP/1.1 {status} {reason}\r\nContent-Length: {len}\r\nContent-Type: {kind}\r\n{name}{allow}{end}{close}\r\n{body}"
+    );
+    text.ok()
+}

@@ -1,0 +1,32 @@
+//! The scripts, by their subjects: requests and their answers, worked out by hand. `starts` has what they begin with.
+
+pub mod cancels;
+pub mod instants;
+pub mod layouts;
+pub mod loads;
+pub mod orders;
+pub mod refusals;
+pub mod starts;
+pub mod stocktakes;
+pub mod trips;
+pub mod two_loads;
+pub mod ways;
+pub mod written;
+
+/// Scripts of vehicles for one load.
+pub const FOR_ONE: [&[&[&str]]; 14] = [
+    cancels::CANCELS,
+    instants::INSTANTS,
+    layouts::LAYOUTS,
+    layouts::MOST_VEHICLES,
+    loads::LOADS,
+    orders::ORDERS,
+    orders::UPDATES,
+    refusals::REFUSALS,
+    refusals::REFUSED_ORDERS,
+    stocktakes::STOCKTAKES,
+    stocktakes::OF_TWO_LOADS,
+    trips::TRIPS,
+    ways::WAYS,
+    written::WRITTEN,
+];
