@@ -1,5 +1,5 @@
-//! The scripts of `agv_test_support`, served as streams: bytes in pieces in, and bytes out. The desk's files are in memory; the
-//! scripts of `tests/` are served as streams by a program that keeps its rows in memory, too.
+//! The scripts of `agv_test_support`, served as streams: bytes in pieces in, and bytes out. The desk's files are in memory, as
+//! those of the program are with `--db memory`; a desk over the store in memory serves calls in `agv_script_tests`.
 //!
 //! - `streams` serves a script as bytes in pieces, and `scripts` has each served.
 //! - `inputs` has streams that end, wait or fail; `fakes` has their reader and writer.
