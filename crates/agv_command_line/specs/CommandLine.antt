@@ -79,13 +79,21 @@ migrate = with_rule (new_app (codes "migrate")) db
 abbrev pub desk_top : App
 desk_top = record { top = record (new_app (codes "desk")).top { no_binary_name = true; subcommand_required = true }; subs = [] }
 
+-- the command with the subcommand `replay`
+abbrev pub replaying : App
+replaying = with_subcommand desk_top replay.top
+
 -- the command with the two subcommands that answer requests
 abbrev pub answering : App
-answering = with_subcommand (with_subcommand desk_top replay.top) serve.top
+answering = with_subcommand replaying serve.top
+
+-- the command with these and the report
+abbrev pub reporting : Choice → App
+reporting kinds = with_subcommand answering (report kinds).top
 
 -- the whole command, as `clap` is told of it
 abbrev pub desk : Choice → App
-desk kinds = with_subcommand (with_subcommand answering (report kinds).top) migrate.top
+desk kinds = with_subcommand (reporting kinds) migrate.top
 
 -- the command is told so, and none of its arguments is one of its subcommands' too
 abbrev pub IsApp : App → Command → Type 0

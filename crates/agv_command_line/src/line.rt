@@ -1,9 +1,9 @@
 //! The command line: `replay --db FILE|memory --at MILLIS`, `serve --db FILE --port P
 //! --connections N`, `report --db FILE stock|holds`, and `migrate --db FILE`.
 ghost use Rattle.std.specs.Prelude.{◌≡◌, IfOk, IfErr, IfSome, IsSome, false, map, string_bytes, codes};
-ghost use Rattle.clap.specs.Words.{found_of, rows_of, rule_of};
+ghost use Rattle.clap.specs.Words.{found_of, new_app, rows_of, rule_of};
 ghost use Rattle.clap.specs.declared.builder.command.Command.TheViews.{out-Command};
-ghost use Rattle.agv_command_line.specs.CommandLine.{AreKinds, Choice, Gives, HasValues, IsApp, IsLine, IsLineFault, IsOneOf, answering, db, desk, kind_word, migrate, name_of, number, replay, report, report_kind, required_option, serve};
+ghost use Rattle.agv_command_line.specs.CommandLine.{AreKinds, Choice, Gives, HasValues, IsApp, IsLine, IsLineFault, IsOneOf, answering, db, desk, desk_top, kind_word, migrate, name_of, number, replay, replaying, report, report_kind, reporting, required_option, serve};
 ghost use Rattle.agv_command_line.specs.declared.line.ReportKind.{ReportKind};
 
 use clap::error::ErrorKind;
@@ -98,31 +98,60 @@ pub fn line_of<'a>(alloc: Global, words: &'a [String]) -> Result<Line<'a>, LineF
 fn desk_command<'a>(alloc: Global) -> Result<Command<'a>, AllocError>
     ensures { IfOk result (λ command. (kinds : Choice) × AreKinds kinds × IsApp (desk kinds) command) }
 {
+    let desk = reporting_command(alloc)?;
+    desk.subcommand(migrate_command(alloc)?)
+}
+
+/// The command, with the subcommands that answer requests and `report`.
+fn reporting_command<'a>(alloc: Global) -> Result<Command<'a>, AllocError>
+    ensures { IfOk result (λ command. (kinds : Choice) × AreKinds kinds × IsApp (reporting kinds) command) }
+{
     let desk = answering_command(alloc)?;
-    desk.subcommand(report_command(alloc)?)?
-        .subcommand(migrate_command(alloc)?)
+    desk.subcommand(report_command(alloc)?)
 }
 
 /// The command, with the two subcommands that answer requests.
 fn answering_command<'a>(alloc: Global) -> Result<Command<'a>, AllocError>
     ensures { IfOk result (IsApp answering) }
 {
-    Command::new(alloc, "desk")
-        .about("Nulvrader 0.1.0, the control desk of one warehouse: its vehicles, loads and orders")
-        .after_help("Example: desk replay --db memory --at 1700000000000 < requests.txt")
+    let desk = replaying_command(alloc)?;
+    desk.subcommand(serve_command(alloc)?)
+}
+
+/// The command, with the subcommand `replay`.
+fn replaying_command<'a>(alloc: Global) -> Result<Command<'a>, AllocError>
+    ensures { IfOk result (IsApp replaying) }
+{
+    let replay = replay_command(alloc)?;
+    top_command(alloc).subcommand(replay)
+}
+
+/// The command, before it has a subcommand.
+fn top_command<'a>(alloc: Global) -> Command<'a>
+    ensures { IsApp desk_top result }
+{
+    let about =
+        "Nulvrader 0.1.0, the control desk of one warehouse: its vehicles, loads and orders";
+    let example = "Example: desk replay --db memory --at 1700000000000 < requests.txt";
+    named_command(alloc, "desk", about, example)
         .no_binary_name(true)
         .subcommand_required(true)
-        .subcommand(replay_command(alloc)?)?
-        .subcommand(serve_command(alloc)?)
+}
+
+/// A command of this name, with what its help says of it.
+fn named_command<'a>(alloc: Global, name: &'a str, about: &'a str, example: &'a str) -> Command<'a>
+    ensures { IsApp (new_app name.now) result }
+{
+    Command::new(alloc, name).about(about).after_help(example)
 }
 
 /// The subcommand `replay`.
 fn replay_command<'a>(alloc: Global) -> Result<Command<'a>, AllocError>
     ensures { IfOk result (IsApp replay) }
 {
-    Command::new(alloc, "replay")
-        .about("Reads requests from standard input and writes the answers to standard output")
-        .after_help("Example: desk replay --db memory --at 1700000000000 < requests.txt")
+    let about = "Reads requests from standard input and writes the answers to standard output";
+    let example = "Example: desk replay --db memory --at 1700000000000 < requests.txt";
+    named_command(alloc, "replay", about, example)
         .arg(required_arg(
             alloc,
             "db",
@@ -171,9 +200,9 @@ fn number_arg<'a>(alloc: Global, name: &'a str, value: &'a str, most: i64, help:
 fn serve_command<'a>(alloc: Global) -> Result<Command<'a>, AllocError>
     ensures { IfOk result (IsApp serve) }
 {
-    Command::new(alloc, "serve")
-        .about("Answers requests over the network, to programs on this machine (127.0.0.1)")
-        .after_help("Example: desk serve --db desk.db --port 8080 --connections 100")
+    let about = "Answers requests over the network, to programs on this machine (127.0.0.1)";
+    let example = "Example: desk serve --db desk.db --port 8080 --connections 100";
+    named_command(alloc, "serve", about, example)
         .arg(file_arg(alloc))?
         .arg(number_arg(
             alloc,
@@ -195,9 +224,9 @@ fn serve_command<'a>(alloc: Global) -> Result<Command<'a>, AllocError>
 fn report_command<'a>(alloc: Global) -> Result<Command<'a>, AllocError>
     ensures { IfOk result (λ command. (kinds : Choice) × AreKinds kinds × IsApp (report kinds) command) }
 {
-    Command::new(alloc, "report")
-        .about("Prints a report of the records: where the loads are, or what the vehicles hold")
-        .after_help("Example: desk report --db desk.db stock")
+    let about = "Prints a report of the records: where the loads are, or what the vehicles hold";
+    let example = "Example: desk report --db desk.db stock";
+    named_command(alloc, "report", about, example)
         .arg(file_arg(alloc))?
         .arg(kind_arg(alloc))
 }
@@ -221,10 +250,9 @@ fn kind_arg<'a>(alloc: Global) -> Arg<'a>
 fn migrate_command<'a>(alloc: Global) -> Result<Command<'a>, AllocError>
     ensures { IfOk result (IsApp migrate) }
 {
-    Command::new(alloc, "migrate")
-        .about("Migrates a file of the first schema (one load a vehicle) to the second")
-        .after_help("Example: sqlite3 desk.db '.backup before.db'; desk migrate --db desk.db")
-        .arg(file_arg(alloc))
+    let about = "Migrates a file of the first schema (one load a vehicle) to the second";
+    let example = "Example: sqlite3 desk.db '.backup before.db'; desk migrate --db desk.db";
+    named_command(alloc, "migrate", about, example).arg(file_arg(alloc))
 }
 
 /// The line of the subcommand `name`.

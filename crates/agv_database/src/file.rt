@@ -5,6 +5,7 @@ ghost use Rattle.sqlite.specs.Files.{IsOpened, file_state};
 ghost use Rattle.sqlite.specs.Held.{IsNew};
 ghost use Rattle.sqlite.specs.Opening.{is_open_error};
 ghost use Rattle.sqlite.specs.State.{HasCleanDisk};
+ghost use Rattle.sqlite_wal.specs.Reads.{OnlyReads};
 ghost use Rattle.agv_database.specs.FoundDatabases.{Shows};
 
 use crate::new_database::{NO_MEMORY, PAGE_SIZE, new_database};
@@ -42,8 +43,8 @@ pub fn open_file(rt: &HostRuntime, path: &str) -> Result<Connection<FileStore<Fi
     ensures fresh { IfOk result IsNew }
     ensures fault { IfErr result (λ error. IsTrue (is_open_error error)) }
 {
-    let files = files_at(rt, path)?;
     let seed = random_number(rt)?;
+    let files = files_at(rt, path)?;
     let mut conn = open_files(rt.alloc(), files, seed)?;
     conn.set_clock(rt);
     Ok(conn)
@@ -70,7 +71,7 @@ fn files_at(rt: &HostRuntime, path: &str) -> Result<Files<File>, Error>
 
 // A random number, for the salts of the log.
 fn random_number(rt: &HostRuntime) -> Result<u64, Error>
-    ensures { IfErr result (λ error. IsTrue (is_open_error error)) }
+    ensures { IfErr result (λ error. error ≡ Error.SqliteFailure ErrorCode.CannotOpen) }
 {
     match RandomState::new(rt) {
         Ok(state) => Ok(state.hash_one(&0u8)),
@@ -119,14 +120,25 @@ fn open_existing<D: Disk + Drop>(
     ensures fresh { IfOk result IsNew }
     ensures fault { IfErr result (λ error. IsTrue (is_open_error error)) }
 {
-    let options = match probe_page_size(&mut files) {
-        Ok(Some(size)) if size.bytes() == PAGE_SIZE => small_page_options(seed),
-        Ok(_) => Options::new(seed),
-        Err(_) => return Err(Error::SqliteFailure(ErrorCode::SystemIoFailure)),
-    };
+    let options = options_of(&mut files, seed)?;
     match Connection::open_files_with(alloc, files, options, false) {
         Ok(conn) => Ok(conn),
         Err((error, _)) => Err(error),
+    }
+}
+
+// How these files are opened, by the size of their pages.
+fn options_of<D: Disk>(files: &mut Files<D>, seed: u64) -> Result<Options, Error>
+    requires log { IsTrue (D.Disk.is_usable files.old.log) }
+    requires db { IsTrue (D.Disk.is_usable files.old.db) }
+    ensures log { OnlyReads D.Disk files.old.log files.new.log }
+    ensures db { OnlyReads D.Disk files.old.db files.new.db }
+    ensures fault { IfErr result (λ error. IsTrue (is_open_error error)) }
+{
+    match probe_page_size(files) {
+        Ok(Some(size)) if size.bytes() == PAGE_SIZE => Ok(small_page_options(seed)),
+        Ok(_) => Ok(Options::new(seed)),
+        Err(_) => Err(Error::SqliteFailure(ErrorCode::SystemIoFailure)),
     }
 }
 

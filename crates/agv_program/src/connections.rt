@@ -99,12 +99,22 @@ pub fn serve_next<S: Alter + Drop>(
     let Some(at) = moment_now(rt) else {
         return Err(NextFault::Clock);
     };
-    if limit_waits(&stream).is_err() {
-        return Ok(Err(StreamFault::Read { answers: 0 }));
+    Ok(serve_connection(alloc, desk, at, &stream))
+}
+
+/// Serves the requests of this connection, all at this moment.
+fn serve_connection<S: Alter + Drop>(
+    alloc: Global,
+    desk: &mut Desk<S>,
+    at: Moment,
+    stream: &TcpStream,
+) -> Result<Served, StreamFault> {
+    if limit_waits(stream).is_err() {
+        return Err(StreamFault::Read { answers: 0 });
     }
-    let mut reader = CountingIo::new(&stream);
-    let mut writer = CountingIo::new(&stream);
-    Ok(serve_stream(alloc, desk, at, &mut reader, &mut writer))
+    let mut reader = CountingIo::new(stream);
+    let mut writer = CountingIo::new(stream);
+    serve_stream(alloc, desk, at, &mut reader, &mut writer)
 }
 
 /// Limits how long a read and a write of the connection may wait.
