@@ -1,9 +1,9 @@
 //! A connection over the network is served.
 
+use crate::desks::desk_in;
 use agv_database::open_in_memory;
 use agv_face::{Ended, Served};
 use agv_program::serve_next;
-use agv_store::Desk;
 use sqlite::{Alter, Connection, Error};
 use std::io::{self, Write};
 use std::net::{TcpListener, TcpStream};
@@ -24,11 +24,7 @@ fn serve_one<S: Alter + Drop>(
     ends: &impl Abort,
     opened: Result<Connection<S>, Error>,
 ) {
-    let conn = opened.expect(ends, "a database");
-    assert!(ends; conn.is_autocommit(), "idle");
-    let Ok(mut desk) = Desk::open(rt.alloc(), conn) else {
-        panic!(ends; "a desk is made");
-    };
+    let mut desk = desk_in(ends, rt.alloc(), opened);
     let mut listener = TcpListener::bind(rt, "127.0.0.1:0").expect(ends, "a port");
     let addr = listener.local_addr().expect(ends, "its address");
     let mut client = TcpStream::connect(rt, addr).expect(ends, "a connection");

@@ -1,10 +1,19 @@
 //! The program's libraries are called as the program calls them.
 //!
 //! - `lines` has lines read, and one that is carried out in memory.
-//! - `connections` has a connection over the network served.
+//! - `connections` has a connection over the network served; `reads` a stream of few reads, and `cuts` streams that fail
+//!   at each of their bytes. `fakes` has their reader and writer, and `desks` the desk.
 #![tactic(auto)]
 
 #[cfg(test)]
 mod connections;
 #[cfg(test)]
+mod cuts;
+#[cfg(test)]
+mod desks;
+#[cfg(test)]
+mod fakes;
+#[cfg(test)]
 mod lines;
+#[cfg(test)]
+mod reads;

@@ -7,7 +7,7 @@ use std::alloc::Global;
 use std::process::Abort;
 
 /// A load is registered, and asked for.
-const REQUESTS: &str = concat!(
+pub(crate) const REQUESTS: &str = concat!(
     "POST /loads HTTP/1.1\r\nContent-Length: 13\r\n\r\n{\"load\":\"L1\"}",
     "GET /loads/L1 HTTP/1.1\r\n\r\n",
 );
@@ -29,29 +29,28 @@ fn words_of(rt: &impl Abort, alloc: Global, line: &str) -> Vec<String> {
     words
 }
 
-/// It is a line for the stock report of the file `f`.
-fn asks_for_stock(line: &Result<Line<'_>, LineFault>) -> bool {
-    matches!(
-        line,
-        Ok(Line::Report {
-            db: "f",
-            kind: ReportKind::Stock
-        })
-    )
+/// What the words of a line ask for.
+fn asked(rt: &impl Abort, alloc: Global, line: &str) -> &'static str {
+    let words = words_of(rt, alloc, line);
+    match line_of(alloc, &words) {
+        Ok(
+            Line::Report {
+                db: "f",
+                kind: ReportKind::Stock,
+            },
+        ) => "the stock report of f",
+        Ok(_) => "another line",
+        Err(LineFault::Refused(_)) => "refused",
+        Err(LineFault::Memory) => "no memory",
+    }
 }
 
 #[test]
-fn a_report_is_asked_for(rt: HostRuntime) {
-    let words = words_of(&rt, rt.alloc(), "report --db f stock");
-    let line = line_of(rt.alloc(), &words);
-    assert!(rt; asks_for_stock(&line), "a stock report");
-}
-
-#[test]
-fn a_moment_that_is_no_number_is_refused(rt: HostRuntime) {
-    let words = words_of(&rt, rt.alloc(), "replay --db memory --at x");
-    let line = line_of(rt.alloc(), &words);
-    assert!(rt; matches!(line, Err(LineFault::Refused(_))), "no line");
+fn lines_are_read(rt: HostRuntime) {
+    let asked_for = asked(&rt, rt.alloc(), "report --db f stock");
+    assert!(rt; asked_for == "the stock report of f", "a report");
+    let asked_for = asked(&rt, rt.alloc(), "replay --db memory --at x");
+    assert!(rt; asked_for == "refused", "a moment that is no number");
 }
 
 #[test]

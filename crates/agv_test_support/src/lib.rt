@@ -1,4 +1,4 @@
-//! What crates of tests have in common: scripts, which are requests and their answers as text, worked out by hand.
+//! What `agv_script_tests` plays: scripts, which are requests and their answers as text, worked out by hand.
 //!
 //! - [`lines`] reads the text of a script.
 //! - [`scripts`] has the texts, by their subjects.

@@ -4,7 +4,7 @@
 //! # what is going on
 //! at 1700000000000                        the moment of the calls from here on
 //! POST /loads {"load":"L1"}               a request: its method, its target and its body
-//! 200 {}                                  its answer: the status and the body; `200!` says that the stream ends, too
+//! 200 {}                                  its answer: the status and the body
 //! state 0001 2 O1 0 N1 0 O1.0=FINISHED    a state of KIT/0001, number 2: its order (- for none), the update, the last
 //! 200 {"accepted":true}                   node and its place, and statuses of actions
 //! moves L1 station B                      the loads that the last call moved, in turn, with commas between
@@ -14,8 +14,8 @@
 //! *100 load L# station A# NULL NULL       so many lines, in which # is 000, 001 and so on, and % the end of a line
 //! ```
 //!
-//! The heads of requests and answers are worked out. What a database and a stream say besides is in `player` of
-//! `agv_script_tests` and `streams` of `agv_stream_tests`.
+//! The heads of requests and answers are worked out. What a script says of a database besides is in `player` of
+//! `agv_script_tests`.
 //!
 //! A function that reads a text gives `None` where an allocation is refused, or where the text is no line of a script.
 
@@ -196,13 +196,8 @@ fn reason_of(status: &str) -> Option<&'static str> {
         "200" => "OK",
         "400" => "Bad Request",
         "404" => "Not Found",
-        "405" => "Method Not Allowed",
         "409" => "Conflict",
-        "411" => "Length Required",
-        "413" => "Payload Too Large",
         "422" => "Unprocessable Entity",
-        "501" => "Not Implemented",
-        "503" => "Service Unavailable",
         _ => return None,
     })
 }
@@ -220,33 +215,18 @@ fn type_of(request: &str, status: &str) -> &'static str {
     }
 }
 
-/// The answer of a line to a request. That of 405 has the method that is allowed before its body.
+/// The answer of a line to a request.
 pub fn answer_of(alloc: Global, request: &str, said: &Said<'_>) -> Option<String> {
     let (status, body) = parted(said.line);
     let body = text_of(body, said.text.as_str());
-    let (status, close) = match status.strip_suffix("!") {
-        Some(status) => (status, "Connection: close\r\n"),
-        None => (status, ""),
-    };
     if status == "204" {
-        let text = format!(in alloc; "HTTP/1.1 204 No Content\r\n{close}\r\n");
-        return text.ok();
+        return String::from_str(alloc, "HTTP/1.1 204 No Content\r\n\r\n").ok();
     }
-    let (allow, body) = if status == "405" {
-        parted(body)
-    } else {
-        ("", body)
-    };
     let reason = reason_of(status)?;
     let kind = type_of(request, status);
     let len = body.len();
-    let (name, end) = if allow.is_empty() {
-        ("", "")
-    } else {
-        ("Allow: ", "\r\n")
-    };
     let text = format!(in alloc;
-        "HTTP/1.1 {status} {reason}\r\nContent-Length: {len}\r\nContent-Type: {kind}\r\n{name}{allow}{end}{close}\r\n{body}"
+        "HTTP/1.1 {status} {reason}\r\nContent-Length: {len}\r\nContent-Type: {kind}\r\n\r\n{body}"
     );
     text.ok()
 }

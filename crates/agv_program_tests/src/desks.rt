@@ -1,0 +1,20 @@
+//! A desk in a database.
+
+use agv_store::Desk;
+use sqlite::{Alter, Connection, Error};
+use std::alloc::Global;
+use std::process::Abort;
+
+/// The desk of this database, which is empty.
+pub(crate) fn desk_in<S: Alter + Drop>(
+    ends: &impl Abort,
+    alloc: Global,
+    opened: Result<Connection<S>, Error>,
+) -> Desk<S> {
+    let conn = opened.expect(ends, "a database");
+    assert!(ends; conn.is_autocommit(), "idle");
+    match Desk::open(alloc, conn) {
+        Ok(desk) => desk,
+        Err(_) => panic!(ends; "a desk is made"),
+    }
+}

@@ -1,0 +1,36 @@
+//! A stream that may have ten reads, each of which gives a byte.
+
+use crate::desks::desk_in;
+use crate::fakes::Drip;
+use crate::lines::REQUESTS;
+use agv_database::open_in_memory;
+use agv_face::{CountingIo, StreamFault, serve_stream_within};
+use agv_header::Moment;
+use sqlite::{Alter, Connection, Error};
+use std::alloc::Global;
+use std::process::Abort;
+
+/// The reads are used up before the first request is whole: nothing is written.
+fn read_ten_times<S: Alter + Drop>(
+    ends: &impl Abort,
+    alloc: Global,
+    opened: Result<Connection<S>, Error>,
+) {
+    let mut desk = desk_in(ends, alloc, opened);
+    let at = Moment::of(1_700_000_000_000).expect(ends, "a moment");
+    let mut reader = CountingIo::new(Drip {
+        bytes: REQUESTS.as_bytes(),
+        reads: usize::MAX,
+    });
+    let mut writer = CountingIo::new(Vec::new(alloc));
+    let served = serve_stream_within(alloc, &mut desk, at, &mut reader, &mut writer, 10);
+    let wanted = StreamFault::Read { answers: 0 };
+    assert!(ends; served == Err(wanted), "the end of the stream");
+    assert!(ends; reader.calls() == 10, "ten reads");
+    assert!(ends; writer.inner().is_empty(), "nothing is written");
+}
+
+#[test]
+fn a_stream_has_ten_reads(rt: HostRuntime) {
+    read_ten_times(&rt, rt.alloc(), open_in_memory(rt.alloc()));
+}
