@@ -1,19 +1,21 @@
 """Databases whose tables were typed by others: where they have the columns and the rules of a desk's, in whatever form, the desk serves
 over them and tells them rightly, and a file of the first schema is migrated; where they have another rule it is `fault: Damaged`, and the
-file stays as it is. `tools/why` says the same of each."""
+file stays as it is. `tools/why` says the same of each. What others may have beside these tables is tried likewise, and where a desk makes
+its tables beside those of others, or makes none since a name is taken or referred to."""
 import contextlib
 import os
 import sqlite3
 import tempfile
 import unittest
 
-from records import FOLDER, broken, rows_of
+from records import FOLDER, broken, copied, rows_of
 from test_migrate import BEGUN, BEGUN_MOVED
 from test_program import AT, HOLDS, STOCK, TRANSPORT, run
+from test_scripts import FINISHED, accepted, answers_of, bytes_of, holds, ok, stands, state
 from why_files import told
 
 from nulvrader.database import SHAPES
-from nulvrader.rows import SECOND
+from nulvrader.rows import SECOND, TABLES
 
 ORDER, VEHICLE, JOB = 'PRIMARY KEY (order_id)', 'UNIQUE (manufacturer, serial)', 'UNIQUE (job)'
 
@@ -41,23 +43,44 @@ SAME = {
     'the columns of a key in the other order': typed('trip', ORDER, 'UNIQUE (serial, manufacturer)', 'CONSTRAINT one_job UNIQUE (job)'),
     'a key twice': typed('trip', ORDER, VEHICLE, JOB, 'UNIQUE (serial, manufacturer)', job='TEXT NOT NULL UNIQUE'),
     'another key as the primary one': typed('trip', 'PRIMARY KEY (job)', VEHICLE, 'UNIQUE (order_id)'),
+    'the primary key as one of others, too': typed('trip', 'UNIQUE (order_id)', VEHICLE, JOB, ORDER),
+    'the primary key again, and a key that rises': typed('trip', ORDER, 'UNIQUE (order_id)', VEHICLE, 'UNIQUE (job ASC)'),
     'a primary key in the other order': typed('leg', 'PRIMARY KEY (k, order_id)'),
+    'a primary key that rises, and INT in it': typed('leg', 'PRIMARY KEY (order_id ASC, k)', k='INT'),
+    'a primary key twice': typed('used', 'PRIMARY KEY (kind, id)', 'UNIQUE (kind, id)'),
+    'a primary key twice, in either order': typed('used', 'PRIMARY KEY (kind, id)', 'UNIQUE (id, kind)'),
+    'what a conflict does anyhow': typed('used', 'PRIMARY KEY (kind, id) ON CONFLICT ABORT'),
     'no key as the primary one': typed('used', 'UNIQUE (kind, id)'),
+    'no key as the primary one, in the other order': typed('used', 'UNIQUE (id, kind)'),
     'a key of one column': typed('node', id='TEXT UNIQUE NOT NULL'),
+    'a key of one column twice': typed('node', id='TEXT UNIQUE PRIMARY KEY'),
+    'a key of one column twice, at it and behind it': typed('node', 'UNIQUE (id)', id='TEXT PRIMARY KEY'),
+    'a key of one column twice, the second time falling': typed('node', 'UNIQUE (id DESC)', id='TEXT PRIMARY KEY'),
+    'a primary key with a name': typed('node', 'CONSTRAINT one PRIMARY KEY (id)'),
+    'quotes of texts, and a column that rises': "CREATE TABLE 'node' ('id' TEXT PRIMARY KEY ASC) STRICT;",
     'the number of the schema': typed('meta', 'PRIMARY KEY (id)', id='INT'),
+    'its key that is NOT NULL': typed('meta', id='INT NOT NULL PRIMARY KEY'),
     'its key as one of others': typed('meta', 'UNIQUE (id)'),
     'its key that is the rowid': typed('meta', id='INTEGER PRIMARY KEY'),
+    'its key that is the rowid, behind the columns': typed('meta', 'PRIMARY KEY (id)', id='INTEGER'),
     'its key that is the rowid and NOT NULL': typed('meta', 'PRIMARY KEY (id)'),
+    'its key that is the rowid, NOT NULL at it, and INT': typed('meta', id='INTEGER PRIMARY KEY NOT NULL', schema='INT NOT NULL'),
     'its key that is the rowid, whatever the order': typed('meta', 'PRIMARY KEY (id DESC)'),
     'its key that is the rowid and UNIQUE': typed('meta', id='INTEGER PRIMARY KEY UNIQUE'),
     'its key that is the rowid, NOT NULL and UNIQUE twice': typed('meta', 'UNIQUE (id)', id='INTEGER NOT NULL UNIQUE PRIMARY KEY'),
-    'quotes, capitals and a comment': typed('job', id='text -- CHECK (1)\nprimary key').replace('target', '"target"').replace('CREATE', 'create'),
+    'quotes, capitals and a comment':
+        typed('job', id='text -- CHECK (1)\nprimary key').replace('target', '"target"').replace('CREATE', 'create'),
     'what is so anyhow': typed('load', 'PRIMARY KEY (id ASC)', id='TEXT NULL COLLATE BINARY', station='TEXT DEFAULT NULL'),
+    'NULL of columns that may be': typed('load', 'PRIMARY KEY (id)', station='TEXT NULL', manufacturer='TEXT DEFAULT NULL'),
 }
 SAME_SECOND = {
     'a key before the primary one': typed('journey', VEHICLE, ORDER),
+    'a key in the other order behind the primary one': typed('journey', ORDER, 'UNIQUE (serial, manufacturer)'),
+    'a primary key as one of others, too': typed('journey', 'UNIQUE (order_id)', VEHICLE, ORDER),
     'a primary key of two columns last': typed('act', 'UNIQUE (job, kind)', 'PRIMARY KEY (order_id, n)'),
     'two keys of two columns in the other order': typed('act', 'UNIQUE (kind, job)', 'PRIMARY KEY (n, order_id)'),
+    'a primary key of two columns twice': typed('act', 'PRIMARY KEY (order_id, n)', 'UNIQUE (order_id, n)', 'UNIQUE (job, kind ASC)'),
+    'a vehicle in the other order': typed('capacity', 'PRIMARY KEY (serial, manufacturer)'),
     'a vehicle as the primary key': typed('journey', 'PRIMARY KEY (serial, manufacturer)', order_id='TEXT NOT NULL UNIQUE'),
     'INT': typed('capacity', 'PRIMARY KEY (manufacturer, serial)', capacity='INT NOT NULL'),
 }
@@ -66,52 +89,256 @@ OTHER = {
     'a key that falls, and so is no rowid': typed('meta', id='INTEGER PRIMARY KEY DESC'),
     'a key that is the rowid, and a key more': typed('meta', 'UNIQUE (schema)', id='INTEGER PRIMARY KEY'),
     'a key that is the rowid, and UNIQUE in falling order': typed('meta', 'UNIQUE (id DESC)', id='INTEGER PRIMARY KEY'),
+    'a key that is the rowid, and with a column more': typed('meta', 'UNIQUE (id, schema)', id='INTEGER PRIMARY KEY'),
+    'another column that is the rowid': typed('meta', schema='INTEGER PRIMARY KEY'),
     'no key of the job': typed('trip', ORDER, VEHICLE),
     'no key of the vehicle': typed('trip', ORDER, JOB),
+    'no key but the primary one': typed('trip', ORDER),
+    'another key as the primary one, and an order that may be NULL':
+        typed('trip', 'PRIMARY KEY (job)', VEHICLE, 'UNIQUE (order_id)', order_id='TEXT'),
     'one key in place of two': typed('trip', ORDER, 'UNIQUE (manufacturer, serial, job)'),
     'three keys in place of two': typed('trip', ORDER, JOB, 'UNIQUE (manufacturer)', 'UNIQUE (serial)'),
     'a key more': typed('trip', ORDER, VEHICLE, JOB, 'UNIQUE (start)'),
     'a key by another collation': typed('trip', ORDER, VEHICLE, 'UNIQUE (job COLLATE NOCASE)'),
     'a key that falls': typed('trip', ORDER, VEHICLE, 'UNIQUE (job DESC)'),
+    'a key more of two columns': typed('edge', 'PRIMARY KEY (id)', 'UNIQUE (start, finish)'),
+    'a key more of half of the primary one': typed('used', 'PRIMARY KEY (kind, id)', id='TEXT UNIQUE'),
+    'a primary key by another collation': typed('used', 'PRIMARY KEY (kind, id COLLATE NOCASE)'),
+    'a primary key again by another collation': typed('node', 'UNIQUE (id COLLATE NOCASE)', id='TEXT PRIMARY KEY'),
+    'a primary key that falls': typed('node', id='TEXT PRIMARY KEY DESC'),
+    'a primary key that falls in its second column': typed('used', 'PRIMARY KEY (kind, id DESC)'),
+    'a primary key again in the other order, which falls': typed('used', 'PRIMARY KEY (kind, id)', 'UNIQUE (id, kind DESC)'),
     'a key that may be NULL': typed('node', id='TEXT UNIQUE'),
     'no key': typed('node'),
     'half of a key': typed('leg', ORDER),
+    'a key of another column': typed('leg', 'PRIMARY KEY (order_id, edge)'),
+    'a key of a column more': typed('leg', 'PRIMARY KEY (order_id, k, edge)'),
     'not STRICT': typed('node', 'PRIMARY KEY (id)', end=''),
+    'not STRICT, and a key that may be NULL': typed('node', end='', id='TEXT PRIMARY KEY'),
     'WITHOUT ROWID': typed('node', 'PRIMARY KEY (id)', end='STRICT, WITHOUT ROWID'),
     'a CHECK': typed('node', 'PRIMARY KEY (id)', 'CHECK (length(id) > 0)'),
+    'a CHECK that all rows keep': typed('node', 'PRIMARY KEY (id)', 'CHECK (1)'),
+    'a CHECK at a column': typed('node', id="TEXT PRIMARY KEY CHECK (id <> '')"),
+    'a CHECK beside the keys': typed('trip', ORDER, VEHICLE, JOB, 'CHECK (first <= base)'),
     'a default': typed('station', 'PRIMARY KEY (id)', capacity='INTEGER NOT NULL DEFAULT 1'),
+    'a default of a key': typed('node', id="TEXT PRIMARY KEY DEFAULT 'N1'"),
+    'a default that is no constant': typed('node', id='TEXT PRIMARY KEY DEFAULT CURRENT_TIMESTAMP'),
+    'a collation of a key': typed('node', id='TEXT COLLATE NOCASE PRIMARY KEY'),
+    'a collation of another column': typed('edge', 'PRIMARY KEY (id)', finish='TEXT NOT NULL COLLATE RTRIM'),
     'a foreign key': typed('edge', 'PRIMARY KEY (id)', start='TEXT NOT NULL REFERENCES node (id)'),
+    'a foreign key behind the columns': typed('trip', ORDER, VEHICLE, JOB, 'FOREIGN KEY (job) REFERENCES job'),
+    'a foreign key of the key to itself': typed('edge', 'PRIMARY KEY (id)', 'FOREIGN KEY (id) REFERENCES edge (id)'),
+    'a foreign key to no table': typed('node', id='TEXT PRIMARY KEY REFERENCES other (id) ON DELETE CASCADE'),
+    'a foreign key to another\'s table': typed('node', id='TEXT PRIMARY KEY REFERENCES other') + ' CREATE TABLE other (id TEXT PRIMARY KEY);',
     'a column that may be NULL': typed('edge', 'PRIMARY KEY (id)', start='TEXT'),
     'a column that may not be': typed('load', 'PRIMARY KEY (id)', station='TEXT NOT NULL'),
+    'a number that may be NULL': typed('station', 'PRIMARY KEY (id)', capacity='INTEGER'),
     'a column of another type': typed('leg', 'PRIMARY KEY (order_id, k)', k='TEXT NOT NULL'),
+    'a text in place of a number': typed('station', 'PRIMARY KEY (id)', capacity='TEXT NOT NULL'),
+    'a number in place of a text': typed('node', id='INT PRIMARY KEY'),
+    'a fraction': typed('station', 'PRIMARY KEY (id)', capacity='REAL NOT NULL'),
+    'bytes': typed('node', id='BLOB PRIMARY KEY'),
+    'a column of any type': typed('edge', 'PRIMARY KEY (id)', start='ANY NOT NULL'),
     'a column more': typed('edge', 'length INTEGER', 'PRIMARY KEY (id)'),
+    'a column more behind the key': typed('node', 'x INTEGER', id='TEXT PRIMARY KEY'),
+    'a column less': 'CREATE TABLE edge (id TEXT PRIMARY KEY, start TEXT NOT NULL) STRICT;',
+    'a column of another name': 'CREATE TABLE edge (id TEXT PRIMARY KEY, start TEXT NOT NULL, target TEXT NOT NULL) STRICT;',
+    'a column in capitals': 'CREATE TABLE node (ID TEXT PRIMARY KEY) STRICT;',
     'columns in another order': 'CREATE TABLE edge (id TEXT PRIMARY KEY, finish TEXT NOT NULL, start TEXT NOT NULL) STRICT;',
+    'columns of a key in another order': 'CREATE TABLE used (id TEXT, kind TEXT, PRIMARY KEY (kind, id)) STRICT;',
 }
 OTHER_SECOND = {
     'no key of a journey\'s vehicle': typed('journey', ORDER),
+    'half of a key of a journey\'s vehicle': typed('journey', ORDER, 'UNIQUE (manufacturer)'),
+    'a vehicle as the primary key, and an order that may be NULL':
+        typed('journey', 'PRIMARY KEY (manufacturer, serial)', 'UNIQUE (order_id)', order_id='TEXT'),
+    'a foreign key of two columns': typed('journey', ORDER, VEHICLE, 'FOREIGN KEY (manufacturer, serial) REFERENCES vehicle'),
+    'a confirmed update that may not be NULL': typed('journey', ORDER, VEHICLE, confirmed='INTEGER NOT NULL'),
+    'a capacity that may be NULL': typed('capacity', 'PRIMARY KEY (manufacturer, serial)', capacity='INTEGER'),
     'two keys in place of one': typed('act', 'PRIMARY KEY (order_id, n)', 'UNIQUE (job)', 'UNIQUE (kind)'),
     'half of a primary key': typed('act', ORDER, 'UNIQUE (job, kind)'),
+    'half of another key': typed('act', 'PRIMARY KEY (order_id, n)', 'UNIQUE (job)'),
+    'no other key': typed('act', 'PRIMARY KEY (order_id, n)'),
+    'another key more, of half of one': typed('act', 'PRIMARY KEY (order_id, n)', 'UNIQUE (job, kind)', 'UNIQUE (job)'),
+    'another primary key, and places that may be NULL':
+        typed('act', 'PRIMARY KEY (job, kind)', 'UNIQUE (order_id, n)', order_id='TEXT', n='INTEGER'),
+    'a CHECK of an act': typed('act', 'PRIMARY KEY (order_id, n)', 'UNIQUE (job, kind)', "CHECK (kind IN ('pick', 'drop'))"),
+}
+
+# All tables as a person may type them, and rows of them, some with a number that is given, the least one and the greatest, too.
+BY_HAND = '''
+-- where the loads are
+create table load (
+    id text primary key,
+    kind text not null,     -- station, vehicle, checking or left
+    station text,
+    manufacturer text,
+    serial text
+) strict;
+create table "job" (
+    "id" text not null primary key, "load" text not null,
+    "origin" text not null, "target" text not null,
+    "phase" text not null
+) strict;
+create table [hold] (
+    [kind] text not null, [id] text not null,
+    manufacturer text not null, serial text not null,
+    constraint one_holder primary key (kind, id)
+) strict;
+create table `used` (`kind` text, `id` text, primary key (`kind`, `id`)) strict;
+/* the layout,
+   and what the file is */
+Create Table If Not Exists station (id Text, node Text Not Null, capacity Int Not Null, Primary Key (id)) Strict;
+Create Table edge (id Text Constraint named Primary Key, start Text Not Null, finish Text Not Null) Strict;
+Create Table node (id Text, Primary Key (id)) Strict;
+Create Table meta (id Int, schema Int Not Null, Primary Key (id)) Strict;
+create table vehicle (
+    manufacturer text, serial text,
+    node text not null,          -- where it stands
+    rest_edge text null, rest_node text null,
+    last_header integer, reported text,
+    ready integer not null, paused integer not null,
+    order_header integer not null, order_at integer not null,
+    instant_header integer not null, instant_at integer not null,
+    pending text default null,
+    primary key (manufacturer, serial)
+) strict;
+create table leg(order_id text,k int,edge text not null,primary key(order_id,k))strict;
+create table trip (
+    order_id text,
+    manufacturer text not null, serial text not null,
+    job text not null, start text not null,
+    first integer not null, base integer not null,
+    sent integer not null, confirmed integer, seen integer not null,
+    pick_at integer not null, drop_at integer not null,
+    pick_status text not null, drop_status text not null,
+    constraint one_order primary key (order_id),
+    constraint one_trip_of_a_vehicle unique (manufacturer, serial),
+    constraint one_trip_of_a_job unique (job)
+) strict;
+create table capacity (manufacturer text, serial text, capacity int not null, primary key (manufacturer, serial)) strict;
+create table journey (
+    order_id text not null primary key,
+    manufacturer text not null, serial text not null,
+    start text not null,
+    first integer not null, base integer not null,
+    sent integer not null, confirmed integer, seen integer not null,
+    unique (manufacturer, serial)
+) strict;
+create table act (
+    order_id text, n int,
+    job text not null, kind text not null,     -- pick or drop
+    place_at int not null, status text not null,
+    primary key (order_id, n), constraint once unique (job, kind)
+) strict;
+INSERT INTO meta VALUES (1, 2);
+INSERT INTO node VALUES ('N1'), ('N2'), ('N3'), ('N4');
+DELETE FROM node WHERE id = 'N2';
+INSERT INTO node VALUES ('N5');
+INSERT INTO edge (rowid, id, start, finish) VALUES (-9223372036854775808, 'E13', 'N1', 'N3'), (0, 'E31', 'N3', 'N1');
+INSERT INTO station (rowid, id, node, capacity) VALUES (9223372036854775807, 'A', 'N1', 1), (-1, 'B', 'N3', 2);
+INSERT INTO vehicle VALUES ('KIT', '0001', 'N1', NULL, NULL, 1, NULL, 1, 0, 1, 1700000000000, 0, 0, NULL);
+INSERT INTO leg VALUES ('O1', 0, 'E13');
+INSERT INTO load VALUES ('L1', 'station', 'A', NULL, NULL);
+INSERT INTO job VALUES ('J1', 'L1', 'A', 'B', 'riding');
+INSERT INTO hold VALUES ('node', 'N1', 'KIT', '0001'), ('edge', 'E13', 'KIT', '0001'), ('node', 'N3', 'KIT', '0001');
+INSERT INTO used VALUES ('order', 'O1');
+INSERT INTO capacity VALUES ('KIT', '0001', 1);
+INSERT INTO journey VALUES ('O1', 'KIT', '0001', 'N1', 0, 1, 0, NULL, 0);
+INSERT INTO act (rowid, order_id, n, job, kind, place_at, status) VALUES
+  (-2, 'O1', 0, 'J1', 'pick', 0, 'WAITING'), (7, 'O1', 1, 'J1', 'drop', 1, 'WAITING');
+'''
+
+INDEXES = {'load_station', 'load_vehicle', 'job_load', 'job_target'}
+# What others may have in the file of a desk: what they write before the desk begins there, and what they write then.
+BESIDE = {
+    'nothing': ('', ''),
+    'a table with an index': ("CREATE TABLE other (a TEXT); CREATE INDEX by_a ON other (a); INSERT INTO other VALUES ('b'), (NULL)", ''),
+    'a table with an index and a view':
+        ('CREATE TABLE other (a TEXT); CREATE INDEX by_a ON other (a); CREATE VIEW some AS SELECT a FROM other', ''),
+    'a table that refers to itself, and to none that is there': (
+        'CREATE TABLE other (id TEXT PRIMARY KEY, next TEXT REFERENCES other, more TEXT REFERENCES nodes (id)); '
+        "INSERT INTO other VALUES ('a', NULL, NULL), ('b', 'a', NULL)", ''),
+    'a table, and one that refers to it': (
+        'CREATE TABLE other (a TEXT)', 'CREATE TABLE more (a TEXT REFERENCES other, b INTEGER CHECK (b > 0))'),
+    'a table that refers to itself and counts': (
+        '', 'CREATE TABLE other (id INTEGER PRIMARY KEY AUTOINCREMENT, next INTEGER REFERENCES other); '
+        'INSERT INTO other (next) VALUES (NULL), (1)'),
+    'a table of a longer name, that refers to none that is there': ('', 'CREATE TABLE nodes (id TEXT REFERENCES nodes_of (id))'),
+    'a view, and one of a table of the desk': (
+        'CREATE TABLE other (a TEXT); CREATE VIEW some AS SELECT a FROM other',
+        "CREATE VIEW waiting AS SELECT id FROM job WHERE phase = 'waiting'"),
+    'no index of the desk': ('', 'DROP INDEX load_station; DROP INDEX load_vehicle; DROP INDEX job_load; DROP INDEX job_target'),
+    'the name of an index of the desk': ('CREATE TABLE other (a TEXT); CREATE INDEX job_load ON other (a)', ''),
+    'more indexes': ('', 'CREATE INDEX by_phase ON job (phase); CREATE INDEX by_kind ON load (kind, id DESC)'),
+    'a UNIQUE index': ('', 'CREATE UNIQUE INDEX one_at_a_node ON vehicle (node)'),
+    'a table made again': ('', 'DROP TABLE node; CREATE TABLE other (a TEXT); CREATE TABLE node (id TEXT PRIMARY KEY) STRICT'),
+    'one that referred to a name, and is gone': ('CREATE TABLE note (load TEXT REFERENCES load); DROP TABLE note', ''),
+    'one that referred to a table, and is gone': ('', 'CREATE TABLE note (load TEXT REFERENCES load); DROP TABLE note'),
+}
+# What they may not write then.
+NOT_BESIDE = {
+    **{'no ' + table: 'DROP TABLE ' + table for table in TABLES},
+    'a table of another name': 'DROP TABLE node; CREATE TABLE nodes (id TEXT PRIMARY KEY) STRICT',
+    'a table in capitals': 'DROP TABLE node; CREATE TABLE NODE (id TEXT PRIMARY KEY) STRICT',
+    'a table in quotes with a capital': 'DROP TABLE node; CREATE TABLE "Node" (id TEXT PRIMARY KEY) STRICT',
+    'a view of a table of the desk': 'DROP TABLE node; CREATE VIEW node AS SELECT start AS id FROM edge',
+    'a view of another table': 'DROP TABLE node; CREATE TABLE other (id TEXT PRIMARY KEY) STRICT; CREATE VIEW node AS SELECT id FROM other',
+    'an index': 'DROP TABLE node; CREATE TABLE other (id TEXT PRIMARY KEY) STRICT; CREATE INDEX node ON other (id)',
+    'a foreign key': 'CREATE TABLE note (load TEXT REFERENCES load)',
+    'a foreign key to another table': 'CREATE TABLE note (a TEXT REFERENCES job)',
+    'a foreign key in capitals': 'CREATE TABLE note (load TEXT REFERENCES "LOAD" (id) ON DELETE CASCADE)',
+    'a foreign key of two columns': 'CREATE TABLE note (m TEXT, s TEXT, FOREIGN KEY (m, s) REFERENCES vehicle (manufacturer, serial))',
+    'a foreign key beside another': 'CREATE TABLE other (a TEXT); CREATE TABLE note (a TEXT REFERENCES other, b TEXT REFERENCES used (id))',
+    'a foreign key before its table':
+        'DROP TABLE node; CREATE TABLE other (id TEXT PRIMARY KEY, a TEXT REFERENCES edge); CREATE TABLE node (id TEXT PRIMARY KEY) STRICT',
+}
+# Where no desk begins: a name is taken, or is referred to.
+NO_DESK = {
+    **{'a foreign key to ' + table: 'CREATE TABLE note (a TEXT REFERENCES %s)' % table for table in TABLES},
+    'a foreign key from a column of its name': 'CREATE TABLE note (load TEXT REFERENCES load)',
+    'a foreign key in quotes': 'CREATE TABLE note (a TEXT, FOREIGN KEY (a) REFERENCES "Used" (id) ON DELETE SET NULL)',
+    'a foreign key in capitals': 'CREATE TABLE other (a TEXT); CREATE TABLE note (a TEXT REFERENCES other, b TEXT REFERENCES NODE (id))',
+    'a table that refers to itself': 'CREATE TABLE node (id TEXT PRIMARY KEY, next TEXT REFERENCES node)',
+    'a table, and one that refers to it':
+        'CREATE TABLE load (id TEXT PRIMARY KEY); CREATE TABLE note (load TEXT REFERENCES load); CREATE TABLE last (a TEXT)',
+    'a table': 'CREATE TABLE hold (a TEXT)',
+    'a table of the second schema': 'CREATE TABLE journey (a TEXT)',
+    'a table with a key': 'CREATE TABLE node (id INTEGER PRIMARY KEY)',
+    'a table in capitals': 'CREATE TABLE other (a TEXT); CREATE TABLE LEG (a TEXT)',
+    'an index': 'CREATE TABLE other (a TEXT); CREATE INDEX used ON other (a)',
+    'a view named trip': 'CREATE TABLE other (a TEXT); CREATE VIEW trip AS SELECT a FROM other',
+    'a view named load': 'CREATE TABLE other (a TEXT); CREATE VIEW load AS SELECT a FROM other',
 }
 
 
-class TableForms(unittest.TestCase):
+class FormsTest(unittest.TestCase):
     def setUp(self):
         self.folder = tempfile.TemporaryDirectory(dir=FOLDER)
         self.addCleanup(self.folder.cleanup)
         self.db = os.path.join(self.folder.name, 'typed.db')
 
-    def write(self, number, text, rows=''):
-        """Has the tables of the schema of that number, and one of them by this text, made by another SQLite in a new file."""
+    def remove(self):
         for end in ('', '-wal', '-shm'):
             with contextlib.suppress(FileNotFoundError):
                 os.remove(self.db + end)
-        name = text.split()[2]
+
+    def execute(self, *statements):
+        """Has another SQLite carry these out."""
+        with contextlib.closing(sqlite3.connect(self.db)) as base:
+            base.executescript(''.join(statements))
+
+    def write(self, number, text, rows='', before=''):
+        """Has the tables of the schema of that number, and one of them by this text, made by another SQLite in a new file."""
+        self.remove()
+        name = text.split()[2].strip("'")
         tables = [table for table in SHAPES if number == 2 or table not in SECOND]
         self.assertIn(name, tables)
-        with contextlib.closing(sqlite3.connect(self.db)) as base:
-            base.executescript(''.join(text if table == name else plain(table) for table in tables) + rows)
-            base.execute('INSERT INTO meta VALUES (1, ?)', (number,))
-            base.commit()
+        made = [text if table == name else plain(table) for table in tables]
+        self.execute(before, *made, rows, 'INSERT INTO meta VALUES (1, %d);' % number)
+
+    def replay(self, stdin=b''):
+        return run('replay', '--db', self.db, '--at', AT, stdin=stdin)
 
     def bytes_of_file(self):
         with open(self.db, 'rb') as file:
@@ -122,21 +349,26 @@ class TableForms(unittest.TestCase):
         before = self.bytes_of_file()
         self.assertEqual(run(*words), (1, b'', b'fault: Damaged\n'))
         self.assertEqual(self.bytes_of_file(), before)
-        self.assertNotEqual(told(self.db).reasons, [])
+        self.assertTrue(any('`fault: Damaged`' in reason for reason in told(self.db).reasons), told(self.db).reasons)
 
+    def check_transport(self):
+        """A whole transport is served in a file without a layout, and told by the next start."""
+        with open(TRANSPORT, 'rb') as file:
+            status, out, said = self.replay(file.read())
+        self.assertEqual((status, said), (0, b''))
+        self.assertNotIn(b'HTTP/1.1 5', out)
+        self.assertEqual(run('report', '--db', self.db, 'stock'), (0, STOCK, b''))
+        self.assertEqual(run('report', '--db', self.db, 'holds'), (0, HOLDS, b''))
+
+
+class TableForms(FormsTest):
     def test_the_same_rules(self):
         """A whole transport is served, and told by the next start."""
-        with open(TRANSPORT, 'rb') as file:
-            transport = file.read()
         for form, text in {**SAME, **SAME_SECOND}.items():
             with self.subTest(form):
                 self.write(2, text)
                 self.assertEqual(told(self.db).reasons, [])
-                status, out, said = run('replay', '--db', self.db, '--at', AT, stdin=transport)
-                self.assertEqual((status, said), (0, b''))
-                self.assertNotIn(b'HTTP/1.1 5', out)
-                self.assertEqual(run('report', '--db', self.db, 'stock'), (0, STOCK, b''))
-                self.assertEqual(run('report', '--db', self.db, 'holds'), (0, HOLDS, b''))
+                self.check_transport()
                 self.assertEqual(broken(rows_of(self.db)), [])
 
     def test_other_rules(self):
@@ -162,6 +394,69 @@ class TableForms(unittest.TestCase):
             with self.subTest(form):
                 self.write(1, text)
                 self.check_refused('migrate', '--db', self.db)
+
+    def test_all_tables_typed_by_hand(self):
+        """An open order is told, and carried out."""
+        self.execute(BY_HAND)
+        self.assertEqual((told(self.db).reasons, broken(rows_of(self.db))), ([], []))
+        script = [
+            holds('node N1 KIT/0001', 'node N3 KIT/0001', 'edge E13 KIT/0001', of=6), stands('L1', 'station A', 'J1'),
+            accepted(state(2, 'O1', node='N3', sequence=2, statuses=FINISHED)), stands('L1', 'station B'), holds('node N3 KIT/0001', of=6),
+            ok('GET /report/stock', None, 'station A at N1: 0 of 1, reserved 0\nstation B at N3: 1 of 2, reserved 0\n  L1\nchecking: 0\n'
+                                          'vehicle KIT/0001: 0\nleft: 0\n')]
+        status, out, said = self.replay(b''.join(map(bytes_of, script)))
+        self.assertEqual((status, said), (0, b''))
+        self.assertEqual(answers_of(out), [line[2:] for line in script])
+        self.assertEqual((told(self.db).reasons, broken(rows_of(self.db))), ([], []))
+
+
+class Beside(FormsTest):
+    def made(self):
+        """What SQLite lists of the file, and the rows of each table of others."""
+        with tempfile.TemporaryDirectory(dir=FOLDER) as folder, contextlib.closing(sqlite3.connect(copied(self.db, folder))) as base:
+            self.assertEqual(base.execute('PRAGMA integrity_check').fetchall(), [('ok',)])
+            listed = set(base.execute('SELECT type, name, tbl_name, sql FROM sqlite_master'))
+            others = {name for kind, name, *_ in listed if kind == 'table' and name not in TABLES}
+            return listed, {name: base.execute('SELECT * FROM ' + name).fetchall() for name in others}
+
+    def test_what_may_be_beside(self):
+        """A desk begins beside it, without the index whose name is taken, and serves a transport; what others have stays."""
+        for what, (before, behind) in BESIDE.items():
+            with self.subTest(what):
+                self.remove()
+                self.execute(before)
+                others, rows = self.made()
+                self.assertEqual(self.replay(), (0, b'', b''))
+                listed, rows_then = self.made()
+                self.assertEqual((others - listed, rows_then), (set(), rows))
+                names = {name for _, name, *_ in listed - others if not name.startswith('sqlite_autoindex_')}
+                self.assertEqual(names, {*TABLES} | INDEXES - {name for _, name, *_ in others})
+                self.execute(behind)
+                made = self.made()
+                self.check_transport()
+                self.assertEqual(self.made(), made)
+                # of a unique index it is told that it may refuse a row
+                self.assertEqual(['the unique index' in reason for reason in told(self.db).reasons], [True] * ('UNIQUE' in behind))
+
+    def test_what_may_not_be_beside(self):
+        for what, behind in NOT_BESIDE.items():
+            with self.subTest(what):
+                self.remove()
+                self.assertEqual(self.replay(), (0, b'', b''))
+                self.execute(behind)
+                self.check_refused('replay', '--db', self.db, '--at', AT)
+
+    def test_a_foreign_key_from_the_start(self):
+        """A table of others that has referred to one of the desk's before that was made."""
+        self.write(2, plain('load'), before='CREATE TABLE note (load TEXT REFERENCES load);')
+        self.check_refused('replay', '--db', self.db, '--at', AT)
+
+    def test_where_no_desk_begins(self):
+        for what, before in NO_DESK.items():
+            with self.subTest(what):
+                self.remove()
+                self.execute(before)
+                self.check_refused('replay', '--db', self.db, '--at', AT)
 
 
 if __name__ == '__main__':

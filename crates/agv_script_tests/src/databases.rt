@@ -1,6 +1,6 @@
 //! Databases that others have changed: each line is tried in a database of its own.
 
-use crate::ways::{Way, in_memory};
+use crate::ways::{Way, in_database};
 use agv_test_support::lines::whole;
 use agv_test_support::scripts::starts::{A_TO_B, LAYOUT, ONE_EDGE, READY};
 use agv_test_support::scripts::written::{DROPPED, PICKED};
@@ -22,11 +22,8 @@ pub(crate) fn check_each(
         if !line.is_empty() {
             let line = line.replace(alloc, '%', "\n").expect(rt, "memory");
             let text = format!(in alloc; "{base}{before}{line}{behind}\n");
-            in_memory(
-                rt,
-                alloc,
-                &Way::Database(text.expect(rt, "memory").as_str()),
-            );
+            let text = text.expect(rt, "memory");
+            in_database(rt, alloc, &Way::Calls(text.as_str()));
         }
     }
 }

@@ -1,4 +1,4 @@
-//! Desks over databases in memory, and over files in memory that may fail.
+//! Desks over files in memory that may fail.
 
 use crate::cases::check;
 use agv_store::{Desk, OpenFault};

@@ -8,7 +8,7 @@ use agv_http::{Heard, RequestRef, Routes, answer_bytes, call_of, read_request};
 use agv_json::BodyFault;
 use agv_stock::Place;
 use agv_test_support::fails_at::FailsAt;
-use agv_test_support::lines::{MOMENT, answer_of, asks, parted, request_of, said_in};
+use agv_test_support::lines::{MOMENT, Said, answer_of, asks, parted, request_of, said_in};
 use agv_world::{Fault, PlainFloor, World};
 use std::alloc::Global;
 use std::process::Abort;
@@ -157,28 +157,57 @@ impl InMemory {
     }
 }
 
-/// Plays a script in memory alone, with vehicles for so many loads: 1 to 4. The bytes of reports are not looked at.
+/// A script that is played in memory alone.
+#[derive(Drop)]
+struct Play {
+    desk: InMemory,
+    at: Moment,
+    /// The last request, and what it was answered.
+    request: String,
+    found: Vec<u8>,
+}
+
+impl Play {
+    /// A request is decided.
+    fn ask(&mut self, rt: &impl Abort, alloc: Global, routes: &Routes, said: &Said<'_>) {
+        self.request = request_of(alloc, said).expect(rt, said.line);
+        let asked = asked(rt, alloc, routes, self.request.as_str());
+        self.found = self.desk.answer(rt, alloc, self.at, &asked, b"");
+    }
+
+    /// Compares the last answer.
+    fn compare(&self, rt: &impl Abort, alloc: Global, said: &Said<'_>) {
+        let wanted = answer_of(alloc, self.request.as_str(), said).expect(rt, said.line);
+        check_bytes(rt, &self.found, wanted.as_str(), self.request.as_str());
+    }
+
+    /// Plays a line. The bytes of reports are not looked at.
+    fn play(&mut self, rt: &impl Abort, alloc: Global, routes: &Routes, said: &Said<'_>) {
+        let (word, rest) = parted(said.line);
+        if asks(word) {
+            self.ask(rt, alloc, routes, said);
+        } else if word == "at" {
+            self.at = moment(rt, rest.parse::<i64>().expect(rt, rest));
+        } else if word == "moves" {
+            self.desk.check_moves(rt, alloc, rest);
+        } else if word.parse::<u32>().is_ok() && said.text.is_empty() {
+            self.compare(rt, alloc, said);
+        }
+    }
+}
+
+/// Plays a script in memory alone, with vehicles for so many loads: 1 to 4.
 pub(crate) fn play_in_memory(rt: &impl Abort, alloc: Global, seats: u32, text: &str)
     requires { (1 ≤ seats) × (seats ≤ 4) }
 {
     let routes = Routes::new(alloc).expect(rt, "memory");
-    let mut desk = in_memory(alloc, seats);
-    let mut at = moment(rt, MOMENT);
-    let mut request = String::new(alloc);
-    let mut found = Vec::new(alloc);
+    let mut play = Play {
+        desk: in_memory(alloc, seats),
+        at: moment(rt, MOMENT),
+        request: String::new(alloc),
+        found: Vec::new(alloc),
+    };
     for said in &said_in(alloc, text).expect(rt, "a script") {
-        let (word, rest) = parted(said.line);
-        if asks(word) {
-            request = request_of(alloc, said).expect(rt, said.line);
-            let asked = asked(rt, alloc, &routes, request.as_str());
-            found = desk.answer(rt, alloc, at, &asked, b"");
-        } else if word == "at" {
-            at = moment(rt, rest.parse::<i64>().expect(rt, rest));
-        } else if word == "moves" {
-            desk.check_moves(rt, alloc, rest);
-        } else if word.parse::<u32>().is_ok() && said.text.is_empty() {
-            let wanted = answer_of(alloc, request.as_str(), said).expect(rt, said.line);
-            check_bytes(rt, &found, wanted.as_str(), request.as_str());
-        }
+        play.play(rt, alloc, &routes, said);
     }
 }

@@ -6,37 +6,21 @@
 //! sql                       statements, behind it, that others carry out: from here on nothing is decided in memory
 //! create Damaged            a call that gives a desk, and why it gives none, or `ok`; where it gives none the rows stay
 //! fault Storage             the last call has no other answer
-//! make Ok(())               the desk's tables are made
-//! make used CREATE ..       but for one of them, in whose place this is carried out
-//! stand true                whether the desk's tables stand, ..
-//! allows true               .. whether what the database has allows them, ..
-//! keyed Ok(true)            .. whether each row has a number of its own, ..
-//! lawful true               .. and whether the world that they have is lawful
+//! lawful true               whether the world that the tables have is lawful
 //! ```
 
 use crate::cases::{check, check_bytes, check_text, moment, shown};
 use crate::desks::{desk, opened};
 use crate::memory::{Asked, InMemory, asked, in_memory};
 use crate::tables::{check_read, check_row, check_rows, is_lawful, rows_text};
-use agv_creation::desk_tables::make_desk_tables;
-use agv_creation::standing_tables::tables_stand;
-use agv_creation::table_texts::creation_texts;
-use agv_creation::tables_beside::allows_desk;
 use agv_desk::Answer;
 use agv_header::Moment;
 use agv_http::{Routes, answer_bytes};
-use agv_row_reading::rowid_reading::query_rowids;
 use agv_store::Desk;
 use agv_test_support::lines::{MOMENT, Said, answer_of, asks, parted, request_of, said_in};
 use sqlite::{Alter, Connection};
 use std::alloc::Global;
 use std::process::Abort;
-
-/// The name of each table, in the order of the texts that make them.
-const NAMES: [&str; 14] = [
-    "meta", "node", "edge", "station", "vehicle", "trip", "leg", "load", "job", "hold", "used",
-    "capacity", "journey", "act",
-];
 
 /// What a desk answers, and the report that this names; where the store fails, the name of the fault.
 fn answer<S: Alter + Drop>(
@@ -99,29 +83,6 @@ impl Player {
         conn
     }
 
-    /// Looks at the database.
-    fn look<S: Alter>(
-        &mut self,
-        rt: &impl Abort,
-        alloc: Global,
-        conn: &mut Connection<S>,
-        said: &Said<'_>,
-    ) {
-        let (word, rest) = parted(said.line);
-        let found = match word {
-            "stand" => shown(
-                rt,
-                alloc,
-                &tables_stand(alloc, conn.schema()).expect(rt, "memory"),
-            ),
-            "allows" => shown(rt, alloc, &allows_desk(conn.schema())),
-            "keyed" => shown(rt, alloc, &query_rowids(alloc, conn)),
-            "lawful" => shown(rt, alloc, &is_lawful(rt, alloc, conn)),
-            _ => return self.compare(rt, alloc, conn, said),
-        };
-        check_text(rt, found.as_str(), rest, said.line);
-    }
-
     /// Compares the last answer, or what has come of it.
     fn compare<S: Alter>(
         &mut self,
@@ -136,6 +97,10 @@ impl Player {
             "moves" => self.memory.check_moves(rt, alloc, rest),
             "row" => check_row(rt, alloc, conn, rest),
             "rows" => check_rows(rt, alloc, conn, said.text.as_str()),
+            "lawful" => {
+                let lawful = shown(rt, alloc, &is_lawful(rt, alloc, conn));
+                check_text(rt, lawful.as_str(), rest, said.line);
+            }
             "fault" => check_bytes(rt, &self.found, rest, self.request.as_str()),
             _ => {
                 let wanted = answer_of(alloc, self.request.as_str(), said);
@@ -149,19 +114,6 @@ impl Player {
 /// Carries out statements.
 fn execute<S: Alter>(rt: &impl Abort, conn: &mut Connection<S>, texts: &str) {
     conn.execute_batch(texts).expect(rt, texts);
-}
-
-/// Makes the desk's tables, or all but one, in whose place others are.
-fn make<S: Alter>(rt: &impl Abort, alloc: Global, conn: &mut Connection<S>, rest: &str) {
-    let (other, texts) = parted(rest);
-    if !NAMES.contains(&other) {
-        assert!(rt; conn.is_autocommit(), "idle");
-        let made = shown(rt, alloc, &make_desk_tables(conn));
-        return check_text(rt, made.as_str(), rest, "the making");
-    }
-    for (name, text) in NAMES.iter().zip(creation_texts()) {
-        execute(rt, conn, if *name == other { texts } else { text });
-    }
 }
 
 /// Opens a desk by that call. Where it gives none the rows stay.
@@ -195,7 +147,7 @@ pub(crate) fn play<S: Alter + Drop>(
     alloc: Global,
     conn: Connection<S>,
     text: &str,
-) -> Connection<S> {
+) {
     let mut conn = conn;
     let mut player = Player {
         routes: Routes::new(alloc).expect(rt, "memory"),
@@ -216,15 +168,13 @@ pub(crate) fn play<S: Alter + Drop>(
                 execute(rt, &mut conn, rest);
                 execute(rt, &mut conn, said.text.as_str());
             }
-            "make" => make(rt, alloc, &mut conn, rest),
             _ => {
                 if asks(word) {
                     conn = player.call(rt, alloc, conn, said);
                 } else {
-                    player.look(rt, alloc, &mut conn, said);
+                    player.compare(rt, alloc, &mut conn, said);
                 }
             }
         }
     }
-    conn
 }

@@ -3,7 +3,7 @@
 use crate::lists::list_of;
 use crate::memory::play_in_memory;
 use crate::stops::stop_script;
-use crate::ways::{Way, in_memory, on_files};
+use crate::ways::{Way, in_database};
 use agv_test_support::lines::whole;
 use agv_test_support::scripts::{FOR_ONE, cancels, stocktakes, trips, two_loads};
 use std::alloc::Global;
@@ -14,17 +14,16 @@ fn text_of(rt: &impl Abort, alloc: Global, parts: &[&str]) -> String {
     whole(alloc, parts).expect(rt, "a script")
 }
 
-/// Plays a script call by call, in memory and on files.
+/// Plays a script of a new desk call by call.
 fn play(rt: &impl Abort, alloc: Global, text: &str) {
-    in_memory(rt, alloc, &Way::Calls(text));
-    on_files(rt, alloc, &Way::Calls(text));
+    let text = format!(in alloc; "create ok\n{text}").expect(rt, "memory");
+    in_database(rt, alloc, &Way::Calls(text.as_str()));
 }
 
 /// Serves a script as one list.
 fn serve(rt: &impl Abort, alloc: Global, text: &str) {
     let list = list_of(rt, alloc, text);
-    in_memory(rt, alloc, &Way::List(&list));
-    on_files(rt, alloc, &Way::List(&list));
+    in_database(rt, alloc, &Way::List(&list));
 }
 
 /// Scripts of vehicles for one load, where there may be vehicles for up to four and where there may not.

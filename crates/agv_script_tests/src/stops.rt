@@ -29,7 +29,7 @@ fn with_short_log() -> Options {
     options
 }
 
-/// Each call is answered `Storage`. What becomes of streams then is in `stops` of `agv_stream_tests`.
+/// Each call is answered `Storage`.
 fn check_stays_failed<S: Alter + Drop>(rt: &impl Abort, desk: &mut Desk<S>, list: &List) {
     for (at, call) in &list.calls {
         let ended = desk.serve(*at, call);
@@ -167,6 +167,18 @@ fn disk_of(rt: &impl Abort, alloc: Global, bytes: &[u8]) -> Memory {
     disk
 }
 
+/// The files once these statements were carried out in their database.
+fn carried_out<D: Disk + Drop>(
+    rt: &impl Abort,
+    alloc: Global,
+    files: Files<D>,
+    texts: &str,
+) -> Files<D> {
+    let mut conn = open(rt, alloc, files);
+    conn.execute_batch(texts).expect(rt, texts);
+    copied_out(conn).0
+}
+
 /// Files in which these statements were carried out; without any, empty ones. They are behind no fuses yet, so that a desk
 /// over them has the type of one on the files of `blank`.
 fn written(rt: &impl Abort, alloc: Global, texts: &str) -> Files<Memory> {
@@ -176,9 +188,7 @@ fn written(rt: &impl Abort, alloc: Global, texts: &str) -> Files<Memory> {
             db: Memory::new(alloc),
         };
     }
-    let mut conn = open(rt, alloc, blank(alloc));
-    conn.execute_batch(texts).expect(rt, texts);
-    let files = copied_out(conn).0;
+    let files = carried_out(rt, alloc, blank(alloc), texts);
     Files {
         log: disk_of(rt, alloc, files.log.inner().bytes()),
         db: disk_of(rt, alloc, files.db.inner().bytes()),
