@@ -7,7 +7,6 @@
 //! - `requests` has requests as their bytes come, one at a time.
 //! - `calls` has paths and methods, the line of the table of routes that each is, and the calls that bodies say there.
 //! - `answers` has the bytes of answers.
-//! - `repeated` reads one request often, and puts one answer often, for `bench/requests`.
 #![tactic(auto)]
 
 #[cfg(test)]
@@ -16,7 +15,5 @@ mod answers;
 mod calls;
 #[cfg(test)]
 mod cases;
-#[cfg(test)]
-mod repeated;
 #[cfg(test)]
 mod requests;

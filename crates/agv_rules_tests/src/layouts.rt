@@ -37,8 +37,8 @@ pub(crate) fn lines(rt: &impl Abort, alloc: Global, text: &str) -> String {
     text.replace(alloc, '|', "\n").expect(rt, "memory")
 }
 
-/// The warehouse as  with lines that end in LF, with a byte order mark and lines that end in CR LF, and with quotes
-/// and an empty line. Then no rows, rows that give no layout, and files that say none.
+/// The warehouse in lines that end in LF; others with a byte order mark and lines that end in CR LF, and with quotes and an
+/// empty line. Then no rows, rows that give no layout, and files that say none.
 const FILES: &str = "\
 kind,id,from,to|node,N1,,|node,N2,,|node,N3,,|edge,E12,N1,N2|edge,E21,N2,N1|edge,E23,N2,N3|edge,E32,N3,N2|station,A,N1,1|station,B,N3,1|station,C,N3,2| => Ok([Node { id: N1 }, Node { id: N2 }, Node { id: N3 }, Edge { id: E12, start: N1, finish: N2 }, Edge { id: E21, start: N2, finish: N1 }, Edge { id: E23, start: N2, finish: N3 }, Edge { id: E32, start: N3, finish: N2 }, Station { id: A, node: N1, capacity: 1 }, Station { id: B, node: N3, capacity: 1 }, Station { id: C, node: N3, capacity: 2 }])
 \u{feff}kind,id,from,to\r|node,N1,,\r|edge,E12,N1,N2\r|station,C,N3,2\r| => Ok([Node { id: N1 }, Edge { id: E12, start: N1, finish: N2 }, Station { id: C, node: N3, capacity: 2 }])
