@@ -198,6 +198,9 @@ def _look_at_tables(told: Told, path: str, base: sqlite3.Connection, rows_of_a_r
         told.notes.append(text % ', '.join(found.others))
     if found.is_bare:
         told.notes.append('%s is a database without a table: a desk that is started makes its tables in it.' % path)
+    elif found.is_foreign and found.odd:
+        text = "%s is another application's database, in which a desk can't make its tables (`fault: Damaged`): name another file.%s"
+        told.reasons.append(text % (path, ''.join('\n  ' + line for line in found.odd)))
     elif found.is_foreign:
         text = (
             "%s is another application's database: its tables are %s. A desk would make its own tables in it: name "
