@@ -1,11 +1,11 @@
 //! Streams whose reader fails behind each byte of their input, and whose writer fails, or takes none, behind each byte of
 //! their answers: how many answers are counted, what is written, and what the same desk answers then.
 
-use crate::desks::desk_in;
+use crate::desks::{desk_in, moment};
 use crate::fakes::{Drip, Trickle};
+use crate::texts::{ASKS, DONE, KNOWN, REGISTERS, UNKNOWN, joined};
 use agv_database::open_in_memory;
 use agv_face::{CountingIo, Ended, Served, StreamFault, serve_stream};
-use agv_header::Moment;
 use agv_store::Desk;
 use sqlite::{Alter, Connection, Error};
 use std::alloc::Global;
@@ -19,25 +19,8 @@ struct Stream {
     answers: [&'static str; 3],
 }
 
-const REGISTERS: &str = "POST /loads HTTP/1.1\r\nContent-Length: 13\r\n\r\n{\"load\":\"L1\"}";
-
 const REGISTERS_ANOTHER: &str =
     "POST /loads HTTP/1.1\r\nContent-Length: 13\r\n\r\n{\"load\":\"L2\"}";
-
-const ASKS: &str = "GET /loads/L1 HTTP/1.1\r\n\r\n";
-
-const DONE: &str =
-    "HTTP/1.1 200 OK\r\nContent-Length: 2\r\nContent-Type: application/json\r\n\r\n{}";
-
-const KNOWN: &str = concat!(
-    "HTTP/1.1 200 OK\r\nContent-Length: 43\r\nContent-Type: application/json\r\n\r\n",
-    "{\"job\":null,\"load\":\"L1\",\"place\":\"checking\"}",
-);
-
-const UNKNOWN: &str = concat!(
-    "HTTP/1.1 404 Not Found\r\nContent-Length: 30\r\nContent-Type: application/json\r\n\r\n",
-    "{\"name\":\"NoLoad\",\"refusal\":23}",
-);
 
 const BAD_HEAD: &str = concat!(
     "HTTP/1.1 400 Bad Request\r\nContent-Length: 30\r\nContent-Type: application/json\r\n",
@@ -71,15 +54,6 @@ fn count_in(texts: &[&str], n: usize) -> u64 {
     count
 }
 
-/// The texts one after another.
-fn joined(rt: &impl Abort, alloc: Global, texts: &[&str]) -> String {
-    let mut all = String::new(alloc);
-    for text in texts {
-        all.push_str(text).expect(rt, "memory");
-    }
-    all
-}
-
 /// What fails behind so many bytes: the reader, or the writer, which may take none.
 #[derive(Clone, Copy)]
 struct Cut {
@@ -89,9 +63,9 @@ struct Cut {
 }
 
 impl Stream {
-    fn input(&self, rt: &impl Abort, alloc: Global) -> String {
+    fn input(&self, ends: &impl Abort, alloc: Global) -> String {
         let [first, second] = self.requests;
-        joined(rt, alloc, &[first, second, self.rest])
+        joined(ends, alloc, &[first, second, self.rest])
     }
 
     /// How many answers are whole, and how many bytes are written.
@@ -110,16 +84,16 @@ impl Stream {
 }
 
 /// The desk goes on: it knows the load where its registration was served.
-fn goes_on<S: Alter + Drop>(rt: &impl Abort, alloc: Global, desk: &mut Desk<S>, known: bool) {
-    let at = Moment::of(1_700_000_000_000).expect(rt, "a moment");
+fn goes_on<S: Alter + Drop>(ends: &impl Abort, alloc: Global, desk: &mut Desk<S>, known: bool) {
+    let at = moment(ends);
     let mut reader = CountingIo::new(ASKS.as_bytes());
     let mut writer = CountingIo::new(Vec::new(alloc));
     let served = serve_stream(alloc, desk, at, &mut reader, &mut writer);
     let ended = Ended::End;
     let wanted = Served { answers: 1, ended };
-    assert!(rt; served == Ok(wanted), "the desk goes on");
+    assert!(ends; served == Ok(wanted), "the desk goes on");
     let answer = if known { KNOWN } else { UNKNOWN };
-    assert!(rt;
+    assert!(ends;
         writer.inner().as_slice() == answer.as_bytes(),
         "what it knows"
     );
@@ -127,15 +101,15 @@ fn goes_on<S: Alter + Drop>(rt: &impl Abort, alloc: Global, desk: &mut Desk<S>, 
 
 /// A new desk in this database serves what comes before the cut.
 fn serve_cut<S: Alter + Drop>(
-    rt: &impl Abort,
+    ends: &impl Abort,
     alloc: Global,
     opened: Result<Connection<S>, Error>,
     stream: Stream,
     cut: Cut,
 ) {
-    let mut desk = desk_in(rt, alloc, opened);
-    let at = Moment::of(1_700_000_000_000).expect(rt, "a moment");
-    let input = stream.input(rt, alloc);
+    let mut desk = desk_in(ends, alloc, opened);
+    let at = moment(ends);
+    let input = stream.input(ends, alloc);
     let (answers, written) = stream.written_at(cut);
     let mut reader = CountingIo::new(Drip {
         bytes: input.as_str().as_bytes(),
@@ -152,31 +126,31 @@ fn serve_cut<S: Alter + Drop>(
     } else {
         StreamFault::Write { answers }
     };
-    assert!(rt; served == Err(wanted), "the end of the stream");
-    let all = joined(rt, alloc, &stream.answers);
-    let front = all.as_str().get(..written).expect(rt, "a front");
+    assert!(ends; served == Err(wanted), "the end of the stream");
+    let all = joined(ends, alloc, &stream.answers);
+    let front = all.as_str().get(..written).expect(ends, "a front");
     let taken = writer.inner().taken.as_slice();
-    assert!(rt; taken == front.as_bytes(), "the answers");
-    goes_on(rt, alloc, &mut desk, !cut.of_reader || answers > 0);
+    assert!(ends; taken == front.as_bytes(), "the answers");
+    goes_on(ends, alloc, &mut desk, !cut.of_reader || answers > 0);
 }
 
 /// The stream is cut in a new database.
-fn cut_at(rt: &impl Abort, alloc: Global, stream: Stream, cut: Cut) {
-    serve_cut(rt, alloc, open_in_memory(alloc), stream, cut);
+fn cut_at(ends: &impl Abort, alloc: Global, stream: Stream, cut: Cut) {
+    serve_cut(ends, alloc, open_in_memory(alloc), stream, cut);
 }
 
 /// The stream is cut at each byte.
-fn cut_each(rt: &impl Abort, alloc: Global, stream: Stream) {
-    for n in 0..=stream.input(rt, alloc).len() {
+fn cut_each(ends: &impl Abort, alloc: Global, stream: Stream) {
+    for n in 0..=stream.input(ends, alloc).len() {
         let (of_reader, takes_none) = (true, false);
         let cut = Cut {
             of_reader,
             takes_none,
             n,
         };
-        cut_at(rt, alloc, stream, cut);
+        cut_at(ends, alloc, stream, cut);
     }
-    for n in 0..joined(rt, alloc, &stream.answers).len() {
+    for n in 0..joined(ends, alloc, &stream.answers).len() {
         for takes_none in [false, true] {
             let of_reader = false;
             let cut = Cut {
@@ -184,7 +158,7 @@ fn cut_each(rt: &impl Abort, alloc: Global, stream: Stream) {
                 takes_none,
                 n,
             };
-            cut_at(rt, alloc, stream, cut);
+            cut_at(ends, alloc, stream, cut);
         }
     }
 }

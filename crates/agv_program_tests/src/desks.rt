@@ -1,5 +1,6 @@
-//! A desk in a database.
+//! A desk in a database, and the moment at which all is served.
 
+use agv_header::Moment;
 use agv_store::Desk;
 use sqlite::{Alter, Connection, Error};
 use std::alloc::Global;
@@ -17,4 +18,9 @@ pub(crate) fn desk_in<S: Alter + Drop>(
         Ok(desk) => desk,
         Err(_) => panic!(ends; "a desk is made"),
     }
+}
+
+/// The moment at which all is served.
+pub(crate) fn moment(ends: &impl Abort) -> Moment {
+    Moment::of(1_700_000_000_000).expect(ends, "a moment")
 }

@@ -1,37 +1,25 @@
 //! Which words ask for what, and a line that is carried out.
 
+use crate::texts::{ASKS, DONE, KNOWN, REGISTERS, joined};
 use agv_command_line::{Line, LineFault, ReportKind, line_of};
 use agv_face::CountingIo;
 use agv_program::run_line;
 use std::alloc::Global;
 use std::process::Abort;
 
-/// A load is registered, and asked for.
-pub(crate) const REQUESTS: &str = concat!(
-    "POST /loads HTTP/1.1\r\nContent-Length: 13\r\n\r\n{\"load\":\"L1\"}",
-    "GET /loads/L1 HTTP/1.1\r\n\r\n",
-);
-
-/// What is answered: it stands at the checking place.
-const ANSWERS: &str = concat!(
-    "HTTP/1.1 200 OK\r\nContent-Length: 2\r\nContent-Type: application/json\r\n\r\n{}",
-    "HTTP/1.1 200 OK\r\nContent-Length: 43\r\nContent-Type: application/json\r\n\r\n",
-    "{\"job\":null,\"load\":\"L1\",\"place\":\"checking\"}",
-);
-
 /// The words of a line.
-fn words_of(rt: &impl Abort, alloc: Global, line: &str) -> Vec<String> {
+fn words_of(ends: &impl Abort, alloc: Global, line: &str) -> Vec<String> {
     let mut words = Vec::new(alloc);
     for word in line.split_whitespace() {
-        let word = String::from_str(alloc, word).expect(rt, line);
-        words.push(word).expect(rt, line);
+        let word = String::from_str(alloc, word).expect(ends, line);
+        words.push(word).expect(ends, line);
     }
     words
 }
 
 /// What the words of a line ask for.
-fn asked(rt: &impl Abort, alloc: Global, line: &str) -> &'static str {
-    let words = words_of(rt, alloc, line);
+fn asked(ends: &impl Abort, alloc: Global, line: &str) -> &'static str {
+    let words = words_of(ends, alloc, line);
     match line_of(alloc, &words) {
         Ok(
             Line::Report {
@@ -59,7 +47,9 @@ fn requests_are_answered_in_memory(rt: HostRuntime) {
         db: "memory",
         at: 1_700_000_000_000,
     };
-    let mut reader = CountingIo::new(REQUESTS.as_bytes());
+    let requests = joined(&rt, rt.alloc(), &[REGISTERS, ASKS]);
+    let answers = joined(&rt, rt.alloc(), &[DONE, KNOWN]);
+    let mut reader = CountingIo::new(requests.as_str().as_bytes());
     let mut writer = CountingIo::new(Vec::new(rt.alloc()));
     let mut faults = CountingIo::new(Vec::new(rt.alloc()));
     let status = run_line(
@@ -72,7 +62,7 @@ fn requests_are_answered_in_memory(rt: HostRuntime) {
     );
     assert!(rt; status == 0, "the status");
     assert!(rt;
-        writer.inner().as_slice() == ANSWERS.as_bytes(),
+        writer.inner().as_slice() == answers.as_str().as_bytes(),
         "the answers"
     );
     assert!(rt; faults.inner().is_empty(), "no fault");

@@ -1,11 +1,10 @@
 //! A stream that may have ten reads, each of which gives a byte.
 
-use crate::desks::desk_in;
+use crate::desks::{desk_in, moment};
 use crate::fakes::Drip;
-use crate::lines::REQUESTS;
+use crate::texts::{ASKS, REGISTERS, joined};
 use agv_database::open_in_memory;
 use agv_face::{CountingIo, StreamFault, serve_stream_within};
-use agv_header::Moment;
 use sqlite::{Alter, Connection, Error};
 use std::alloc::Global;
 use std::process::Abort;
@@ -17,9 +16,10 @@ fn read_ten_times<S: Alter + Drop>(
     opened: Result<Connection<S>, Error>,
 ) {
     let mut desk = desk_in(ends, alloc, opened);
-    let at = Moment::of(1_700_000_000_000).expect(ends, "a moment");
+    let at = moment(ends);
+    let requests = joined(ends, alloc, &[REGISTERS, ASKS]);
     let mut reader = CountingIo::new(Drip {
-        bytes: REQUESTS.as_bytes(),
+        bytes: requests.as_str().as_bytes(),
         reads: usize::MAX,
     });
     let mut writer = CountingIo::new(Vec::new(alloc));

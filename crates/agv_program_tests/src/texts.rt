@@ -1,0 +1,36 @@
+//! Requests for the load L1, and the bytes of their answers.
+
+use std::alloc::Global;
+use std::process::Abort;
+
+/// The load L1 is registered, at the checking place.
+pub(crate) const REGISTERS: &str =
+    "POST /loads HTTP/1.1\r\nContent-Length: 13\r\n\r\n{\"load\":\"L1\"}";
+
+/// The load L1 is asked for.
+pub(crate) const ASKS: &str = "GET /loads/L1 HTTP/1.1\r\n\r\n";
+
+/// What was asked for is done.
+pub(crate) const DONE: &str =
+    "HTTP/1.1 200 OK\r\nContent-Length: 2\r\nContent-Type: application/json\r\n\r\n{}";
+
+/// L1 stands at the checking place.
+pub(crate) const KNOWN: &str = concat!(
+    "HTTP/1.1 200 OK\r\nContent-Length: 43\r\nContent-Type: application/json\r\n\r\n",
+    "{\"job\":null,\"load\":\"L1\",\"place\":\"checking\"}",
+);
+
+/// There is no such load.
+pub(crate) const UNKNOWN: &str = concat!(
+    "HTTP/1.1 404 Not Found\r\nContent-Length: 30\r\nContent-Type: application/json\r\n\r\n",
+    "{\"name\":\"NoLoad\",\"refusal\":23}",
+);
+
+/// The texts one after another.
+pub(crate) fn joined(ends: &impl Abort, alloc: Global, texts: &[&str]) -> String {
+    let mut all = String::new(alloc);
+    for text in texts {
+        all.push_str(text).expect(ends, "memory");
+    }
+    all
+}
