@@ -47,7 +47,7 @@ class Building(Tree):
         self.assertIn('proved and built', said)
         self.assertEqual(self.calls(), BUILD)
         self.assertEqual(self.read('build/log'), 'logic=proved functions=1\n' * 3)
-        self.assertEqual(sorted(os.listdir(os.path.join(self.top, 'build'))), ['crates.txt', 'desk', 'lock', 'log'])
+        self.assertEqual(sorted(os.listdir(os.path.join(self.top, 'build'))), ['crates.made', 'desk', 'lock', 'log'])
         for crate in ('agv_first', 'agv_middle'):
             self.assertEqual(sorted(os.listdir(os.path.join(self.top, 'crates', crate, 'out'))), ['old', 'rlib'])
         self.assertEqual(self.run_desk('replay'), (3, 'replay|', ''))
@@ -246,7 +246,7 @@ class Unproved(Tree):
         self.assertIn('desk: built without proofs in ', said)
         self.assertEqual(self.calls(), ['agv_app try -- replay --db memory --at 0'])
         self.assertEqual(sorted(os.listdir(os.path.join(self.top, 'build'))), ['lock', 'unproved'])
-        self.assertEqual(sorted(os.listdir(os.path.join(self.top, 'build', 'unproved'))), ['crates.txt', 'desk', 'log'])
+        self.assertEqual(sorted(os.listdir(os.path.join(self.top, 'build', 'unproved'))), ['crates.made', 'desk', 'log'])
         self.assertEqual(self.run_desk('--unproved', 'replay'), (3, 'replay|', NOT_PROVED))
         self.assertEqual(len(self.calls()), 1)
 
@@ -274,10 +274,12 @@ class Unproved(Tree):
         self.assertIn('only `replay`', said)
 
     def test_sources_that_are_wrong(self) -> None:
-        self.note('no-module', 'src/main.rt:1:1: error: wrong\n')
+        """`rt try` ends with 1, and its last line says in some kits that nothing is proved."""
+        self.note('no-module', 'src/main.rt:1:1: error: wrong\nrun=none proved=no\n')
+        self.note('refused')
         status, out, said = self.run_desk('--unproved', 'replay')
         self.assertEqual((status, out), (1, ''))
-        self.assertTrue(said.endswith('ended with:\nsrc/main.rt:1:1: error: wrong\n'), said)
+        self.assertTrue(said.endswith('ended with:\nsrc/main.rt:1:1: error: wrong\nrun=none proved=no\n'), said)
 
     def test_a_signal_ends_the_build(self) -> None:
         self.write(os.path.join(self.kit, 'toolchain/bin/clang'), '#!/bin/sh\ntouch module-1.o.tmp "$NOTES/compiles"\nexec sleep 600\n')
