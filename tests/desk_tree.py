@@ -37,7 +37,7 @@ if [ "$1" = try ]; then
         exec sleep 600
     fi
     cat "$NOTES/no-module"
-    [ ! -e "$NOTES/refused" ] || exit 1
+    [ ! -e "$NOTES/status" ] || exit "$(cat "$NOTES/status")"
     exit 0
 fi
 if [ -e "$NOTES/slow" ]; then

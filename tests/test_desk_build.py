@@ -55,7 +55,7 @@ class Building(Tree):
 
     def test_before_a_first_build_it_says_what_comes(self) -> None:
         said = self.run_desk('replay')[2].splitlines()
-        self.assertIn('3 crates are proved and built first, which last took 12 min 34 s on four cores', said[0])
+        self.assertIn('3 crates are proved and built first, which took 12 min 34 s on four fast cores', said[0])
         self.assertIn('./desk --unproved replay --db memory', said[1])
         self.assertTrue(said[2].startswith('desk: agv_first, 1 of 3'), said[2])
         self.write('crates.txt', CRATES + 'agv_app: agv_middle agv_first\n')
@@ -274,12 +274,22 @@ class Unproved(Tree):
         self.assertIn('only `replay`', said)
 
     def test_sources_that_are_wrong(self) -> None:
-        """`rt try` ends with 1, and its last line says in some kits that nothing is proved."""
+        """`rt try` ends with 1, or with another status where it fails itself. Its last line says in some kits that nothing is proved."""
         self.note('no-module', 'src/main.rt:1:1: error: wrong\nrun=none proved=no\n')
-        self.note('refused')
-        status, out, said = self.run_desk('--unproved', 'replay')
+        for tried in ('1', '2', '143'):
+            self.note('status', tried)
+            status, out, said = self.run_desk('--unproved', 'replay')
+            self.assertEqual((status, out), (1, ''))
+            self.assertTrue(said.endswith('ended with:\nsrc/main.rt:1:1: error: wrong\nrun=none proved=no\n'), said)
+
+    def test_a_compiler_that_fails(self) -> None:
+        """What it says is in the log."""
+        self.write(os.path.join(self.kit, 'toolchain/bin/clang'), '#!/bin/sh\necho no room >&2\nexit 7\n', 0o755)
+        status, out, said = self.run_desk('--unproved', 'serve', '--db', 'f')
         self.assertEqual((status, out), (1, ''))
-        self.assertTrue(said.endswith('ended with:\nsrc/main.rt:1:1: error: wrong\nrun=none proved=no\n'), said)
+        log = os.path.join(self.top, 'build', 'unproved', 'log')
+        self.assertIn('clang ended with status 7; what it said is in %s\n' % log, said)
+        self.assertEqual(self.read('build/unproved/log'), 'no room\n')
 
     def test_a_signal_ends_the_build(self) -> None:
         self.write(os.path.join(self.kit, 'toolchain/bin/clang'), '#!/bin/sh\ntouch module-1.o.tmp "$NOTES/compiles"\nexec sleep 600\n')

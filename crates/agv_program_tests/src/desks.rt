@@ -1,4 +1,4 @@
-//! A desk in a database, and the moment at which all is served.
+//! A desk in a database, and the moment at which streams are served.
 
 use agv_header::Moment;
 use agv_store::Desk;
@@ -20,7 +20,7 @@ pub(crate) fn desk_in<S: Alter + Drop>(
     }
 }
 
-/// The moment at which all is served.
+/// The moment at which streams are served.
 pub(crate) fn moment(ends: &impl Abort) -> Moment {
     Moment::of(1_700_000_000_000).expect(ends, "a moment")
 }

@@ -1,5 +1,5 @@
 //! A reader that gives a byte at each read, and a writer that takes one at each write: each fails once, when it is told to.
-//! And a reader that fails unless a writer that counts its bytes has taken enough of them.
+//! And a reader that gives its second request only once a writer that counts its bytes has taken enough of them.
 
 use std::cell::Cell;
 use std::io::{self, ErrorKind, Read, Write};

@@ -4,7 +4,7 @@
 //! - `connections` has a connection over the network served.
 //! - `turns` has a stream whose second request waits for the answer to the first, `reads` a stream of few reads, and `cuts`
 //!   streams that fail at each of their bytes.
-//! - `texts` has requests and answers that several have, `fakes` the readers and writers, and `desks` the desk.
+//! - `texts` has requests and answers, `fakes` the readers and writers, and `desks` the desk.
 #![tactic(auto)]
 
 #[cfg(test)]
