@@ -55,9 +55,13 @@ number name most = record (required_option name) { parser = Some (unsigned_up_to
 abbrev pub db : Rule
 db = required_option (codes "db")
 
+-- a required argument that stands by itself
+abbrev pub positional : Text → Rule
+positional name = record (new_rule name) { action = Some Set; value_names = 1; required = true }
+
 -- `stock` or `holds`, by itself
 abbrev pub report_kind : Choice → Rule
-report_kind kinds = record (new_rule (codes "kind")) { action = Some Set; value_names = 1; parser = Some (Names kinds); required = true }
+report_kind kinds = record (positional (codes "kind")) { parser = Some (Names kinds) }
 
 -- the subcommand `replay`
 abbrev pub replay : App

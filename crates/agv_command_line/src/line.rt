@@ -1,9 +1,9 @@
 //! The command line: `replay --db FILE|memory --at MILLIS`, `serve --db FILE --port P
 //! --connections N`, `report --db FILE stock|holds`, and `migrate --db FILE`.
 ghost use Rattle.std.specs.Prelude.{◌≡◌, IfOk, IfErr, IfSome, IsSome, false, map, string_bytes, codes};
-ghost use Rattle.clap.specs.Words.{found_of, new_app, rows_of, rule_of};
+ghost use Rattle.clap.specs.Words.{found_of, new_app, rows_of, rule_of, with_rule};
 ghost use Rattle.clap.specs.declared.builder.command.Command.TheViews.{out-Command};
-ghost use Rattle.agv_command_line.specs.CommandLine.{AreKinds, Choice, Gives, HasValues, IsApp, IsLine, IsLineFault, IsOneOf, answering, db, desk, desk_top, kind_word, migrate, name_of, number, replay, replaying, report, report_kind, reporting, required_option, serve};
+ghost use Rattle.agv_command_line.specs.CommandLine.{AreKinds, Choice, Gives, HasValues, IsApp, IsLine, IsLineFault, IsOneOf, answering, db, desk, desk_top, kind_word, migrate, name_of, number, positional, replay, replaying, report, report_kind, reporting, required_option, serve};
 ghost use Rattle.agv_command_line.specs.declared.line.ReportKind.{ReportKind};
 
 use clap::error::ErrorKind;
@@ -175,17 +175,24 @@ fn file_arg<'a>(alloc: Global) -> Arg<'a>
     required_arg(alloc, "db", "FILE", "The file that keeps the records")
 }
 
+/// A required argument that stands by itself; `value` is its name in the help.
+fn positional_arg<'a>(alloc: Global, name: &'a str, value: &'a str, help: &'a str) -> Arg<'a>
+    ensures rule { rule_of result ≡ positional name.now }
+    ensures local { result.global ≡ false }
+{
+    Arg::new(alloc, name)
+        .required(true)
+        .action(ArgAction::Set)
+        .value_name(value)
+        .help(help)
+}
+
 /// A required option with one value; `value` is its name in the help.
 fn required_arg<'a>(alloc: Global, name: &'a str, value: &'a str, help: &'a str) -> Arg<'a>
     ensures rule { rule_of result ≡ required_option name.now }
     ensures local { result.global ≡ false }
 {
-    Arg::new(alloc, name)
-        .long(name)
-        .required(true)
-        .action(ArgAction::Set)
-        .value_name(value)
-        .help(help)
+    positional_arg(alloc, name, value, help).long(name)
 }
 
 /// A required option whose value is a number from 0 to `most`.
@@ -196,14 +203,25 @@ fn number_arg<'a>(alloc: Global, name: &'a str, value: &'a str, most: i64, help:
     required_arg(alloc, name, value, help).value_parser(value_parser!(u64).range(..=most))
 }
 
+/// A command of this name with the option `--db FILE`.
+fn file_command<'a>(
+    alloc: Global,
+    name: &'a str,
+    about: &'a str,
+    example: &'a str,
+) -> Result<Command<'a>, AllocError>
+    ensures { IfOk result (IsApp (with_rule (new_app name.now) db)) }
+{
+    named_command(alloc, name, about, example).arg(file_arg(alloc))
+}
+
 /// The subcommand `serve`.
 fn serve_command<'a>(alloc: Global) -> Result<Command<'a>, AllocError>
     ensures { IfOk result (IsApp serve) }
 {
     let about = "Answers requests over the network, to programs on this machine (127.0.0.1)";
     let example = "Example: desk serve --db desk.db --port 8080 --connections 100";
-    named_command(alloc, "serve", about, example)
-        .arg(file_arg(alloc))?
+    file_command(alloc, "serve", about, example)?
         .arg(number_arg(
             alloc,
             "port",
@@ -226,9 +244,7 @@ fn report_command<'a>(alloc: Global) -> Result<Command<'a>, AllocError>
 {
     let about = "Prints a report of the records: where the loads are, or what the vehicles hold";
     let example = "Example: desk report --db desk.db stock";
-    named_command(alloc, "report", about, example)
-        .arg(file_arg(alloc))?
-        .arg(kind_arg(alloc))
+    file_command(alloc, "report", about, example)?.arg(kind_arg(alloc))
 }
 
 /// The name of a report, a positional argument.
@@ -236,14 +252,9 @@ fn kind_arg<'a>(alloc: Global) -> Arg<'a>
     ensures rule { (kinds : Choice) × AreKinds kinds × (rule_of result ≡ report_kind kinds) }
     ensures local { result.global ≡ false }
 {
-    Arg::new(alloc, "kind")
-        .required(true)
-        .action(ArgAction::Set)
-        .value_name("REPORT")
-        .value_parser(KINDS.as_slice())
-        .help(
-            "`stock`: each load and its place; `holds`: the nodes and edges that each vehicle holds",
-        )
+    let help =
+        "`stock`: each load and its place; `holds`: the nodes and edges that each vehicle holds";
+    positional_arg(alloc, "kind", "REPORT", help).value_parser(KINDS.as_slice())
 }
 
 /// The subcommand `migrate`.
@@ -252,7 +263,7 @@ fn migrate_command<'a>(alloc: Global) -> Result<Command<'a>, AllocError>
 {
     let about = "Migrates a file of the first schema (one load a vehicle) to the second";
     let example = "Example: sqlite3 desk.db '.backup before.db'; desk migrate --db desk.db";
-    named_command(alloc, "migrate", about, example).arg(file_arg(alloc))
+    file_command(alloc, "migrate", about, example)
 }
 
 /// The line of the subcommand `name`.
