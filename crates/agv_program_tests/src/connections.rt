@@ -1,10 +1,11 @@
 //! A connection over the network is served.
 
-use crate::desks::desk_in;
 use agv_database::open_in_memory;
 use agv_face::{Ended, Served};
 use agv_program::serve_next;
+use agv_store::Desk;
 use sqlite::{Alter, Connection, Error};
+use std::alloc::Global;
 use std::io::{self, Write};
 use std::net::{TcpListener, TcpStream};
 use std::process::Abort;
@@ -18,20 +19,35 @@ const ANSWER: &str = concat!(
     "Connection: close\r\n\r\n{\"name\":\"NoLoad\",\"refusal\":23}",
 );
 
-/// The desk of this database serves a connection on a free port.
-fn serve_one<S: Alter + Drop>(
-    rt: &HostRuntime,
+/// The desk of this database, which is empty.
+fn desk_in<S: Alter + Drop>(
     ends: &impl Abort,
+    alloc: Global,
     opened: Result<Connection<S>, Error>,
-) {
-    let mut desk = desk_in(ends, rt.alloc(), opened);
-    let mut listener = TcpListener::bind(rt, "127.0.0.1:0").expect(ends, "a port");
+) -> Desk<S> {
+    let conn = opened.expect(ends, "a database");
+    assert!(ends; conn.is_autocommit(), "idle");
+    match Desk::open(alloc, conn) {
+        Ok(desk) => desk,
+        Err(_) => panic!(ends; "a desk is made"),
+    }
+}
+
+/// A client that has connected and sent its request.
+fn client_of(rt: &HostRuntime, ends: &impl Abort, listener: &TcpListener) -> TcpStream {
     let addr = listener.local_addr().expect(ends, "its address");
     let mut client = TcpStream::connect(rt, addr).expect(ends, "a connection");
     client
         .write_all(REQUEST.as_bytes())
         .expect(ends, "a request");
-    let served = serve_next(rt, rt.alloc(), &mut desk, &mut listener);
+    client
+}
+
+/// This desk serves a connection on a free port.
+fn serve_one<S: Alter + Drop>(rt: &HostRuntime, ends: &impl Abort, desk: &mut Desk<S>) {
+    let mut listener = TcpListener::bind(rt, "127.0.0.1:0").expect(ends, "a port");
+    let client = client_of(rt, ends, &listener);
+    let served = serve_next(rt, rt.alloc(), desk, &mut listener);
     let wanted = Served {
         answers: 1,
         ended: Ended::Close,
@@ -41,7 +57,17 @@ fn serve_one<S: Alter + Drop>(
     assert!(ends; answer.as_str() == ANSWER, "the answer");
 }
 
+/// The desk of this database serves a connection.
+fn serve_one_in<S: Alter + Drop>(
+    rt: &HostRuntime,
+    ends: &impl Abort,
+    opened: Result<Connection<S>, Error>,
+) {
+    let mut desk = desk_in(ends, rt.alloc(), opened);
+    serve_one(rt, ends, &mut desk);
+}
+
 #[test]
 fn a_connection_is_served(rt: HostRuntime) {
-    serve_one(&rt, &rt, open_in_memory(rt.alloc()));
+    serve_one_in(&rt, &rt, open_in_memory(rt.alloc()));
 }

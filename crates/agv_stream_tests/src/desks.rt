@@ -2,15 +2,15 @@
 
 use agv_header::Moment;
 use agv_store::Desk;
-use sqlite::{Alter, Connection, Error};
-use std::alloc::Global;
+use sqlite::{Alter, Connection};
+use std::alloc::{AllocError, Global};
 use std::process::Abort;
 
 /// The desk of this database, which is empty.
 pub(crate) fn desk_in<S: Alter + Drop>(
     ends: &impl Abort,
     alloc: Global,
-    opened: Result<Connection<S>, Error>,
+    opened: Result<Connection<S>, AllocError>,
 ) -> Desk<S> {
     let conn = opened.expect(ends, "a database");
     assert!(ends; conn.is_autocommit(), "idle");

@@ -1,22 +1,22 @@
 //! A reader that gives a request only where the whole answer to the one before is written.
 
-use crate::desks::{desk_in, moment};
+use crate::desks::moment;
 use crate::fakes::{InTurn, Tally};
 use crate::texts::{ASKS, DONE, KNOWN, REGISTERS, joined};
-use agv_database::open_in_memory;
+use crate::ways::{Way, in_memory};
 use agv_face::{CountingIo, Ended, Served, serve_stream};
-use sqlite::{Alter, Connection, Error};
+use agv_store::Desk;
+use sqlite::Alter;
 use std::alloc::Global;
 use std::cell::Cell;
 use std::process::Abort;
 
 /// A load is registered and asked for: the desk doesn't ask for the second request before it has answered the first.
-fn answer_in_turn<S: Alter + Drop>(
+pub(crate) fn answer_in_turn<S: Alter + Drop>(
     ends: &impl Abort,
     alloc: Global,
-    opened: Result<Connection<S>, Error>,
+    desk: &mut Desk<S>,
 ) {
-    let mut desk = desk_in(ends, alloc, opened);
     let at = moment(ends);
     let written = Cell::new(0);
     let mut reader = CountingIo::new(InTurn {
@@ -30,7 +30,7 @@ fn answer_in_turn<S: Alter + Drop>(
         taken: Vec::new(alloc),
         written: &written,
     });
-    let served = serve_stream(alloc, &mut desk, at, &mut reader, &mut writer);
+    let served = serve_stream(alloc, desk, at, &mut reader, &mut writer);
     let ended = Ended::End;
     let wanted = Served { answers: 2, ended };
     assert!(ends; served == Ok(wanted), "the end of the stream");
@@ -45,5 +45,5 @@ fn answer_in_turn<S: Alter + Drop>(
 
 #[test]
 fn an_answer_comes_before_the_next_request(rt: HostRuntime) {
-    answer_in_turn(&rt, rt.alloc(), open_in_memory(rt.alloc()));
+    in_memory(&rt, rt.alloc(), &Way::InTurn);
 }

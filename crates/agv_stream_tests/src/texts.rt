@@ -28,9 +28,5 @@ pub(crate) const UNKNOWN: &str = concat!(
 
 /// The texts one after another.
 pub(crate) fn joined(ends: &impl Abort, alloc: Global, texts: &[&str]) -> String {
-    let mut all = String::new(alloc);
-    for text in texts {
-        all.push_str(text).expect(ends, "memory");
-    }
-    all
+    texts.concat(alloc).expect(ends, "memory")
 }

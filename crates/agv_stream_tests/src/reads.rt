@@ -1,21 +1,21 @@
 //! A stream that may have ten reads, each of which gives a byte.
 
-use crate::desks::{desk_in, moment};
+use crate::desks::moment;
 use crate::fakes::Drip;
 use crate::texts::{ASKS, REGISTERS, joined};
-use agv_database::open_in_memory;
+use crate::ways::{Way, in_memory};
 use agv_face::{CountingIo, StreamFault, serve_stream_within};
-use sqlite::{Alter, Connection, Error};
+use agv_store::Desk;
+use sqlite::Alter;
 use std::alloc::Global;
 use std::process::Abort;
 
 /// The reads are used up before the first request is whole: nothing is written.
-fn read_ten_times<S: Alter + Drop>(
+pub(crate) fn read_ten_times<S: Alter + Drop>(
     ends: &impl Abort,
     alloc: Global,
-    opened: Result<Connection<S>, Error>,
+    desk: &mut Desk<S>,
 ) {
-    let mut desk = desk_in(ends, alloc, opened);
     let at = moment(ends);
     let requests = joined(ends, alloc, &[REGISTERS, ASKS]);
     let mut reader = CountingIo::new(Drip {
@@ -23,7 +23,7 @@ fn read_ten_times<S: Alter + Drop>(
         reads: usize::MAX,
     });
     let mut writer = CountingIo::new(Vec::new(alloc));
-    let served = serve_stream_within(alloc, &mut desk, at, &mut reader, &mut writer, 10);
+    let served = serve_stream_within(alloc, desk, at, &mut reader, &mut writer, 10);
     let wanted = StreamFault::Read { answers: 0 };
     assert!(ends; served == Err(wanted), "the end of the stream");
     assert!(ends; reader.calls() == 10, "ten reads");
@@ -32,5 +32,5 @@ fn read_ten_times<S: Alter + Drop>(
 
 #[test]
 fn a_stream_has_ten_reads(rt: HostRuntime) {
-    read_ten_times(&rt, rt.alloc(), open_in_memory(rt.alloc()));
+    in_memory(&rt, rt.alloc(), &Way::TenReads);
 }
