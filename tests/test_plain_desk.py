@@ -143,7 +143,8 @@ class ThingsKnown(unittest.TestCase):
         known = module('known', 'bench')
         for thing, (kind, edits) in known.THINGS.items():
             with self.subTest(thing), tempfile.TemporaryDirectory() as copy:
-                shutil.copytree(os.path.join(ROOT, 'crates', 'agv_store', 'src'), os.path.join(copy, 'crates', 'agv_store', 'src'))
+                for crate in ('agv_known', 'agv_store'):
+                    shutil.copytree(os.path.join(ROOT, 'crates', crate, 'src'), os.path.join(copy, 'crates', crate, 'src'))
                 known.edit(copy, edits)
                 begin, requests = known.call(kind)
                 status, out, _ = run('replay', '--db', 'memory', '--at', AT, stdin=begin + b''.join(requests))

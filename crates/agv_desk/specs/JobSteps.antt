@@ -1,13 +1,12 @@
 -- The calls of jobs (this project's profile).
-use Rattle.std.specs.Prelude.{ℕ, nat_lt, Bool, true, false, is_some, List, [], ◌∷◌, Option, None, Some}
+use Rattle.std.specs.Prelude.{ℕ, nat_lt, Bool, true, false, is_some, List, [], ◌∷◌, Some}
 use Rattle.std.specs.FinMap as finite
 use Rattle.agv_header.specs.Limits.{most_records}
 use Rattle.agv_header.specs.declared.refusal.Refusal.TheVariants as refusal
 use Rattle.agv_stock.specs.Checks.{job_check}
+use Rattle.agv_stock.specs.Rooms.{station_of_place}
 use Rattle.agv_stock.specs.declared.job.Phase.{Phase}
 use Rattle.agv_stock.specs.declared.job.Phase.TheVariants as phase
-use Rattle.agv_stock.specs.declared.place.Place.{Place}
-use Rattle.agv_stock.specs.declared.place.Place.TheVariants as place
 use Rattle.agv_world.specs.Questions.{count_of}
 use Rattle.agv_world.specs.Worlds.{World}
 use Rattle.agv_world.specs.declared.floor.Counted.TheVariants as counted
@@ -19,14 +18,6 @@ use Rattle.agv_desk.specs.declared.answer.Answer.TheVariants as answer
 -- the job is written
 abbrev pub job_written : List ℕ → JobRow → Effect
 job_written job row = record (answer_only answer.Done) { jobs = (job, row) ∷ [] }
-
--- the station where a load stands
-abbrev pub station_of_place : Option Place → Option (List ℕ)
-station_of_place None = None
-station_of_place (Some (place.Station id)) = Some id
-station_of_place (Some (place.Vehicle key)) = None
-station_of_place (Some place.Checking) = None
-station_of_place (Some place.Left) = None
 
 -- the job waits for a vehicle
 abbrev pub is_waiting : Phase → Bool

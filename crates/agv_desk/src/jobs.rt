@@ -1,8 +1,8 @@
 //! The calls of jobs.
-ghost use Rattle.std.specs.Prelude.{◌≡◌, IfOk, Some, is_some};
-ghost use Rattle.agv_stock.specs.Checks.{is_stored};
+ghost use Rattle.std.specs.Prelude.{◌≡◌, IfOk};
+ghost use Rattle.agv_stock.specs.Rooms.{station_of_place};
 ghost use Rattle.agv_world.specs.Asks.{Asks};
-ghost use Rattle.agv_desk.specs.JobSteps.{station_of_place, is_waiting, add_job, job_written, stop_job};
+ghost use Rattle.agv_desk.specs.JobSteps.{is_waiting, add_job, job_written, stop_job};
 ghost use Rattle.agv_desk.specs.Outcomes.{Made, decided};
 
 use crate::decisions::{made_with, refused};
@@ -10,7 +10,7 @@ use crate::shared::{is_in_job, station_goal};
 use crate::{Answer, Decision};
 use agv_header::limits::MAX_RECORDS;
 use agv_header::{Memory, Name, Refusal};
-use agv_stock::{Phase, Place, can_job};
+use agv_stock::{Phase, Place, can_job, station_of_place};
 use agv_world::{Change, Counted, Fault, Floor, JobRow};
 use std::alloc::Global;
 
@@ -31,7 +31,7 @@ pub(crate) fn add_job<F: Floor>(
     if let Err(why) = can_job(known, place, live, goal) {
         return Ok(refused(alloc, why));
     }
-    let Some(origin) = place.and_then(station_of_place) else {
+    let Some(origin) = station_where(place) else {
         return Ok(refused(alloc, Refusal::Elsewhere));
     };
     if floor.count(Counted::Jobs)? >= MAX_RECORDS {
@@ -44,6 +44,16 @@ pub(crate) fn add_job<F: Floor>(
         phase: Phase::Waiting,
     };
     Ok(job_written(alloc, job, row)?)
+}
+
+// The station where a load stands, if it stands at one.
+fn station_where(place: Option<Place>) -> Option<Name>
+    ensures { result ≡ station_of_place place }
+{
+    match place {
+        Some(place) => station_of_place(place),
+        None => None,
+    }
 }
 
 /// A job that waits is stopped.
@@ -80,15 +90,4 @@ fn job_written(alloc: Global, job: Name, row: JobRow) -> Result<Decision, Memory
     let mut changes = Vec::new(alloc);
     changes.push(Change::Job(job, row))?;
     Ok(made_with(Answer::Done, changes))
-}
-
-/// The station that a place is; none where it is no station.
-pub fn station_of_place(place: Place) -> Option<Name>
-    ensures is { result ≡ station_of_place (Some place) }
-    ensures stored { is_some result ≡ is_stored place }
-{
-    match place {
-        Place::Station(id) => Some(id),
-        Place::Vehicle(_) | Place::Checking | Place::Left => None,
-    }
 }

@@ -6,7 +6,6 @@
 //!   rows that change. Each call is one private function, in a file for its family; `decide_call` has
 //!   them all, and `shared` what several of them need.
 //! - [`moves_of`] lists which loads a decision moves, and where to, in order.
-//! - [`station_of_place`] is the station that a place is.
 //! - [`counted_by`] is the count that a call has raised by one; the counts follow it ([`laws::counts`]).
 //! - [`laws::calls`] says that the rows which change take the maps of the world to those of the world after the call.
 //! - From a lawful world each call leads to a lawful world ([`laws::lawful`], of the halves [`laws::vehicles`] and
@@ -41,5 +40,4 @@ pub use answer::{Answer, Decision, OpenOrder};
 pub use call::Call;
 pub use counts::counted_by;
 pub use decide_call::decide;
-pub use jobs::station_of_place;
 pub use moves::moves_of;

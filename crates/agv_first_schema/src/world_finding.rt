@@ -11,6 +11,7 @@ use crate::rows_reading::read_first_tables;
 use crate::standing::first_tables_stand;
 use crate::world_decoding::world_in_lists;
 use agv_header::Memory;
+use agv_lawful::TestsLawful;
 use agv_row_reading::{HeldThings, OpenFault};
 use agv_world::World;
 use sqlite::{Alter, Connection};

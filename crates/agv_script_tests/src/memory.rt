@@ -6,6 +6,7 @@ use agv_desk::{Answer, Call, Decision, decide, moves_of};
 use agv_header::{Moment, Name, Refusal};
 use agv_http::{Heard, RequestRef, Routes, answer_bytes, call_of, read_request};
 use agv_json::BodyFault;
+use agv_lawful::TestsLawful;
 use agv_stock::Place;
 use agv_test_support::fails_at::FailsAt;
 use agv_test_support::lines::{MOMENT, Said, answer_of, asks, parted, request_of, said_in};

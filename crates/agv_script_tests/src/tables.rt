@@ -1,6 +1,7 @@
 //! The desk's tables: their rows as text, and the world that is read of them.
 
 use crate::cases::check;
+use agv_lawful::TestsLawful;
 use agv_world::World;
 use agv_world_reading::world_reading::read_world;
 use sqlite::types::ValueRef;

@@ -1,5 +1,5 @@
 -- Where loads are, and how much room a station has left (this project's profile).
-use Rattle.std.specs.Prelude.{ℕ, ◌-◌, ◌&&◌, nat_eq, Bool, true, false, List, count_by}
+use Rattle.std.specs.Prelude.{ℕ, ◌-◌, ◌&&◌, nat_eq, Bool, true, false, List, Option, None, Some, count_by}
 use Rattle.std.specs.Cmp.Lexicographic.{pointwise}
 use Rattle.agv_header.specs.KeyOrder.{key_eq}
 use Rattle.agv_header.specs.declared.key.VehicleKey.{VehicleKey}
@@ -36,6 +36,14 @@ has_left (Station id) = false
 has_left (Vehicle key) = false
 has_left Checking = false
 has_left Left = true
+
+-- the station where a load stands
+abbrev pub station_of_place : Option Place → Option (List ℕ)
+station_of_place None = None
+station_of_place (Some (Station id)) = Some id
+station_of_place (Some (Vehicle key)) = None
+station_of_place (Some Checking) = None
+station_of_place (Some Left) = None
 
 -- the job is live and goes to the station of this name
 abbrev pub goes_to : List ℕ → Job → Bool

@@ -1,6 +1,7 @@
 //! How much room a station has left.
-ghost use Rattle.std.specs.Prelude.{◌≡◌, ◌+◌, count_by};
-ghost use Rattle.agv_stock.specs.Rooms.{is_at, is_on, goes_to, room_left, room_of};
+ghost use Rattle.std.specs.Prelude.{◌≡◌, ◌+◌, Some, count_by, is_some};
+ghost use Rattle.agv_stock.specs.Checks.{is_stored};
+ghost use Rattle.agv_stock.specs.Rooms.{is_at, is_on, goes_to, room_left, room_of, station_of_place};
 
 use crate::{Job, Place};
 use agv_header::{Name, VehicleKey};
@@ -25,6 +26,17 @@ impl Place {
             Place::Vehicle(by) => *by == *key,
             Place::Station(_) | Place::Checking | Place::Left => false,
         }
+    }
+}
+
+/// The station that a place is; none where it is no station.
+pub fn station_of_place(place: Place) -> Option<Name>
+    ensures is { result ≡ station_of_place (Some place) }
+    ensures stored { is_some result ≡ is_stored place }
+{
+    match place {
+        Place::Station(id) => Some(id),
+        Place::Vehicle(_) | Place::Checking | Place::Left => None,
     }
 }
 

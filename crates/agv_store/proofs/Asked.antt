@@ -18,11 +18,11 @@ use Rattle.agv_row_reading.specs.declared.open_fault.OpenFault.{OpenFault}
 use Rattle.agv_row_reading.specs.declared.open_fault.OpenFault.TheVariants as fault
 use Rattle.agv_schema.proofs.Later.{later_by}
 use Rattle.agv_desk.specs.DecisionEnds.{failed_by}
+use Rattle.agv_known.specs.Known.{IsKnownIn}
+use Rattle.agv_known.specs.declared.known.Known.{Known}
 use Rattle.agv_store.specs.Flags.{doubted_by, noted}
 use Rattle.agv_store.specs.Floors.{IsAsked, IsConsistent, Keyed, Knows, facts_of, world_at}
-use Rattle.agv_store.specs.Known.{IsKnownIn}
-use Rattle.agv_store.specs.declared.known.Known.{Known}
-use Rattle.agv_store.proofs.KeptLayout.{agrees_with}
+use Rattle.agv_store.proofs.Kept.{agrees_with}
 
 module _ {S : Type 0} (g : Ghosts S) where
   -- ---- moments between which nothing was written

@@ -27,10 +27,10 @@ use Rattle.agv_row_reading.specs.declared.open_fault.OpenFault.{OpenFault}
 use Rattle.agv_row_reading.specs.declared.open_fault.OpenFault.TheVariants as fault
 use Rattle.agv_row_reading.specs.declared.held_things.HeldThings.{HeldThings}
 use Rattle.agv_schema.specs.declared.table_name.TableName.{TableName}
+use Rattle.agv_known.specs.Known.{IsKnownIn}
+use Rattle.agv_known.specs.declared.known.Known.{Known}
 use Rattle.agv_store.specs.Floors.{IsAsked, IsConsistent, Knows, world_at}
 use Rattle.agv_store.specs.Opening.{Finds}
-use Rattle.agv_store.specs.Known.{IsKnownIn}
-use Rattle.agv_store.specs.declared.known.Known.{Known}
 use Rattle.agv_schema.proofs.Later.{fault_later, later_by}
 use Rattle.agv_store.proofs.Asked.{asked_by, asked_then, clean_before, knows_still}
 

@@ -5,12 +5,7 @@ mod Crashes
 mod Deciding
 mod Found
 mod InTurn
-mod KeptVehicles
-mod KeptLayout
-mod KeptMaps
-mod KeptRooms
-mod KeptTrips
-mod Knowing
+mod Kept
 mod Moving
 mod ReportLists
 mod Reporting

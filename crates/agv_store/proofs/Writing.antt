@@ -6,6 +6,7 @@ use Rattle.sqlite.specs.Effect.{Database, IsDatabase}
 use Rattle.sqlite.specs.Held.{Held, state}
 use Rattle.sqlite.specs.State.{Survives}
 use Rattle.agv_world.specs.Changes.{changed}
+use Rattle.agv_world.specs.Counts.{limit_of, one_more}
 use Rattle.agv_world.specs.LawfulParts.{HasLawfulLoads}
 use Rattle.agv_world.specs.Questions.{count_of}
 use Rattle.agv_world.specs.Maps.{Maps, maps_of}
@@ -15,7 +16,7 @@ use Rattle.agv_world.specs.declared.fault.Fault.{Fault}
 use Rattle.agv_world.specs.declared.fault.Fault.TheVariants as machine
 use Rattle.agv_world.specs.declared.floor.Counted.{Counted}
 use Rattle.agv_world.proofs.LawfulInParts.{loads_of}
-use Rattle.agv_desk.specs.Counts.{added, counted_by, limit_of, one_more}
+use Rattle.agv_desk.specs.Counts.{added, counted_by}
 use Rattle.agv_desk.specs.Outcomes.{Outcome, Made, Refused, after, answer_of, decided}
 use Rattle.agv_desk.specs.Step.{step}
 use Rattle.agv_desk.specs.declared.answer.Decision.{Decision}
@@ -29,11 +30,11 @@ use Rattle.agv_schema.specs.SchemaNumbers.{desk_seats}
 use Rattle.agv_schema.specs.Connections.{IsClean, IsOpen}
 use Rattle.agv_schema.proofs.Later.{later_by}
 use Rattle.agv_desk.specs.DecisionEnds.{failed_by}
+use Rattle.agv_known.specs.Known.{Follows, IsKnownIn}
+use Rattle.agv_known.specs.declared.known.Known.{Known}
 use Rattle.agv_store.specs.Flags.{doubted_by}
 use Rattle.agv_store.specs.Floors.{IsConsistent, Keyed, Knows, world_at}
 use Rattle.agv_store.specs.Serving.{Decides, IsServedBy, LeavesCall, outcome_in, world_after}
-use Rattle.agv_store.specs.Known.{Follows, IsKnownIn}
-use Rattle.agv_store.specs.declared.known.Known.{Known}
 
 pub answer_decided : (outcome : Outcome) → (decided outcome).answer ≡ answer_of outcome
 unfolding decided answer_of

@@ -12,8 +12,8 @@ use Rattle.agv_world_reading.specs.WorldIn.{world_in}
 use Rattle.agv_schema.specs.DeskRows.{Placing}
 use Rattle.agv_schema.specs.SchemaNumbers.{desk_seats}
 use Rattle.agv_schema.specs.Connections.{IsClean, IsOpen}
-use Rattle.agv_store.specs.Known.{IsKnownIn}
-use Rattle.agv_store.specs.declared.known.Known.{Known}
+use Rattle.agv_known.specs.Known.{IsKnownIn}
+use Rattle.agv_known.specs.declared.known.Known.{Known}
 
 -- ---- a desk, as its callers see it
 

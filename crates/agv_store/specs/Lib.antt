@@ -1,11 +1,5 @@
-pub mod Counts
 pub mod Flags
 pub mod Floors
-pub mod KeptVehicles
-pub mod KeptLayouts
-pub mod KeptRooms
-pub mod KeptTrips
-pub mod Known
 pub mod Migration
 pub mod Opening
 pub mod Running

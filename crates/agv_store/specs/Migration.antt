@@ -11,9 +11,9 @@ use Rattle.agv_first_schema.specs.FirstRows.{HasFirstWorld, HasNoFirstWorld}
 use Rattle.agv_first_schema.specs.Moved.{CanBeAdded, MovesWorld}
 use Rattle.agv_schema.specs.DeskRows.{Placing}
 use Rattle.agv_schema.specs.Connections.{HasStorageCause, IsClean, IsOpen}
+use Rattle.agv_known.specs.Known.{IsKnownIn}
+use Rattle.agv_known.specs.declared.known.Known.{Known}
 use Rattle.agv_store.specs.Floors.{IsAsked, Keyed, Knows}
-use Rattle.agv_store.specs.Known.{IsKnownIn}
-use Rattle.agv_store.specs.declared.known.Known.{Known}
 use Rattle.agv_row_reading.specs.declared.open_fault.OpenFault.{OpenFault}
 use Rattle.agv_row_reading.specs.declared.open_fault.OpenFault.TheVariants as fault
 

@@ -11,9 +11,9 @@ use Rattle.agv_creation.specs.DeskSchema.{is_name_taken}
 use Rattle.agv_creation.specs.DeskTables.{MakesDesk}
 use Rattle.agv_creation.specs.NewDesk.{AllowsDesk}
 use Rattle.agv_schema.specs.Connections.{HasStorageCause, IsClean, IsOpen}
+use Rattle.agv_known.specs.Known.{IsKnownIn}
+use Rattle.agv_known.specs.declared.known.Known.{Known}
 use Rattle.agv_store.specs.Floors.{IsAsked, Keyed, Knows, world_at}
-use Rattle.agv_store.specs.Known.{IsKnownIn}
-use Rattle.agv_store.specs.declared.known.Known.{Known}
 use Rattle.agv_row_reading.specs.declared.open_fault.OpenFault.{OpenFault}
 use Rattle.agv_row_reading.specs.declared.open_fault.OpenFault.TheVariants as fault
 

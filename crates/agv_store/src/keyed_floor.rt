@@ -7,7 +7,7 @@ ghost use Rattle.agv_store.specs.Flags.{EndsAs};
 ghost use Rattle.agv_store.specs.Floors.{IsConsistent, Knows, facts_of, world_at};
 
 use crate::flags::note;
-use crate::known::Known;
+use agv_known::Known;
 use agv_world::Fault;
 use agv_world_reading::meta_reading::query_meta;
 use sqlite::{Alter, Connection};

@@ -9,10 +9,10 @@ ghost use Rattle.agv_store.specs.Opening.{IsDamaged, IsStorage, left_by};
 
 use crate::desk::Desk;
 use crate::keyed_floor::KeyedFloor;
-use crate::known::Known;
 use crate::opening::of_making;
 use agv_first_schema::table_moving::move_tables;
 use agv_first_schema::world_finding::find_first_world;
+use agv_known::Known;
 use agv_row_reading::OpenFault;
 use agv_world::World;
 use agv_world_reading::world_laws::a_database_tells_its_world;

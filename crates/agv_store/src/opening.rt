@@ -13,16 +13,16 @@ ghost use Rattle.agv_schema.specs.SchemaNumbers.{desk_seats};
 ghost use Rattle.agv_schema.specs.Connections.{HasStorageCause, IsClean, IsOpen};
 ghost use Rattle.agv_store.specs.Opening.{Adopts, CanBeMade, Finds, IsDamaged, IsStorage, Makes, left_by, of_making};
 
-use crate::counts::Counts;
 use crate::desk::Desk;
 use crate::keyed_floor::KeyedFloor;
-use crate::known::Known;
 use agv_creation::MakingFault;
 use agv_creation::desk_tables::{NAMES, is_any_used, make_desk_tables};
 use agv_creation::making_laws::made_desks_stand;
 use agv_creation::standing_tables::tables_stand;
 use agv_creation::tables_beside::allows_desk;
 use agv_header::Memory;
+use agv_known::{Counts, Known};
+use agv_lawful::TestsLawful;
 use agv_row_reading::rowid_reading::query_rowids;
 use agv_row_reading::{HeldThings, OpenFault};
 use agv_schema::DESK_SEATS;

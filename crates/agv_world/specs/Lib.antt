@@ -8,6 +8,7 @@ pub mod Kept
 pub mod ConsistentTrips
 pub mod Told
 pub mod Questions
+pub mod Counts
 pub mod Asks
 pub mod SameRows
 pub mod VehicleChanges
@@ -15,6 +16,3 @@ pub mod TableChanges
 pub mod Lawful
 pub mod LawfulParts
 pub mod StockInvariant
-pub mod Values
-pub mod LawfulTests
-pub mod LoadTests

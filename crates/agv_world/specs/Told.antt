@@ -1,5 +1,5 @@
 -- Which world the tables in memory tell, whatever they have (this project's profile).
-use Rattle.std.specs.Prelude.{ℕ, nat_eq, Bool, List, map, filter, filter_map, find, Option, option_map}
+use Rattle.std.specs.Prelude.{ℕ, nat_eq, Bool, List, map, filter, filter_map, find, Option, None, Some, option_map}
 use Rattle.std.specs.Cmp.Lexicographic.{pointwise}
 use Rattle.std.specs.FinMap as finite
 use Rattle.std.specs.FinSet as set
@@ -68,6 +68,15 @@ names_vehicle key entry = key_eq entry.1.vehicle key
 -- the trip of a vehicle: that of the first row, in the order of orders, that names it
 unfoldable pub open_trip : Tables → VehicleKey → Option Trip
 open_trip tables key = option_map (trip_in tables) (find (names_vehicle key) (finite.entries tables.trips))
+
+-- the order of a row
+abbrev pub order_in : Option (List ℕ × TripRow) → Option (List ℕ)
+order_in None = None
+order_in (Some entry) = Some entry.0
+
+-- the order of the first row that names the vehicle
+abbrev pub first_order : Tables → VehicleKey → Option (List ℕ)
+first_order tables key = order_in (find (names_vehicle key) (finite.entries tables.trips))
 
 -- ---- vehicles
 

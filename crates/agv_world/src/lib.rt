@@ -13,9 +13,8 @@
 //! - A [`Floor`] answers questions to what the desk knows, however it is kept. One clause says of each
 //!   what it answers, what it leaves as it was, and what a fault leaves (`specs/Asks.antt`).
 //!   [`PlainFloor`] answers them from a world in memory, which it borrows (`specs/Told.antt`).
-//! - A world is lawful by `specs/Lawful.antt`; what follows from that is in [`lawful_laws`].
-//! - [`World::is_lawful`] tells whether tables, whatever rows they have, are those of a lawful world. It
-//!   looks rows up (`specs/LawfulTests.antt`, `specs/LoadTests.antt`); [`test_laws`] says what that tells.
+//! - A world is lawful by `specs/Lawful.antt`; what follows from that is in [`lawful_laws`]. Whether tables are those of a
+//!   lawful world is tested by `agv_lawful`.
 //! - A [`Fault`] says why a question to what the desk knows has no answer.
 #![tactic(auto)]
 
@@ -24,14 +23,12 @@ pub mod change_laws;
 mod fault;
 mod floor;
 mod key;
-mod lawful;
 pub mod lawful_laws;
 pub mod laws;
 mod plain_floor;
 mod questions;
 mod row;
 mod tables;
-pub mod test_laws;
 mod world;
 mod world_layout;
 

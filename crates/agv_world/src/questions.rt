@@ -6,7 +6,7 @@ ghost use Rattle.agv_order.specs.Trips.{node_at};
 ghost use Rattle.agv_track.specs.Footprints.{along, from_node, released_edges, rest_things, things_by};
 ghost use Rattle.agv_track.specs.Holds.{is_in};
 ghost use Rattle.agv_world.specs.Questions.{row_of, trip_of, room_at, has_room_at, holder_of, is_used, loads_at, loads_on, job_of, reserved, count_of};
-ghost use Rattle.agv_world.specs.Told.{world_of, edge_named, edges_of, trip_in, open_trip, names_of, is_held_by};
+ghost use Rattle.agv_world.specs.Told.{world_of, edge_named, edges_of, first_order, trip_in, open_trip, names_of, is_held_by};
 
 use crate::{Counted, JobRow, TripRow, UseKey, UseKind, VehicleRow, World};
 use agv_header::{Memory, Name, Thing, VehicleKey};
@@ -24,8 +24,8 @@ impl World {
         self.vehicles.get(key).copied()
     }
 
-    // Where a load is; none where it is unknown.
-    pub(crate) fn place(&self, load: Name) -> Option<Place>
+    /// Where a load is; none where it is unknown.
+    pub fn place(&self, load: Name) -> Option<Place>
         ensures { result ≡ map.get self.now.loads load }
     {
         self.loads.get(load).copied()
@@ -127,8 +127,8 @@ impl World {
             .count()
     }
 
-    // How many names were used in this kind.
-    pub(crate) fn used_count(&self, kind: UseKind) -> usize
+    /// How many names were used in this kind.
+    pub fn used_count(&self, kind: UseKind) -> usize
         ensures { result ≡ set.len (names_of self.now kind) }
     {
         self.used.iter().filter(|key| key.is_of_kind(kind)).count()
@@ -147,8 +147,10 @@ impl World {
         }
     }
 
-    // The trip of a row, with its edges.
-    pub(crate) fn trip_in(&self, alloc: Global, order: Name, row: &TripRow) -> Result<Trip, Memory>
+    /// The trip of a row, with its edges.
+    ///
+    /// `Memory` when out of memory.
+    pub fn trip_in(&self, alloc: Global, order: Name, row: &TripRow) -> Result<Trip, Memory>
         ensures { IfOk result (λ trip. trip ≡ trip_in self.now (order, row.now)) }
     {
         Ok(Trip {
@@ -178,8 +180,10 @@ impl World {
         Ok(Sequence::from(edges))
     }
 
-    // The trip of a vehicle: that of the first row that names it.
-    pub(crate) fn open_trip(&self, alloc: Global, key: VehicleKey) -> Result<Option<Trip>, Memory>
+    /// The trip of a vehicle: that of the first row that names it.
+    ///
+    /// `Memory` when out of memory.
+    pub fn open_trip(&self, alloc: Global, key: VehicleKey) -> Result<Option<Trip>, Memory>
         ensures { IfOk result (λ trip. trip ≡ open_trip self.now key) }
     {
         for (order, row) in self.trips.iter() {
@@ -209,6 +213,18 @@ impl World {
             return false;
         }
         self.first_order(*key).is_some()
+    }
+
+    /// The order of the first row that names the vehicle.
+    pub fn first_order(&self, key: VehicleKey) -> Option<Name>
+        ensures { result ≡ first_order self.now key }
+    {
+        for (order, row) in self.trips.iter() {
+            if row.vehicle == key {
+                return Some(*order);
+            }
+        }
+        None
     }
 
     // The vehicle in whose footprint a node or edge is; none where it is free.

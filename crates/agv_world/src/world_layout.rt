@@ -12,8 +12,10 @@ use agv_layout::{Layout, LayoutFault, LayoutRow};
 use std::alloc::Global;
 
 impl World {
-    // The layout; none before it is set.
-    pub(crate) fn layout(&self, alloc: Global) -> Result<Option<Layout>, Memory>
+    /// The layout; none before it is set.
+    ///
+    /// `Memory` when out of memory.
+    pub fn layout(&self, alloc: Global) -> Result<Option<Layout>, Memory>
         ensures { IfOk result (λ layout. layout ≡ layout_set (world_of self.now)) }
     {
         let mut rows = Vec::new(alloc);

@@ -80,7 +80,7 @@ fn query_stock_tables<S: Alter>(
 
 /// All tables: those of the world in memory, and who holds what. The row of `meta` is that of the second schema.
 ///
-/// Where [`World::is_lawful`](agv_world::World::is_lawful), asked with [`DESK_SEATS`](agv_schema::DESK_SEATS) seats, and
+/// Where `is_lawful` of `agv_lawful`, asked with [`DESK_SEATS`](agv_schema::DESK_SEATS) seats, and
 /// [`HeldThings::are_footprints`] both answer `true`, the database has the rows of a lawful world, in which no capacity is
 /// above the seats (`reading_laws`); where one answers `false`, it has those of none.
 ///

@@ -11,6 +11,7 @@ use Rattle.agv_message.specs.declared.state.StateMessage.{StateMessage}
 use Rattle.agv_order.specs.declared.act.Act.{Act}
 use Rattle.agv_order.specs.declared.trip.Trip.{Trip}
 use Rattle.agv_world.specs.ConsistentTrips.{HasTrip}
+use Rattle.agv_world.specs.Counts.{limit_of, one_more}
 use Rattle.agv_world.specs.LawfulParts.{HasLawfulLoads}
 use Rattle.agv_world.specs.Questions.{count_of, is_used, row_of, trip_of}
 use Rattle.agv_world.specs.Worlds.{Vehicle, World}
@@ -20,7 +21,7 @@ use Rattle.agv_world.specs.declared.key.UseKind.TheVariants as used
 use Rattle.agv_world.specs.declared.row.VehicleRow.{VehicleRow}
 use Rattle.agv_world.proofs.lists.Orders.{names_total}
 use Rattle.agv_desk.specs.Causes.{is_refusal}
-use Rattle.agv_desk.specs.Counts.{added, adds_to, limit_of, one_more}
+use Rattle.agv_desk.specs.Counts.{added, adds_to}
 use Rattle.agv_desk.specs.InstantSteps.{cancel, instruct, pause, resume}
 use Rattle.agv_desk.specs.JobSteps.{add_job, stop_job}
 use Rattle.agv_desk.specs.LayoutSteps.{set_layout}

@@ -15,6 +15,7 @@ use Rattle.agv_order.specs.declared.trip.Trip.{Trip}
 use Rattle.agv_stock.specs.declared.job.Job.{Job}
 use Rattle.agv_stock.specs.declared.job.Phase.{Phase}
 use Rattle.agv_stock.specs.declared.job.Phase.TheVariants as phase
+use Rattle.agv_world.specs.Counts.{one_more}
 use Rattle.agv_world.specs.StockInvariant.{Jobs, Places}
 use Rattle.agv_world.specs.Questions.{count_of}
 use Rattle.agv_world.specs.TableChanges.{written}
@@ -23,7 +24,6 @@ use Rattle.agv_world.specs.declared.floor.Counted.{Counted}
 use Rattle.agv_world.specs.declared.floor.Counted.TheVariants as counted
 use Rattle.agv_world.specs.declared.row.JobRow.{JobRow}
 use Rattle.agv_world.proofs.lists.Orders.{names_total, names_apart}
-use Rattle.agv_desk.specs.Counts.{one_more}
 use Rattle.agv_desk.specs.ActSteps.{Renewed, act_job, act_jobs, act_move, act_moves, as_it_is, becomes_finished, job_in, jobs_stopped, phase_by, taken_to}
 use Rattle.agv_desk.specs.OrderSteps.{jobs_for, riding}
 use Rattle.agv_desk.specs.Outcomes.{Acted, Move, moved}

@@ -12,7 +12,7 @@ use Rattle.agv_layout.specs.Layout.{IsStation}
 use Rattle.agv_layout.specs.declared.station.StationSite.{StationSite}
 use Rattle.agv_stock.specs.Checks as check
 use Rattle.agv_stock.specs.Checks.{Checked, is_known, has_room}
-use Rattle.agv_stock.specs.Rooms.{is_at, room_left}
+use Rattle.agv_stock.specs.Rooms.{is_at, room_left, station_of_place}
 use Rattle.agv_stock.specs.declared.goal.Goal.{Goal}
 use Rattle.agv_stock.specs.declared.place.Place.{Place}
 use Rattle.agv_stock.specs.declared.place.Place.TheVariants as place
@@ -22,7 +22,6 @@ use Rattle.agv_world.specs.Worlds.{World}
 use Rattle.agv_world.specs.declared.row.JobRow.{JobRow}
 use Rattle.agv_world.proofs.lists.Entries.{same_Some}
 use Rattle.agv_world.proofs.lists.Orders.{names_total}
-use Rattle.agv_desk.specs.JobSteps.{station_of_place}
 use Rattle.agv_desk.specs.LoadSteps.{place_of}
 use Rattle.agv_desk.specs.Shared.{goal_at, goal_of, is_in_job}
 use Rattle.agv_desk.proofs.stock.StockInvariantChanges.{IsFree}

@@ -1,11 +1,12 @@
 //! The counts of vehicles, loads, jobs, orders and references, for every world, moment and call. Each function's
 //! clause says it.
 ghost use Rattle.std.specs.Prelude.{◌≡◌, ◌≢◌, ◌+◌, ◌<◌, ℕ};
+ghost use Rattle.agv_world.specs.Counts.{limit_of};
 ghost use Rattle.agv_world.specs.LawfulParts.{HasLawfulLoads};
 ghost use Rattle.agv_world.specs.Questions.{count_of};
 ghost use Rattle.agv_world.specs.Worlds.{World};
 ghost use Rattle.agv_world.specs.declared.floor.Counted.{Counted};
-ghost use Rattle.agv_desk.specs.Counts.{added, limit_of};
+ghost use Rattle.agv_desk.specs.Counts.{added};
 ghost use Rattle.agv_desk.specs.Outcomes.{after, answer_of};
 ghost use Rattle.agv_desk.specs.Step.{step};
 ghost use Rattle.agv_desk.specs.declared.call.Call.{Call};

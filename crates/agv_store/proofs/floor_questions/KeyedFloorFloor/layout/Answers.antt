@@ -4,7 +4,7 @@ use Rattle.agv_world.specs.Questions.{layout_set}
 use Rattle.agv_schema.specs.Connections.{IsClean, IsOpen}
 use Rattle.agv_store.specs.Floors.{world_at}
 use Rattle.agv_store.proofs.Asked.{answered_open}
-use Rattle.agv_store.proofs.KeptLayout.{if_some}
+use Rattle.agv_store.proofs.Kept.{if_some}
 use Rattle.agv_store.proofs.floor_questions.KeyedFloorFloor.layout.Goals as goal
 
 pub returns-in-Some : goal.returns-in-Some

@@ -1,9 +1,9 @@
 use Rattle.std.proofs.Common.{sym, ◌∙◌}
 use Rattle.agv_world.specs.Questions.{trip_of}
 use Rattle.agv_world.specs.Maps.{maps_of}
+use Rattle.agv_known.proofs.KeptTrips.{no_trip}
 use Rattle.agv_store.specs.Floors.{world_at}
 use Rattle.agv_store.proofs.Asked.{known_seen}
-use Rattle.agv_store.proofs.KeptTrips.{no_trip}
 use Rattle.agv_store.proofs.keyed_floor.KeyedFloor.has_no_trip.Goals as goal
 
 pub returns : goal.returns

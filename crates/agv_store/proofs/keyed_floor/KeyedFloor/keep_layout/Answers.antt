@@ -1,10 +1,10 @@
 use Rattle.std.proofs.Common.{◌≡◌, subst, sym, ◌∙◌}
 use Rattle.agv_world.specs.Questions.{layout_set}
 use Rattle.agv_schema.specs.Connections.{IsClean, IsOpen}
+use Rattle.agv_known.proofs.KeptLayout.{agrees_set}
+use Rattle.agv_known.proofs.Knowing.{with_layout}
 use Rattle.agv_store.specs.Floors.{Keyed, world_at}
 use Rattle.agv_store.proofs.Asked.{known_so}
-use Rattle.agv_store.proofs.KeptLayout.{agrees_set}
-use Rattle.agv_store.proofs.Knowing.{with_layout}
 use Rattle.agv_store.proofs.keyed_floor.KeyedFloor.keep_layout.Goals as goal
 
 pub invariant_of-self : goal.invariant_of-self

@@ -2,10 +2,10 @@ use Rattle.std.proofs.Common.{◌≡◌, None, subst, sym}
 use Rattle.agv_world.specs.Questions.{trip_of}
 use Rattle.agv_world.specs.Maps.{maps_of}
 use Rattle.agv_schema.specs.Connections.{IsClean, IsOpen}
+use Rattle.agv_known.proofs.KeptTrips.{no_row}
+use Rattle.agv_known.proofs.Knowing.{with_trips}
 use Rattle.agv_store.specs.Floors.{Keyed, world_at}
 use Rattle.agv_store.proofs.Asked.{known_so}
-use Rattle.agv_store.proofs.KeptTrips.{no_row}
-use Rattle.agv_store.proofs.Knowing.{with_trips}
 use Rattle.agv_store.proofs.keyed_floor.KeyedFloor.keep_no_trip.Goals as goal
 
 pub invariant_of-self : goal.invariant_of-self

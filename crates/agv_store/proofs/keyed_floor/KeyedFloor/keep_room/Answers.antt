@@ -4,12 +4,12 @@ use Rattle.agv_world.specs.Questions.{room_at}
 use Rattle.agv_world.specs.Maps.{maps_of}
 use Rattle.agv_world.proofs.lists.Orders.{names_apart}
 use Rattle.agv_schema.specs.Connections.{IsClean, IsOpen}
+use Rattle.agv_known.specs.KeptRooms.{IsRoomLeft}
+use Rattle.agv_known.proofs.KeptMaps.{one_more_entry, same_entries}
+use Rattle.agv_known.proofs.KeptRooms.{counted_left}
+use Rattle.agv_known.proofs.Knowing.{with_rooms}
 use Rattle.agv_store.specs.Floors.{Keyed, world_at}
-use Rattle.agv_store.specs.KeptRooms.{IsRoomLeft}
 use Rattle.agv_store.proofs.Asked.{known_so}
-use Rattle.agv_store.proofs.KeptMaps.{one_more_entry, same_entries}
-use Rattle.agv_store.proofs.KeptRooms.{counted_left}
-use Rattle.agv_store.proofs.Knowing.{with_rooms}
 use Rattle.agv_store.proofs.keyed_floor.KeyedFloor.keep_room.Goals as goal
 
 pub invariant_of-self : goal.invariant_of-self

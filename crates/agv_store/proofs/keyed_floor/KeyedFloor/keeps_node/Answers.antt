@@ -1,6 +1,6 @@
 use Rattle.agv_store.specs.Floors.{world_at}
 use Rattle.agv_store.proofs.Asked.{known_seen}
-use Rattle.agv_store.proofs.KeptLayout.{agrees_with}
+use Rattle.agv_store.proofs.Kept.{agrees_with}
 use Rattle.agv_store.proofs.keyed_floor.KeyedFloor.keeps_node.Goals as goal
 
 pub returns : goal.returns

@@ -1,7 +1,7 @@
 use Rattle.agv_world.specs.Maps.{maps_of}
+use Rattle.agv_known.proofs.KeptRooms.{one_fits}
 use Rattle.agv_store.specs.Floors.{world_at}
 use Rattle.agv_store.proofs.Asked.{known_seen}
-use Rattle.agv_store.proofs.KeptRooms.{one_fits}
 use Rattle.agv_store.proofs.keyed_floor.KeyedFloor.keeps_room.Goals as goal
 
 pub returns : goal.returns

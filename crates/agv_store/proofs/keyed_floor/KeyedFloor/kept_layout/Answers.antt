@@ -1,7 +1,7 @@
 use Rattle.std.proofs.Common.{Some, ap, ◌∙◌}
+use Rattle.agv_known.proofs.KeptLayout.{agreed_layout, is_set}
 use Rattle.agv_store.specs.Floors.{world_at}
 use Rattle.agv_store.proofs.Asked.{known_seen}
-use Rattle.agv_store.proofs.KeptLayout.{agreed_layout, is_set}
 use Rattle.agv_store.proofs.keyed_floor.KeyedFloor.kept_layout.Goals as goal
 
 pub returns-in_ok-copy-in-Some : goal.returns-in_ok-copy-in-Some

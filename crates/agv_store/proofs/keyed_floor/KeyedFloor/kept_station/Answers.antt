@@ -1,7 +1,7 @@
 use Rattle.std.proofs.lemmas.Option.{IfSome_then}
 use Rattle.agv_store.specs.Floors.{world_at}
 use Rattle.agv_store.proofs.Asked.{known_seen}
-use Rattle.agv_store.proofs.KeptLayout.{agrees_with}
+use Rattle.agv_store.proofs.Kept.{agrees_with}
 use Rattle.agv_store.proofs.keyed_floor.KeyedFloor.kept_station.Goals as goal
 
 pub returns : goal.returns

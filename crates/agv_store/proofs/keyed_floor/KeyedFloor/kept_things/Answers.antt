@@ -2,9 +2,9 @@ use Rattle.std.proofs.Common.{ap, ◌∙◌}
 use Rattle.std.specs.FinMap as finite
 use Rattle.std.specs.FinSet as set
 use Rattle.agv_layout.specs.Layout.{Layout}
+use Rattle.agv_known.proofs.KeptLayout.{agreed_layout}
 use Rattle.agv_store.specs.Floors.{world_at}
 use Rattle.agv_store.proofs.Asked.{known_seen}
-use Rattle.agv_store.proofs.KeptLayout.{agreed_layout}
 use Rattle.agv_store.proofs.ReportLists.{counted, few_things}
 use Rattle.agv_store.proofs.keyed_floor.KeyedFloor.kept_things.Goals as goal
 

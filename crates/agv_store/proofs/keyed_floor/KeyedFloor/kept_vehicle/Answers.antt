@@ -1,7 +1,7 @@
 use Rattle.std.proofs.Common.{sym, ◌∙◌}
 use Rattle.agv_store.specs.Floors.{world_at}
 use Rattle.agv_store.proofs.Asked.{known_seen}
-use Rattle.agv_store.proofs.KeptVehicles.{if_there}
+use Rattle.agv_store.proofs.Kept.{if_there}
 use Rattle.agv_store.proofs.keyed_floor.KeyedFloor.kept_vehicle.Goals as goal
 
 pub returns : goal.returns

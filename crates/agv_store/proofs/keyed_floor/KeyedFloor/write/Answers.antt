@@ -1,5 +1,5 @@
 use Rattle.std.proofs.Common.{subst, sym, ◌∙◌}
-use Rattle.agv_store.specs.Known.{Follows}
+use Rattle.agv_known.specs.Known.{Follows}
 use Rattle.agv_store.proofs.Writing.{crash_written, consistent_refused, consistent_written, serves_written}
 use Rattle.agv_store.proofs.keyed_floor.KeyedFloor.write.Goals as goal
 

@@ -1,7 +1,6 @@
 use Rattle.std.proofs.Common.{◌∙◌, sym, ap, cond, Some}
 use Rattle.std.specs.List.{find}
-use Rattle.agv_world.specs.LawfulTests.{order_in}
-use Rattle.agv_world.specs.Told.{names_vehicle}
+use Rattle.agv_world.specs.Told.{names_vehicle, order_in}
 use Rattle.agv_world.proofs.world.World.first_order.Goals as goal
 
 pub returns-then-eq : goal.returns-then-eq

@@ -1,8 +1,7 @@
 use Rattle.std.proofs.Common.{rules, ◌≡◌, ◌∙◌, ℕ, List, Option, None, Some, cond, is_some, option_map, true, refl, sym, ap}
 use Rattle.std.specs.FinMap.{entries}
 use Rattle.std.specs.List.{find}
-use Rattle.agv_world.specs.LawfulTests.{order_in}
-use Rattle.agv_world.specs.Told.{names_vehicle, open_trip, trip_in}
+use Rattle.agv_world.specs.Told.{names_vehicle, open_trip, order_in, trip_in}
 use Rattle.agv_world.specs.declared.row.TripRow.{TripRow}
 use Rattle.agv_world.proofs.told_worlds.Telling.{trip_of-told}
 use Rattle.agv_world.proofs.world.World.has_trip.Goals as goal

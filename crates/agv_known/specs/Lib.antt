@@ -1,0 +1,6 @@
+pub mod Counts
+pub mod KeptLayouts
+pub mod KeptRooms
+pub mod KeptTrips
+pub mod KeptVehicles
+pub mod Known

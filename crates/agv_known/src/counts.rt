@@ -1,0 +1,95 @@
+//! How many there are of each kind that is counted.
+ghost use Rattle.std.specs.Prelude.{◌≡◌, ◌≢◌, ◌+◌, ◌<◌, IfOk};
+ghost use Rattle.agv_world.specs.Counts.{limit_of, one_more};
+ghost use Rattle.agv_world.specs.Questions.{count_of};
+ghost use Rattle.agv_world.specs.Told.{world_of};
+ghost use Rattle.agv_world.specs.Worlds.{empty_world};
+ghost use Rattle.agv_world.specs.declared.floor.Counted.{Counted};
+ghost use Rattle.agv_known.specs.Counts.{count_in};
+
+use agv_header::Memory;
+use agv_world::{Counted, Floor, PlainFloor, World};
+use std::alloc::Global;
+
+/// How many vehicles, loads, jobs, orders and references there are. They are counted once, when a desk is opened, and
+/// follow the calls from then on, so that no call has to count rows.
+#[derive(Clone, Copy, Debug)]
+pub struct Counts {
+    /// Vehicles that are registered.
+    pub vehicles: usize,
+    /// Loads that are registered.
+    pub loads: usize,
+    /// Jobs that were added.
+    pub jobs: usize,
+    /// Names of orders that were used.
+    pub orders: usize,
+    /// References that were used.
+    pub references: usize,
+}
+
+impl Counts {
+    /// None of any kind: what a new desk has.
+    pub fn none() -> Counts
+        ensures { (what : Counted) → count_in result what ≡ count_of empty_world what }
+    {
+        Counts {
+            vehicles: 0,
+            loads: 0,
+            jobs: 0,
+            orders: 0,
+            references: 0,
+        }
+    }
+
+    // How many there are in the world that these tables tell.
+    pub(crate) fn of(alloc: Global, tables: &World) -> Result<Counts, Memory>
+        ensures { IfOk result (λ counts. (what : Counted) → count_in counts what ≡ count_of (world_of tables.now) what) }
+    {
+        Ok(Counts {
+            vehicles: count(alloc, tables, Counted::Vehicles)?,
+            loads: count(alloc, tables, Counted::Loads)?,
+            jobs: count(alloc, tables, Counted::Jobs)?,
+            orders: count(alloc, tables, Counted::Orders)?,
+            references: count(alloc, tables, Counted::References)?,
+        })
+    }
+
+    /// How many there are of this kind.
+    pub fn get(&self, what: Counted) -> usize
+        ensures { result ≡ count_in self.now what }
+    {
+        match what {
+            Counted::Vehicles => self.vehicles,
+            Counted::Loads => self.loads,
+            Counted::Jobs => self.jobs,
+            Counted::Orders => self.orders,
+            Counted::References => self.references,
+        }
+    }
+
+    // One more of this kind, if any: below its limit.
+    pub(crate) fn follow(&mut self, more: Option<Counted>)
+        ensures { (what : Counted) → (one_more more what ≢ 0 → count_in self.old what < limit_of what) → count_in self.new what ≡ count_in self.old what + one_more more what }
+    {
+        match more {
+            None => {}
+            Some(Counted::Vehicles) => self.vehicles = self.vehicles.saturating_add(1),
+            Some(Counted::Loads) => self.loads = self.loads.saturating_add(1),
+            Some(Counted::Jobs) => self.jobs = self.jobs.saturating_add(1),
+            Some(Counted::Orders) => self.orders = self.orders.saturating_add(1),
+            Some(Counted::References) => self.references = self.references.saturating_add(1),
+        }
+    }
+}
+
+// How many there are of a kind in the world that these tables tell.
+fn count(alloc: Global, tables: &World, what: Counted) -> Result<usize, Memory>
+    ensures { IfOk result (λ count. count ≡ count_of (world_of tables.now) what) }
+{
+    // No count depends on the seats.
+    let mut floor = PlainFloor::new(alloc, tables, 1);
+    let Ok(count) = floor.count(what) else {
+        return Err(Memory);
+    };
+    Ok(count)
+}

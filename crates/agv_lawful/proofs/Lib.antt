@@ -1,0 +1,2 @@
+mod load_tests
+mod vehicle_tests
