@@ -8,7 +8,7 @@ use Rattle.agv_order.specs.Plans.{planned}
 use Rattle.agv_order.specs.StopPlaces.{stop_picks}
 use Rattle.agv_order.specs.declared.trip.Trip.{Trip}
 use Rattle.agv_stock.specs.declared.job.Job.{Job}
-use Rattle.agv_track.specs.Footprints.{footprint_of}
+use Rattle.agv_holds.specs.Footprints.{footprint_of}
 use Rattle.agv_world.specs.Questions.{trip_of, loads_on, layout_set, count_of}
 use Rattle.agv_world.specs.Worlds.{World}
 use Rattle.agv_world.specs.declared.floor.Counted.TheVariants as counted

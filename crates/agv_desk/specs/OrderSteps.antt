@@ -21,7 +21,7 @@ use Rattle.agv_order.specs.declared.stop.Stop.{Stop}
 use Rattle.agv_order.specs.declared.trip.Trip.{Trip}
 use Rattle.agv_stock.specs.declared.job.Job.{Job}
 use Rattle.agv_stock.specs.declared.job.Phase.TheVariants as phase
-use Rattle.agv_track.specs.Footprints.{footprint_of}
+use Rattle.agv_holds.specs.Footprints.{footprint_of}
 use Rattle.agv_track.specs.Reports.{is_cancel}
 use Rattle.agv_world.specs.Questions.{row_of, trip_of, is_used, loads_on, layout_set, count_of}
 use Rattle.agv_world.specs.Worlds.{Vehicle, World}

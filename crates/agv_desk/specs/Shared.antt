@@ -5,7 +5,7 @@ use Rattle.agv_header.specs.declared.key.VehicleKey.{VehicleKey}
 use Rattle.agv_stock.specs.declared.goal.Goal.{Goal}
 use Rattle.agv_stock.specs.declared.goal.Goal.TheVariants as goal
 use Rattle.agv_stock.specs.declared.place.Place.{Place}
-use Rattle.agv_track.specs.Holds.{first_held}
+use Rattle.agv_holds.specs.Holds.{first_held}
 use Rattle.agv_world.specs.Questions.{room_at, job_of, is_used}
 use Rattle.agv_world.specs.Maps.{maps_of}
 use Rattle.agv_world.specs.Worlds.{World}

@@ -1,9 +1,9 @@
 //! What a call is answered, and the rows that it changes.
 ghost use Rattle.std.specs.Prelude.{◌≡◌};
 ghost use Rattle.agv_world.specs.Changes.{changed};
-ghost use Rattle.agv_world.specs.Asks.{Asks};
+ghost use Rattle.agv_world.specs.Asks.{Asks, failed_by};
 ghost use Rattle.agv_world.specs.Maps.{maps_of};
-ghost use Rattle.agv_desk.specs.DecisionEnds.{LeavesWorld, failed_by};
+ghost use Rattle.agv_desk.specs.DecisionEnds.{LeavesWorld};
 ghost use Rattle.agv_desk.specs.InOrder.{IsInOrder};
 ghost use Rattle.agv_desk.specs.Outcomes.{after, decided};
 ghost use Rattle.agv_desk.specs.Sizes.{IsWithinTripLimits};
@@ -37,7 +37,7 @@ use std::alloc::Global;
 ///
 /// `Memory` where an allocation was refused, `Storage` where the floor has failed: then it says so as the call ends
 /// (`failed`), and over a world in memory it never does
-/// ([`laws::calls::never_fails_in_memory`](crate::laws::calls::never_fails_in_memory)).
+/// (`laws::never_fails_in_memory` of `agv_plain_floor`).
 pub fn decide<F: Floor>(
     alloc: Global,
     floor: &mut F,

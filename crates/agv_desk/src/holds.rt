@@ -2,8 +2,8 @@
 ghost use Rattle.std.specs.Prelude.{◌≡◌, OnOk, ◌++◌, map};
 ghost use Rattle.std.specs.FinMap as finite;
 ghost use Rattle.agv_header.specs.declared.key.Thing.{Thing as Held};
-ghost use Rattle.agv_track.specs.Holders.{gained};
-ghost use Rattle.agv_track.specs.Holds.{first_held, is_in, other_holder};
+ghost use Rattle.agv_holds.specs.Holders.{gained};
+ghost use Rattle.agv_holds.specs.Holds.{first_held, is_in, other_holder};
 ghost use Rattle.agv_world.specs.Asks.{Asks};
 ghost use Rattle.agv_world.specs.Maps.{maps_of};
 ghost use Rattle.agv_world.specs.VehicleChanges.{hold_changes};

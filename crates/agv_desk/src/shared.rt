@@ -8,10 +8,10 @@ ghost use Rattle.agv_desk.specs.OrderSteps.{is_cancelling};
 ghost use Rattle.agv_desk.specs.Shared.{goal_at, goal_of, is_in_job, is_new, reference_key};
 
 use agv_header::{Moment, Name, VehicleKey};
+use agv_holds::Standing;
 use agv_message::InstantKind;
 use agv_order::Trip;
 use agv_stock::Goal;
-use agv_track::Standing;
 use agv_world::{Change, Fault, Floor, Sent, UseKey, UseKind, VehicleRow};
 
 /// A vehicle that is to get an order message, and the moment of the call that sends it.

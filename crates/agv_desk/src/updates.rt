@@ -14,8 +14,8 @@ use crate::sizes::is_of_size;
 use crate::vehicle_rows::push_vehicle;
 use crate::{Answer, Decision};
 use agv_header::{Memory, Moment, Name, Refusal, VehicleKey, next_number};
+use agv_holds::{Standing, footprint};
 use agv_order::Trip;
-use agv_track::{Standing, footprint};
 use agv_world::{Fault, Floor};
 use std::alloc::Global;
 

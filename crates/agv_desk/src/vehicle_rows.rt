@@ -1,6 +1,6 @@
 //! The changes that give a vehicle, its order and its rest their rows.
 ghost use Rattle.std.specs.Prelude.{◌≡◌, ◌≤◌, ◌++◌, Some, length, IfOk, OnOk};
-ghost use Rattle.agv_track.specs.Footprints.{footprint_of};
+ghost use Rattle.agv_holds.specs.Footprints.{footprint_of};
 ghost use Rattle.agv_world.specs.Maps.{trip_row};
 ghost use Rattle.agv_world.specs.SameRows.{same_row, same_trip_row};
 ghost use Rattle.agv_world.specs.VehicleChanges.{hold_changes, leg_removals, leg_writes, own_changes, trip_changes};
@@ -8,9 +8,9 @@ ghost use Rattle.agv_desk.specs.Sizes.{IsShort};
 
 use crate::holds::push_holds;
 use agv_header::{Memory, Name, VehicleKey};
+use agv_holds::{Standing, footprint};
 use agv_layout::Edge;
 use agv_order::Trip;
-use agv_track::{Standing, footprint};
 use agv_world::{Change, LegKey, TripRow, VehicleRow};
 use std::alloc::Global;
 

@@ -54,7 +54,7 @@ fn may_carry(capacity: u32, seats: u32) -> bool
 }
 
 // A vehicle is registered that is new: its row, and that it holds its node.
-#[tactic(auto, unfolding(agv_track::specs::Footprints::footprint_of, crate::specs::Outcomes::decided))]
+#[tactic(auto, unfolding(agv_holds::specs::Footprints::footprint_of, crate::specs::Outcomes::decided))]
 fn vehicle_registered(
     alloc: Global,
     key: &VehicleKey,

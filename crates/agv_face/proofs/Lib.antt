@@ -3,6 +3,5 @@ pub mod StaysKnown
 pub mod Serving
 pub mod HasServed
 pub mod Streams
-pub mod Writing
 pub mod Exits
 pub mod Counting

@@ -22,11 +22,11 @@ use Rattle.agv_http.specs.routing.Table.{route_at}
 use Rattle.agv_http.specs.declared.request.heard.RequestRef.{RequestRef}
 use Rattle.agv_http.specs.declared.routing.route.Route.{Route}
 use Rattle.agv_reports.specs.Reports.{names_report, report_of}
-use Rattle.agv_store.specs.Floors.{Keyed, Knows, world_at}
+use Rattle.agv_keyed_floor.specs.Floors.{Keyed, Knows, world_at}
 use Rattle.agv_store.specs.Serving.{LeavesCall, world_after}
-use Rattle.agv_row_reading.specs.WorldAnswers.{HasWorld}
+use Rattle.agv_row_queries.specs.WorldAnswers.{HasWorld}
 use Rattle.agv_schema.proofs.Later.{later_refl, later_trans}
-use Rattle.agv_world_reading.specs.WorldIn.{world_in}
+use Rattle.agv_table_reading.specs.WorldIn.{world_in}
 use Rattle.agv_schema.specs.DeskRows.{Placing}
 use Rattle.agv_schema.specs.SchemaNumbers.{desk_seats}
 use Rattle.agv_world.specs.Worlds.{World}

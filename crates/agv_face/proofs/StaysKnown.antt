@@ -18,7 +18,7 @@ use Rattle.agv_http.specs.declared.request.heard.Heard.TheVariants as heard
 use Rattle.agv_http.specs.declared.request.heard.RequestRef.{RequestRef}
 use Rattle.agv_schema.specs.Connections.{IsClean}
 use Rattle.agv_schema.specs.SchemaNumbers.{desk_seats}
-use Rattle.agv_store.specs.Floors.{Keyed, Knows, world_at}
+use Rattle.agv_keyed_floor.specs.Floors.{Keyed, Knows, world_at}
 use Rattle.agv_store.specs.Running.{HasDatabase}
 use Rattle.agv_store.specs.Serving.{FoundIn, LeavesCall}
 use Rattle.agv_world.specs.Worlds.{World}

@@ -5,7 +5,7 @@ use Rattle.agv_http.specs.request.Heard.{HasRequest, IsHeard}
 use Rattle.agv_http.specs.Output.{refusal_text}
 use Rattle.agv_http.specs.declared.request.heard.Heard.TheVariants as heard
 use Rattle.agv_http.specs.declared.request.heard.RequestRef.{RequestRef}
-use Rattle.agv_store.specs.Floors.{Keyed, world_at}
+use Rattle.agv_keyed_floor.specs.Floors.{Keyed, world_at}
 use Rattle.agv_schema.specs.Connections.{IsClean}
 use Rattle.agv_world.specs.declared.fault.Fault.{Fault}
 use Rattle.agv_world.specs.declared.fault.Fault.TheVariants as machine

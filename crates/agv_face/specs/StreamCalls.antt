@@ -12,12 +12,12 @@ use Rattle.agv_http.specs.StreamEnds.{HasMachineFault, HasRequestNext, IsOfMachi
 use Rattle.agv_header.specs.declared.refusal.Refusal.{Refusal}
 use Rattle.agv_schema.specs.Connections.{IsClean}
 use Rattle.agv_schema.specs.SchemaNumbers.{desk_seats}
-use Rattle.agv_store.specs.Floors.{Keyed, Knows, world_at}
+use Rattle.agv_keyed_floor.specs.Floors.{Keyed, Knows, world_at}
 use Rattle.agv_store.specs.Running.{HasDatabase}
 use Rattle.agv_store.specs.Serving.{FoundIn}
 use Rattle.agv_world.specs.Worlds.{World}
-use Rattle.agv_face.specs.declared.stream_end.Ended.{Ended}
-use Rattle.agv_face.specs.declared.stream_end.Ended.TheVariants as ended
+use Rattle.agv_stream_io.specs.declared.stream_end.Ended.{Ended}
+use Rattle.agv_stream_io.specs.declared.stream_end.Ended.TheVariants as ended
 
 -- the desk before and after
 module _ {S : Type 0} (g : Ghosts S) (at : ℕ) (desk desk_then : Keyed S) where

@@ -6,7 +6,7 @@ ghost use Rattle.agv_http.specs.Output.{calls_of, world_after};
 ghost use Rattle.agv_http.specs.request.Requests.{Request};
 ghost use Rattle.agv_schema.specs.Connections.{IsClean, IsOpen, MoreFaults};
 ghost use Rattle.agv_schema.specs.SchemaNumbers.{desk_seats};
-ghost use Rattle.agv_store.specs.Floors.{Keyed, world_at};
+ghost use Rattle.agv_keyed_floor.specs.Floors.{Keyed, world_at};
 ghost use Rattle.agv_world.specs.Lawful.{IsLawful};
 ghost use Rattle.agv_world.specs.Worlds.{World};
 ghost use Rattle.agv_face.specs.Replies.{IsLaterDesk};

@@ -1,11 +1,11 @@
 //! The next request of a buffer is answered.
 ghost use Rattle.std.specs.Prelude.{◌≡◌, ◌≤◌, [], IfErr, IfOk, OnErr, OnOk, vec_capacity};
-ghost use Rattle.agv_desk.specs.DecisionEnds.{failed_by};
+ghost use Rattle.agv_world.specs.Asks.{failed_by};
 ghost use Rattle.agv_http.specs.Output.{refusal_text};
 ghost use Rattle.agv_http.specs.answers.Sizes.{most_answer};
 ghost use Rattle.sqlite.specs.Held.{state};
 ghost use Rattle.sqlite.specs.State.{Survives};
-ghost use Rattle.agv_store.specs.Floors.{world_at};
+ghost use Rattle.agv_keyed_floor.specs.Floors.{world_at};
 ghost use Rattle.agv_schema.specs.Connections.{IsClean, IsOpen};
 ghost use Rattle.agv_face.specs.Nexts.{IsNext, IsNextFault, LeavesNext};
 ghost use Rattle.agv_face.specs.Replies.{IsLaterDesk};

@@ -1,11 +1,11 @@
 //! The answer to one request.
 ghost use Rattle.std.specs.Prelude.{◌≡◌, ◌≤◌, [], true, Err, Ok, IfErr, IfOk, IsErr, OnErr, OnOk, length, vec_capacity};
-ghost use Rattle.agv_desk.specs.DecisionEnds.{failed_by};
+ghost use Rattle.agv_world.specs.Asks.{failed_by};
 ghost use Rattle.agv_http.specs.request.Requests.{most_body};
 ghost use Rattle.agv_http.specs.answers.Sizes.{most_answer};
 ghost use Rattle.sqlite.specs.Held.{state};
 ghost use Rattle.sqlite.specs.State.{Survives};
-ghost use Rattle.agv_store.specs.Floors.{world_at};
+ghost use Rattle.agv_keyed_floor.specs.Floors.{world_at};
 ghost use Rattle.agv_store.specs.Serving.{LeavesCall};
 ghost use Rattle.agv_schema.specs.Connections.{IsClean, IsOpen};
 ghost use Rattle.agv_world.specs.declared.fault.Fault.TheVariants as fault;
@@ -20,8 +20,8 @@ use agv_http::{RequestRef, Routes, put_answer};
 use agv_json::BodyFault;
 use agv_reports::laws::gives_only_what_is_named;
 use agv_store::Desk;
+use agv_table_reading::world_laws::a_database_tells_its_world;
 use agv_world::Fault;
-use agv_world_reading::world_laws::a_database_tells_its_world;
 use sqlite::Alter;
 use std::alloc::Global;
 

@@ -12,15 +12,15 @@ use Rattle.sqlite.specs.Held.{Held, state}
 use Rattle.sqlite.specs.State.{HasCleanDisk, IsRolledBack, IsUnchanged, Survives}
 use Rattle.sqlite.proofs.StateLemmas.{survives_then}
 use Rattle.agv_first_schema.specs.FirstFound.{ReadsLists, StaysBy, all_lists, one_list}
-use Rattle.agv_row_reading.specs.OpenFault.{open_fault_of}
+use Rattle.agv_row_queries.specs.OpenFault.{open_fault_of}
 use Rattle.agv_row_reading.specs.Rowids.{AreTablesKeyed, TellsKeyedAlone}
 use Rattle.agv_schema.specs.DeskRows.{AnswersAlone, Placing, StandApart, TableHas, shown_in}
 use Rattle.agv_schema.specs.Connections.{HasStorageCause}
 use Rattle.agv_schema.specs.Errors.{IsOfStore, is_of_store}
-use Rattle.agv_row_reading.specs.declared.open_fault.OpenFault.{OpenFault}
-use Rattle.agv_row_reading.specs.declared.open_fault.OpenFault.TheVariants as fault
+use Rattle.agv_row_queries.specs.declared.open_fault.OpenFault.{OpenFault}
+use Rattle.agv_row_queries.specs.declared.open_fault.OpenFault.TheVariants as fault
 use Rattle.agv_schema.specs.declared.table_name.TableName.{TableName}
-use Rattle.agv_row_reading.proofs.Asking.{sound_of, storage_of}
+use Rattle.agv_row_queries.proofs.Asking.{sound_of, storage_of}
 use Rattle.agv_schema.proofs.Later.{fault_later, later_by}
 use Rattle.agv_schema.proofs.StatesThen.{failed_then, unchanged_then}
 

@@ -29,7 +29,7 @@ use Rattle.agv_rows.specs.Rows.{AreAlike, row_lists, rows_for, rows_in, rows_of,
 use Rattle.agv_schema.specs.SchemaNumbers.{schema_number}
 use Rattle.agv_rows.proofs.TripRowLaws.{ActsListed, JourneysListed}
 use Rattle.agv_statements.proofs.sql.EntryEdits.{map_of_map}
-use Rattle.agv_row_reading.proofs.TableReading.{no_entries}
+use Rattle.agv_row_queries.proofs.TableReading.{no_entries}
 
 -- ---- rows in front of others, one after the other
 

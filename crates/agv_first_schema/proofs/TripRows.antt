@@ -23,7 +23,7 @@ use Rattle.agv_world.specs.declared.row.JobRow.{JobRow}
 use Rattle.agv_world.specs.declared.row.TripRow.{TripRow}
 use Rattle.agv_rows.specs.ValueEncodings.{if_some}
 use Rattle.agv_rows.specs.TypedRows.{IsNumber}
-use Rattle.agv_row_reading.specs.ReadTables.{read_rows}
+use Rattle.agv_row_queries.specs.ReadTables.{read_rows}
 use Rattle.agv_rows.specs.Rows.{row_if}
 use Rattle.agv_first_schema.specs.FirstColumns.{trip_columns, trip_in, trip_with}
 use Rattle.agv_first_schema.specs.FirstRows.{trip_rows}
@@ -31,7 +31,7 @@ use Rattle.agv_first_schema.specs.TripLines.{line_of, trip_told}
 use Rattle.agv_first_schema.specs.declared.trip_line.TripLine.{TripLine}
 use Rattle.agv_first_schema.proofs.CarriedSingly.{CarriesOneEach, IsTripOfJob}
 use Rattle.agv_first_schema.proofs.TripLineLemmas.{line_kept, trip_told_back}
-use Rattle.agv_row_reading.proofs.TableReading.{reads_all}
+use Rattle.agv_row_queries.proofs.TableReading.{reads_all}
 use Rattle.agv_rows.proofs.CellLemmas.{if_some_parts, name_kept, name_written, number_kept, number_written, status_kept, status_written}
 use Rattle.agv_rows.proofs.ColumnsKept.{key_kept, maybe_number_kept}
 use Rattle.agv_rows.proofs.ColumnsWritten.{all_columns, in_columns, key_written, maybe_number_written, next, some_same}

@@ -11,7 +11,7 @@ use Rattle.sqlite_value.specs.Order.{Row}
 use Rattle.agv_header.specs.KeyOrder.{key_cmp-IsAntisymmetric, key_cmp-total}
 use Rattle.agv_header.specs.Name.{name_cmp}
 use Rattle.agv_header.specs.ThingOrder.{thing_cmp-IsAntisymmetric, thing_cmp-total}
-use Rattle.agv_track.specs.Holds.{Holds as Holders}
+use Rattle.agv_holds.specs.Holds.{Holds as Holders}
 use Rattle.agv_world.specs.ConsistentTrips.{HasConsistentTrips}
 use Rattle.agv_world.specs.Kept.{Keeps}
 use Rattle.agv_world.specs.KeyOrders.{leg_cmp-IsAntisymmetric, leg_cmp-total, use_cmp-IsAntisymmetric, use_cmp-total}
@@ -24,7 +24,7 @@ use Rattle.agv_rows.specs.Columns.{edge_columns, edge_in, hold_columns, hold_in,
 use Rattle.agv_rows.specs.DecodedTrips.{tables_of}
 use Rattle.agv_schema.specs.DeskRows.{place_of, table_at}
 use Rattle.agv_rows.specs.Rows.{AreAlike, row_if, rows_for, rows_in}
-use Rattle.agv_row_reading.specs.ReadTables.{read_rows}
+use Rattle.agv_row_queries.specs.ReadTables.{read_rows}
 use Rattle.agv_schema.specs.SchemaNumbers.{desk_seats}
 use Rattle.agv_schema.specs.declared.table_name.TableName.{TableName}
 use Rattle.agv_schema.specs.declared.table_name.TableName.TheVariants as the
@@ -34,7 +34,7 @@ use Rattle.agv_first_schema.specs.FirstTold.{TellFirst, TellTables, has_first_ro
 use Rattle.agv_first_schema.specs.TripLines.{line_of}
 use Rattle.agv_first_schema.proofs.CarriedSingly.{CarriesOneEach}
 use Rattle.agv_first_schema.proofs.TripRows.{HaveValues, reads_trips, trip_row_written}
-use Rattle.agv_row_reading.proofs.TableReading.{reads_all}
+use Rattle.agv_row_queries.proofs.TableReading.{reads_all}
 use Rattle.agv_row_reading.proofs.TablesBack.{reads_members, shows_members, shows_rows, shows_table}
 use Rattle.agv_rows.proofs.CellLemmas.{name_kept}
 use Rattle.agv_rows.proofs.ColumnsKept.{edge_kept, hold_kept, job_kept, leg_kept, load_kept, meta_kept, station_kept, used_kept, vehicle_kept}

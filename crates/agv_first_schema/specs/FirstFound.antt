@@ -13,8 +13,8 @@ use Rattle.agv_world.specs.declared.world.World.{World as Tables}
 use Rattle.agv_schema.specs.DeskRows.{Placing, StandApart, TableHas}
 use Rattle.agv_row_reading.specs.Rowids.{AreTablesKeyed}
 use Rattle.agv_schema.specs.Connections.{HasStorageCause}
-use Rattle.agv_row_reading.specs.declared.open_fault.OpenFault.{OpenFault}
-use Rattle.agv_row_reading.specs.declared.open_fault.OpenFault.TheVariants as fault
+use Rattle.agv_row_queries.specs.declared.open_fault.OpenFault.{OpenFault}
+use Rattle.agv_row_queries.specs.declared.open_fault.OpenFault.TheVariants as fault
 use Rattle.agv_schema.specs.declared.table_name.TableName.{TableName}
 use Rattle.agv_first_schema.specs.FirstRows.{HasFirstWorld, HasNoFirstWorld, IsFirstDesk}
 use Rattle.agv_first_schema.specs.FirstTold.{rows_listed}

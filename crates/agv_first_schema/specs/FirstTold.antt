@@ -4,13 +4,13 @@ use Rattle.std.specs.FinMap as finite
 use Rattle.std.specs.FinSet as set
 use Rattle.std.specs.declared.vec.Vec.{Vec}
 use Rattle.sqlite_value.specs.Order.{Row}
-use Rattle.agv_track.specs.Holds.{Holds as Holders}
+use Rattle.agv_holds.specs.Holds.{Holds as Holders}
 use Rattle.agv_world.specs.declared.world.World.{World as Tables}
 use Rattle.agv_rows.specs.Columns.{edge_in, hold_in, job_in, leg_in, load_in, meta_in, node_in, station_in, used_in, vehicle_in}
 use Rattle.agv_schema.specs.DeskRows.{place_of, table_at}
-use Rattle.agv_row_reading.specs.ReadTables.{read_members, read_rows}
-use Rattle.agv_row_reading.specs.declared.open_fault.OpenFault.{OpenFault}
-use Rattle.agv_row_reading.specs.declared.open_fault.OpenFault.TheVariants as fault
+use Rattle.agv_row_queries.specs.ReadTables.{read_members, read_rows}
+use Rattle.agv_row_queries.specs.declared.open_fault.OpenFault.{OpenFault}
+use Rattle.agv_row_queries.specs.declared.open_fault.OpenFault.TheVariants as fault
 use Rattle.agv_row_reading.specs.declared.held_things.HeldThings.{HeldThings}
 use Rattle.agv_schema.specs.declared.table_name.TableName.TheVariants as the
 use Rattle.agv_first_schema.specs.FirstColumns.{trip_with}

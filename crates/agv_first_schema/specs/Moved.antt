@@ -18,7 +18,7 @@ use Rattle.agv_world.specs.declared.world.World.{World as Tables}
 use Rattle.agv_schema.specs.declared.table_name.TableName.{TableName}
 use Rattle.agv_schema.specs.declared.table_name.TableName.TheVariants as the
 use Rattle.agv_first_schema.specs.FirstRows.{HasFirstWorld, is_first}
-use Rattle.agv_row_reading.specs.WorldAnswers.{HasWorld}
+use Rattle.agv_row_queries.specs.WorldAnswers.{HasWorld}
 use Rattle.agv_rows.specs.Columns.{journey_columns, meta_columns, vehicle_capacity_columns}
 use Rattle.agv_schema.specs.DeskRows.{Placing, is_unreferred, on_table, place_of, table_for, with_row, with_rows}
 use Rattle.agv_rows.specs.Rows.{rows_of_acts}

@@ -3,7 +3,7 @@ ghost use Rattle.agv_first_schema.specs.FirstFound.{ReadsLists, all_lists, one_l
 ghost use Rattle.agv_first_schema.specs.FirstRows.{first_names};
 ghost use Rattle.std.specs.Prelude.{[], ◌∷◌};
 
-use agv_row_reading::OpenFault;
+use agv_row_queries::OpenFault;
 use agv_row_reading::rowid_reading::query_keyed;
 use agv_schema::TableName;
 use agv_statements::row_reads::find_all_rows;

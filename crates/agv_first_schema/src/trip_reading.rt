@@ -2,11 +2,11 @@
 ghost use Rattle.std.specs.Prelude.{◌≡◌, IfOk};
 ghost use Rattle.std.specs.FinMap as map;
 ghost use Rattle.agv_first_schema.specs.FirstColumns.{trip_in, trip_with};
-ghost use Rattle.agv_row_reading.specs.ReadTables.{Reads, read_rows};
+ghost use Rattle.agv_row_queries.specs.ReadTables.{Reads, read_rows};
 
 use crate::trip_line::TripLine;
 use agv_header::{Memory, Name};
-use agv_row_reading::OpenFault;
+use agv_row_queries::OpenFault;
 use agv_rows::decode_row::key_at;
 use agv_rows::decode_value::{maybe_number_at, name_at, number_at, status_at};
 use agv_world::{ByName, JobRow, TripRow};

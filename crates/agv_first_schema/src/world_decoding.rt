@@ -2,17 +2,18 @@
 ghost use Rattle.std.specs.Prelude.{◌≡◌, map};
 ghost use Rattle.std.specs.FinMap as finite;
 ghost use Rattle.agv_first_schema.specs.FirstTold.{Finds, TellFirst, TellTables, has_first_row, is_first_row, rows_listed, tables_and_holds};
-ghost use Rattle.agv_row_reading.specs.ReadTables.{Reads, read_rows};
+ghost use Rattle.agv_row_queries.specs.ReadTables.{Reads, read_rows};
 ghost use Rattle.agv_rows.specs.Columns.{meta_in, vehicle_in};
 ghost use Rattle.agv_schema.specs.DeskRows.{place_of, table_at};
 
 use crate::trip_reading::trips_in_rows;
+use agv_row_queries::OpenFault;
+use agv_row_queries::asked_tables::{legs_in_rows, places_in_rows};
+use agv_row_reading::HeldThings;
 use agv_row_reading::held_rows::holds_in_rows;
 use agv_row_reading::row_tables::{
-    edges_in_rows, has_vehicle, jobs_in_rows, legs_in_rows, nodes_in_rows, places_in_rows,
-    stations_in_rows, used_in_rows,
+    edges_in_rows, has_vehicle, jobs_in_rows, nodes_in_rows, stations_in_rows, used_in_rows,
 };
-use agv_row_reading::{HeldThings, OpenFault};
 use agv_rows::decode_row::{decode_meta, decode_vehicle};
 use agv_schema::TableName;
 use agv_world::{ByVehicle, VehicleRow, World};

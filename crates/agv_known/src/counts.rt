@@ -1,5 +1,5 @@
 //! How many there are of each kind that is counted.
-ghost use Rattle.std.specs.Prelude.{◌≡◌, ◌≢◌, ◌+◌, ◌<◌, IfOk};
+ghost use Rattle.std.specs.Prelude.{◌≡◌, ◌≢◌, ◌+◌, ◌<◌};
 ghost use Rattle.agv_world.specs.Counts.{limit_of, one_more};
 ghost use Rattle.agv_world.specs.Questions.{count_of};
 ghost use Rattle.agv_world.specs.Told.{world_of};
@@ -7,9 +7,7 @@ ghost use Rattle.agv_world.specs.Worlds.{empty_world};
 ghost use Rattle.agv_world.specs.declared.floor.Counted.{Counted};
 ghost use Rattle.agv_known.specs.Counts.{count_in};
 
-use agv_header::Memory;
-use agv_world::{Counted, Floor, PlainFloor, World};
-use std::alloc::Global;
+use agv_world::{Counted, World};
 
 /// How many vehicles, loads, jobs, orders and references there are. They are counted once, when a desk is opened, and
 /// follow the calls from then on, so that no call has to count rows.
@@ -42,16 +40,16 @@ impl Counts {
     }
 
     // How many there are in the world that these tables tell.
-    pub(crate) fn of(alloc: Global, tables: &World) -> Result<Counts, Memory>
-        ensures { IfOk result (λ counts. (what : Counted) → count_in counts what ≡ count_of (world_of tables.now) what) }
+    pub(crate) fn of(tables: &World) -> Counts
+        ensures { (what : Counted) → count_in result what ≡ count_of (world_of tables.now) what }
     {
-        Ok(Counts {
-            vehicles: count(alloc, tables, Counted::Vehicles)?,
-            loads: count(alloc, tables, Counted::Loads)?,
-            jobs: count(alloc, tables, Counted::Jobs)?,
-            orders: count(alloc, tables, Counted::Orders)?,
-            references: count(alloc, tables, Counted::References)?,
-        })
+        Counts {
+            vehicles: tables.count(Counted::Vehicles),
+            loads: tables.count(Counted::Loads),
+            jobs: tables.count(Counted::Jobs),
+            orders: tables.count(Counted::Orders),
+            references: tables.count(Counted::References),
+        }
     }
 
     /// How many there are of this kind.
@@ -80,16 +78,4 @@ impl Counts {
             Some(Counted::References) => self.references = self.references.saturating_add(1),
         }
     }
-}
-
-// How many there are of a kind in the world that these tables tell.
-fn count(alloc: Global, tables: &World, what: Counted) -> Result<usize, Memory>
-    ensures { IfOk result (λ count. count ≡ count_of (world_of tables.now) what) }
-{
-    // No count depends on the seats.
-    let mut floor = PlainFloor::new(alloc, tables, 1);
-    let Ok(count) = floor.count(what) else {
-        return Err(Memory);
-    };
-    Ok(count)
 }

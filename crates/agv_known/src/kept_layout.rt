@@ -2,15 +2,12 @@
 //! true; where a row of it is written, it is kept no more.
 ghost use Rattle.std.specs.Prelude.{◌≡◌, IfOk};
 ghost use Rattle.agv_world.specs.Changes.{change};
-ghost use Rattle.agv_world.specs.Questions.{layout_set};
 ghost use Rattle.agv_world.specs.Maps.{Maps};
-ghost use Rattle.agv_world.specs.Told.{world_of};
 ghost use Rattle.agv_known.specs.KeptLayouts.{IsLayoutOf, is_of_layout};
 
 use agv_header::Memory;
 use agv_layout::Layout;
-use agv_world::{Change, Floor, PlainFloor, World};
-use std::alloc::Global;
+use agv_world::Change;
 
 /// A copy of a layout, where there is one.
 ///
@@ -25,18 +22,6 @@ pub fn copy_of(layout: &Option<Layout>) -> Result<Option<Layout>, Memory>
             Ok(Some(copy))
         }
     }
-}
-
-// The layout of the world that these tables tell; none before it is set.
-pub(crate) fn layout_told(alloc: Global, tables: &World) -> Result<Option<Layout>, Memory>
-    ensures { IfOk result (λ layout. layout ≡ layout_set (world_of tables.now)) }
-{
-    // No layout depends on the seats.
-    let mut floor = PlainFloor::new(alloc, tables, 1);
-    let Ok(layout) = floor.layout() else {
-        return Err(Memory);
-    };
-    Ok(layout)
 }
 
 // The layout that is kept once the change was made: none where it writes a row of the layout.

@@ -15,7 +15,6 @@ ghost use Rattle.agv_known.specs.KeptLayouts.{IsLayoutOf};
 ghost use Rattle.agv_known.specs.Known.{Follows, IsKnown, IsKnownIn};
 
 use crate::counts::Counts;
-use crate::kept_layout::layout_told;
 use crate::kept_rooms::RoomsLeft;
 use crate::kept_trips::KeptTrips;
 use crate::kept_vehicles::KeptVehicles;
@@ -68,8 +67,8 @@ impl Known {
         tables_tell_the_world();
         gives_itself();
         needs_a_node();
-        let counts = Counts::of(alloc, tables)?;
-        let layout = layout_told(alloc, tables)?;
+        let counts = Counts::of(tables);
+        let layout = tables.layout(alloc)?;
         Ok(Known::new(alloc, counts, layout))
     }
 

@@ -14,8 +14,8 @@ use Rattle.agv_layout.specs.declared.station.StationSite.{StationSite}
 use Rattle.agv_order.specs.Trips.{node_at}
 use Rattle.agv_order.specs.WellFormedTest.{is_well_formed}
 use Rattle.agv_order.specs.declared.trip.Trip.{Trip}
-use Rattle.agv_track.specs.Footprints.{footprint_of}
-use Rattle.agv_track.specs.Holds.{Holds, claimed, first_held}
+use Rattle.agv_holds.specs.Footprints.{footprint_of}
+use Rattle.agv_holds.specs.Holds.{Holds, claimed, first_held}
 use Rattle.agv_world.specs.Lawful.{picks}
 use Rattle.agv_world.specs.Questions.{layout_set}
 use Rattle.agv_world.specs.Maps.{standing_of}

@@ -1,11 +1,11 @@
 //! Whether no node or edge is in the footprints of two vehicles.
 ghost use Rattle.std.specs.Prelude.{◌≡◌, IfOk, IsTrue};
 ghost use Rattle.std.specs.Option.{is_none};
-ghost use Rattle.agv_track.specs.Holds.{claimed, first_held};
+ghost use Rattle.agv_holds.specs.Holds.{claimed, first_held};
 ghost use Rattle.agv_lawful.specs.LawfulTests.{are_apart, things_of};
 
 use agv_header::{Memory, Thing, VehicleKey};
-use agv_track::{ClaimFault, HoldTable, Standing, footprint};
+use agv_holds::{ClaimFault, HoldTable, Standing, footprint};
 use agv_world::{VehicleRow, World};
 use std::alloc::Global;
 

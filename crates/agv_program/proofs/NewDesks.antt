@@ -8,16 +8,17 @@ use Rattle.sqlite.specs.Held.{Held, state}
 use Rattle.sqlite.specs.Steps.{IsEmpty}
 use Rattle.sqlite.specs.declared.error.Error.{Error}
 use Rattle.agv_world.specs.Worlds.{World, empty_world}
-use Rattle.agv_row_reading.specs.WorldAnswers.{HasNoWorld, HasWorld}
-use Rattle.agv_world_reading.specs.WorldIn.{world_in}
+use Rattle.agv_row_queries.specs.WorldAnswers.{HasNoWorld, HasWorld}
+use Rattle.agv_table_reading.specs.WorldIn.{world_in}
 use Rattle.agv_schema.specs.Connections.{IsClean}
 use Rattle.agv_schema.specs.DeskRows.{Placing}
-use Rattle.agv_store.specs.Floors.{Keyed, world_at}
+use Rattle.agv_keyed_floor.specs.Floors.{Keyed, world_at}
 use Rattle.agv_store.specs.Opening.{Adopts, CanBeMade, IsDamaged, Makes}
-use Rattle.agv_row_reading.specs.declared.open_fault.OpenFault.{OpenFault}
-use Rattle.agv_row_reading.specs.declared.open_fault.OpenFault.TheVariants as opening
-use Rattle.agv_program.specs.Runs.{IsNewDatabase, KnowsNothing, opening_fault}
-use Rattle.agv_program.specs.declared.outcome.RunFault.TheVariants as fault
+use Rattle.agv_row_queries.specs.declared.open_fault.OpenFault.{OpenFault}
+use Rattle.agv_row_queries.specs.declared.open_fault.OpenFault.TheVariants as opening
+use Rattle.agv_program.specs.Runs.{IsNewDatabase, KnowsNothing}
+use Rattle.agv_host.specs.RunEnds.{opening_fault}
+use Rattle.agv_host.specs.declared.outcome.RunFault.TheVariants as fault
 
 -- where there is no table the desk's can be made
 can_be_made : (schema : Schema) → schema ≡ record { tables = []; indexes = []; views = [] } → CanBeMade schema

@@ -1,11 +1,10 @@
-//! A connection over the network is served.
+//! A connection over the network is served, by a desk in the kit's store in memory (docs/GATE.md).
 
-use agv_database::open_in_memory;
 use agv_face::{Ended, Served};
 use agv_program::serve_next;
 use agv_store::Desk;
-use sqlite::{Alter, Connection, Error};
-use std::alloc::Global;
+use sqlite::{Alter, Connection};
+use std::alloc::{AllocError, Global};
 use std::io::{self, Write};
 use std::net::{TcpListener, TcpStream};
 use std::process::Abort;
@@ -23,7 +22,7 @@ const ANSWER: &str = concat!(
 fn desk_in<S: Alter + Drop>(
     ends: &impl Abort,
     alloc: Global,
-    opened: Result<Connection<S>, Error>,
+    opened: Result<Connection<S>, AllocError>,
 ) -> Desk<S> {
     let conn = opened.expect(ends, "a database");
     assert!(ends; conn.is_autocommit(), "idle");
@@ -61,7 +60,7 @@ fn serve_one<S: Alter + Drop>(rt: &HostRuntime, ends: &impl Abort, desk: &mut De
 fn serve_one_in<S: Alter + Drop>(
     rt: &HostRuntime,
     ends: &impl Abort,
-    opened: Result<Connection<S>, Error>,
+    opened: Result<Connection<S>, AllocError>,
 ) {
     let mut desk = desk_in(ends, rt.alloc(), opened);
     serve_one(rt, ends, &mut desk);
@@ -69,5 +68,5 @@ fn serve_one_in<S: Alter + Drop>(
 
 #[test]
 fn a_connection_is_served(rt: HostRuntime) {
-    serve_one_in(&rt, &rt, open_in_memory(rt.alloc()));
+    serve_one_in(&rt, &rt, Connection::open_in_memory(rt.alloc()));
 }

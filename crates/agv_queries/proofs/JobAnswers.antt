@@ -17,15 +17,15 @@ use Rattle.agv_world.specs.declared.row.JobRow.{JobRow}
 use Rattle.agv_queries.specs.QueriedRows.{is_in_phase, name_and_phase}
 use Rattle.agv_rows.specs.ValueEncodings.{phase_name}
 use Rattle.agv_rows.specs.Columns.{job_columns, job_in}
-use Rattle.agv_row_reading.specs.FirstRow.{first_key_in, key_of}
+use Rattle.agv_row_queries.specs.FirstRow.{first_key_in, key_of}
 use Rattle.agv_rows.specs.Rows.{TellRows, row_if, rows_of}
 use Rattle.agv_statements.specs.CountQueries.{rows_counted}
 use Rattle.agv_statements.specs.RowQueries.{rows_asked}
 use Rattle.agv_schema.specs.SchemaNumbers.{desk_seats}
-use Rattle.agv_row_reading.specs.declared.open_fault.OpenFault.{OpenFault}
+use Rattle.agv_row_queries.specs.declared.open_fault.OpenFault.{OpenFault}
 use Rattle.agv_schema.specs.declared.rows_by.RowsBy.TheVariants as by
 use Rattle.agv_schema.specs.declared.rows_counted.RowsCounted.TheVariants as counted
-use Rattle.agv_row_reading.proofs.Asking.{Follows}
+use Rattle.agv_row_queries.proofs.Asking.{Follows}
 use Rattle.agv_queries.proofs.AskedShown.{shown_asked}
 use Rattle.agv_rows.proofs.ColumnsKept.{job_kept}
 use Rattle.agv_schema.proofs.FewEntries.{counts_add, found_entry, listed, one_by_either, one_passes}

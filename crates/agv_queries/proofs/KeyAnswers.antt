@@ -22,16 +22,16 @@ use Rattle.agv_world.specs.declared.row.JobRow.{JobRow}
 use Rattle.agv_world.specs.declared.row.VehicleRow.{VehicleRow}
 use Rattle.agv_rows.specs.Columns.{capacity_in, edge_columns, edge_in, hold_columns, hold_in, job_columns, job_in, load_columns, load_in, node_columns, vehicle_capacity_columns, station_columns, station_in, used_columns, vehicle_columns, vehicle_in}
 use Rattle.agv_schema.specs.DeskRows.{rows_of_key, table_for}
-use Rattle.agv_row_reading.specs.FirstRow.{first_in, value_of}
+use Rattle.agv_row_queries.specs.FirstRow.{first_in, value_of}
 use Rattle.agv_rows.specs.RowKeys.{hold_key, name_key, vehicle_key}
 use Rattle.agv_rows.specs.Rows.{TellRows, row_if, rows_of}
 use Rattle.agv_statements.specs.RowQueries.{FitsColumns}
 use Rattle.agv_schema.specs.SchemaNumbers.{desk_seats}
 use Rattle.agv_rows.specs.TypedRows.{IsThing}
-use Rattle.agv_row_reading.specs.declared.open_fault.OpenFault.{OpenFault}
+use Rattle.agv_row_queries.specs.declared.open_fault.OpenFault.{OpenFault}
 use Rattle.agv_rows.specs.declared.capacity_row.CapacityRow.{CapacityRow}
 use Rattle.agv_schema.specs.declared.table_name.TableName.TheVariants as the
-use Rattle.agv_row_reading.proofs.Asking.{Follows}
+use Rattle.agv_row_queries.proofs.Asking.{Follows}
 use Rattle.agv_rows.proofs.ColumnsKept.{capacity_kept, edge_kept, station_kept, vehicle_kept, load_kept, job_kept, hold_kept}
 use Rattle.agv_queries.proofs.KeysShown.{capacity_shown, edge_shown, hold_shown, job_shown, load_shown, node_shown, station_shown, used_shown, vehicle_shown}
 use Rattle.agv_rows.proofs.LawfulValues.{edge_named, ends_value, holder_value, job_value, place_value, row_at, site_value, station_named, used_is, vehicle_value}

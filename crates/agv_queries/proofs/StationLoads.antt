@@ -18,13 +18,13 @@ use Rattle.agv_world.specs.Questions.{loads_at}
 use Rattle.agv_world.specs.Worlds.{World}
 use Rattle.agv_queries.specs.QueriedRows.{loads_shown}
 use Rattle.agv_rows.specs.Columns.{load_columns, load_in}
-use Rattle.agv_row_reading.specs.ReadTables.{Reads, read_rows}
+use Rattle.agv_row_queries.specs.ReadTables.{Reads, read_rows}
 use Rattle.agv_rows.specs.RowKeys.{name_key}
 use Rattle.agv_statements.specs.RowQueries.{rows_asked}
 use Rattle.agv_schema.specs.SchemaNumbers.{desk_seats}
-use Rattle.agv_row_reading.specs.declared.open_fault.OpenFault.{OpenFault}
+use Rattle.agv_row_queries.specs.declared.open_fault.OpenFault.{OpenFault}
 use Rattle.agv_schema.specs.declared.rows_by.RowsBy.TheVariants as by
-use Rattle.agv_row_reading.proofs.Asking.{Follows}
+use Rattle.agv_row_queries.proofs.Asking.{Follows}
 use Rattle.agv_rows.proofs.ColumnsKept.{load_kept}
 use Rattle.agv_rows.proofs.LawfulValues.{place_value}
 use Rattle.agv_rows.proofs.KeyTests.{names_apart}
@@ -32,7 +32,7 @@ use Rattle.agv_rows.specs.Rows.{rows_of}
 use Rattle.agv_queries.proofs.LoadAnswers.{shows_loads_at}
 use Rattle.agv_schema.proofs.MapEntries.{left, right}
 use Rattle.agv_schema.proofs.SpreadRows.{entries_found}
-use Rattle.agv_row_reading.proofs.TableReading.{reads_all, reads_fails}
+use Rattle.agv_row_queries.proofs.TableReading.{reads_all, reads_fails}
 
 both : (a b : Bool) → T a → T b → T (a && b)
 both true b p q = q

@@ -30,20 +30,20 @@ use Rattle.agv_world.specs.Told.{edge_named, edges_of, is_of_order, trip_in}
 use Rattle.agv_world.specs.Worlds.{World}
 use Rattle.agv_world.specs.declared.key.LegKey.{LegKey}
 use Rattle.agv_world.specs.declared.row.JobRow.{JobRow}
-use Rattle.agv_row_reading.specs.WorldAnswers.{AgreesWith}
+use Rattle.agv_row_queries.specs.WorldAnswers.{AgreesWith}
 use Rattle.agv_queries.specs.QueriedRows.{journeys_shown, legs_shown}
 use Rattle.agv_rows.specs.Columns.{act_columns, act_in, journey_columns, journey_in, leg_columns, leg_in}
-use Rattle.agv_row_reading.specs.FirstRow.{first_whole_in, whole_of}
-use Rattle.agv_row_reading.specs.ReadTables.{Reads, read_rows}
+use Rattle.agv_row_queries.specs.FirstRow.{first_whole_in, whole_of}
+use Rattle.agv_row_queries.specs.ReadTables.{Reads, read_rows}
 use Rattle.agv_rows.specs.RowKeys.{name_key, vehicle_key}
 use Rattle.agv_rows.specs.Rows.{TellRows, row_if, rows_of, rows_of_acts}
 use Rattle.agv_statements.specs.RowQueries.{rows_asked}
 use Rattle.agv_schema.specs.SchemaNumbers.{desk_seats}
 use Rattle.agv_rows.specs.DecodedTrips.{is_driven_by, journey_for, tables_of, told_by_journey, trip_told_by}
 use Rattle.agv_rows.specs.TypedRows.{IsActRow, IsActRowKey, IsJourneyRow}
-use Rattle.agv_row_reading.specs.declared.open_fault.OpenFault.{OpenFault}
+use Rattle.agv_row_queries.specs.declared.open_fault.OpenFault.{OpenFault}
 use Rattle.agv_schema.specs.declared.rows_by.RowsBy.TheVariants as by
-use Rattle.agv_row_reading.proofs.Asking.{Follows}
+use Rattle.agv_row_queries.proofs.Asking.{Follows}
 use Rattle.agv_queries.proofs.AskedShown.{shown_asked}
 use Rattle.agv_rows.proofs.ColumnsKept.{act_kept, journey_kept, leg_kept}
 use Rattle.agv_schema.proofs.FewEntries.{found_entry, listed, one_passes}
@@ -53,7 +53,7 @@ use Rattle.agv_rows.proofs.ListsHeld.{alike_itself}
 use Rattle.agv_queries.proofs.LoadAnswers.{again}
 use Rattle.agv_schema.proofs.SpreadRows.{entries_found}
 use Rattle.agv_queries.proofs.StationLoads.{all-filter, entries-passing, get-passing, passing}
-use Rattle.agv_row_reading.proofs.TableReading.{reads_all, reads_fails}
+use Rattle.agv_row_queries.proofs.TableReading.{reads_all, reads_fails}
 
 -- ---- the journey of a vehicle
 

@@ -1,6 +1,6 @@
 //! Queries of the tables by a key: a vehicle, a load's place, a job, a station, an edge, a node, a holder, a used name.
 //!
-//! Each answers what the lawful world says whose rows the tables have (`WorldAnswers.antt` of agv_row_reading).
+//! Each answers what the lawful world says whose rows the tables have (`WorldAnswers.antt` of agv_row_queries).
 ghost use Rattle.std.specs.Prelude.{◌≡◌};
 ghost use Rattle.std.specs.FinMap as map;
 ghost use Rattle.std.specs.FinSet as set;
@@ -8,14 +8,14 @@ ghost use Rattle.std.specs.Option.{option_map};
 ghost use Rattle.agv_world.specs.Questions.{row_of, holder_of, is_used};
 ghost use Rattle.agv_world.specs.declared.row.VehicleRow.{VehicleRow as RowOfVehicle};
 ghost use Rattle.agv_rows.specs.Columns.{capacity_in, edge_in, hold_in, job_in, load_in, station_in, vehicle_in};
-ghost use Rattle.agv_row_reading.specs.FirstRow.{first_in};
+ghost use Rattle.agv_row_queries.specs.FirstRow.{first_in};
 ghost use Rattle.agv_rows.specs.TypedRows.{IsThing};
-ghost use Rattle.agv_row_reading.specs.WorldAnswers.{AnswersQuery};
+ghost use Rattle.agv_row_queries.specs.WorldAnswers.{AnswersQuery};
 
 use agv_header::{Name, Thing, VehicleKey};
 use agv_layout::{EdgeEnds, StationSite};
-use agv_row_reading::OpenFault;
-use agv_row_reading::queried_rows::query_rows;
+use agv_row_queries::OpenFault;
+use agv_row_queries::queried_rows::query_rows;
 use agv_rows::CapacityRow;
 use agv_rows::decode_row::{
     decode_capacity, decode_edge, decode_hold, decode_job, decode_load, decode_station,

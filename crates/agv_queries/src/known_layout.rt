@@ -6,7 +6,7 @@ ghost use Rattle.std.specs.Option.{option_and_then, option_map, unwrap_or};
 ghost use Rattle.agv_layout.specs.Layout.{Layout as Plan};
 ghost use Rattle.agv_world.specs.Told.{edge_named};
 ghost use Rattle.agv_world.specs.Worlds.{World};
-ghost use Rattle.agv_row_reading.specs.WorldAnswers.{AgreesWith};
+ghost use Rattle.agv_row_queries.specs.WorldAnswers.{AgreesWith};
 
 use agv_header::Name;
 use agv_layout::{Edge, Layout, StationSite};

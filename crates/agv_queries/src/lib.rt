@@ -2,7 +2,7 @@
 //! ([`trip_queries`]), and about loads and live jobs ([`load_queries`], [`station_loads`]). Who knows the layout already
 //! gives it to the queries of a trip and of the room of a station ([`known_layout`]).
 //!
-//! Each answers what the lawful world says whose rows the tables have (`WorldAnswers.antt` of agv_row_reading);
+//! Each answers what the lawful world says whose rows the tables have (`WorldAnswers.antt` of agv_row_queries);
 //! [`query_laws`] says what a look-up shows of the rows of a world.
 #![tactic(auto)]
 

@@ -1,6 +1,6 @@
 //! Queries of the tables about loads and live jobs: how many there are, the live job of a load, and the room of a station.
 //!
-//! Each answers what the lawful world says whose rows the tables have (`WorldAnswers.antt` of agv_row_reading), where a
+//! Each answers what the lawful world says whose rows the tables have (`WorldAnswers.antt` of agv_row_queries), where a
 //! layout that is given is that of this world.
 ghost use Rattle.std.specs.Prelude.{◌≡◌, ◌&&◌, true, length, nat_eq, count_by, find};
 ghost use Rattle.std.specs.Cmp.Lexicographic.{pointwise};
@@ -12,15 +12,15 @@ ghost use Rattle.agv_stock.specs.Rooms.{room_left};
 ghost use Rattle.agv_world.specs.Questions.{job_of, loads_at, loads_on, reserved, room_at};
 ghost use Rattle.agv_queries.specs.QueriedRows.{is_in_phase, name_and_phase};
 ghost use Rattle.agv_rows.specs.Columns.{job_in};
-ghost use Rattle.agv_row_reading.specs.FirstRow.{first_key_in};
-ghost use Rattle.agv_row_reading.specs.WorldAnswers.{AgreesWith, AnswersQuery};
+ghost use Rattle.agv_row_queries.specs.FirstRow.{first_key_in};
+ghost use Rattle.agv_row_queries.specs.WorldAnswers.{AgreesWith, AnswersQuery};
 
 use crate::key_queries::query_station;
 use crate::known_layout::known_station;
 use agv_header::{Name, VehicleKey};
 use agv_layout::Layout;
-use agv_row_reading::OpenFault;
-use agv_row_reading::queried_rows::{query_count, query_rows_by};
+use agv_row_queries::OpenFault;
+use agv_row_queries::queried_rows::{query_count, query_rows_by};
 use agv_rows::decode_row::decode_job;
 use agv_rows::key_values::{name_key_values, vehicle_key_values};
 use agv_rows::row_values::name_value;

@@ -3,13 +3,13 @@ ghost use Rattle.std.specs.Prelude.{◌≡◌, IfOk};
 ghost use Rattle.std.specs.FinMap as map;
 ghost use Rattle.std.specs.Map.{keys_of};
 ghost use Rattle.agv_world.specs.Questions.{loads_at};
-ghost use Rattle.agv_row_reading.specs.WorldAnswers.{AnswersQuery};
+ghost use Rattle.agv_row_queries.specs.WorldAnswers.{AnswersQuery};
 
 use agv_header::{Memory, Name};
 use agv_message::Sequence;
-use agv_row_reading::OpenFault;
-use agv_row_reading::queried_rows::query_rows_by;
-use agv_row_reading::row_tables::places_in_rows;
+use agv_row_queries::OpenFault;
+use agv_row_queries::asked_tables::places_in_rows;
+use agv_row_queries::queried_rows::query_rows_by;
 use agv_rows::key_values::name_key_values;
 use agv_schema::rows_by::RowsBy;
 use agv_stock::Place;

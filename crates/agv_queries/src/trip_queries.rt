@@ -1,7 +1,7 @@
 //! The open trip of a vehicle, asked of the tables: its journey, its acts with the rows of their jobs, and its edges. Where
 //! the layout is known, it says where an edge leads, and the table of edges is asked only for one that it lacks.
 //!
-//! Each query answers what the lawful world says whose rows the tables have (`WorldAnswers.antt` of agv_row_reading), where
+//! Each query answers what the lawful world says whose rows the tables have (`WorldAnswers.antt` of agv_row_queries), where
 //! a layout that is given is that of this world.
 ghost use Rattle.std.specs.Prelude.{◌≡◌, is_some, Some, filter};
 ghost use Rattle.std.specs.FinMap as map;
@@ -11,9 +11,9 @@ ghost use Rattle.agv_world.specs.Questions.{trip_of};
 ghost use Rattle.agv_world.specs.Maps.{maps_of};
 ghost use Rattle.agv_world.specs.Told.{edges_of};
 ghost use Rattle.agv_rows.specs.Columns.{journey_in};
-ghost use Rattle.agv_row_reading.specs.FirstRow.{first_whole_in};
+ghost use Rattle.agv_row_queries.specs.FirstRow.{first_whole_in};
 ghost use Rattle.agv_rows.specs.DecodedTrips.{journey_for, tables_of, told_by_journey, trip_told_by};
-ghost use Rattle.agv_row_reading.specs.WorldAnswers.{AgreesWith, AnswersQuery};
+ghost use Rattle.agv_row_queries.specs.WorldAnswers.{AgreesWith, AnswersQuery};
 
 use crate::key_queries::{query_edge, query_job};
 use crate::known_layout::known_edge;
@@ -21,9 +21,9 @@ use agv_header::{Name, VehicleKey};
 use agv_layout::{Edge, Layout};
 use agv_message::Sequence;
 use agv_order::{Act, Trip};
-use agv_row_reading::OpenFault;
-use agv_row_reading::queried_rows::query_rows_by;
-use agv_row_reading::row_tables::{acts_in_rows, legs_in_rows};
+use agv_row_queries::OpenFault;
+use agv_row_queries::asked_tables::{acts_in_rows, legs_in_rows};
+use agv_row_queries::queried_rows::query_rows_by;
 use agv_rows::JourneyRow;
 use agv_rows::decode_row::decode_journey;
 use agv_rows::key_values::{name_key_values, vehicle_key_values};

@@ -1,23 +1,16 @@
 -- The report that an answer of the desk names, to the byte: the stock report, the hold report or the export of loads (this project's formats).
-use Rattle.std.specs.Prelude.{ℕ, ◌+◌, Bool, List, [], map, Option, None, Some, is_some}
+use Rattle.std.specs.Prelude.{ℕ, ◌+◌, Bool, List, [], Option, None, Some, is_some}
 use Rattle.std.specs.FinMap as finite
 use Rattle.std.specs.FinSet as set
 use Rattle.std.specs.Map.{keys_of}
-use Rattle.agv_layout.specs.Layout.{station_of}
-use Rattle.agv_layout.specs.declared.station.StationSite.{StationSite}
-use Rattle.agv_layout.specs.declared.station.Station.{Station}
 use Rattle.agv_count.specs.Reports.{stock_text, hold_text, loads_text}
-use Rattle.agv_world.specs.Questions.{reserved}
+use Rattle.agv_world.specs.Questions.{stations_told}
 use Rattle.agv_world.specs.Maps.{maps_of}
 use Rattle.agv_world.specs.Worlds.{World}
 use Rattle.agv_desk.specs.declared.answer.Answer.{Answer}
 use Rattle.agv_desk.specs.declared.answer.Answer.TheVariants as answer
 use Rattle.agv_reports.specs.declared.report.Report.{Report}
 use Rattle.agv_reports.specs.declared.report.Report.TheVariants as report
-
--- the stations in the order of their names, each with the number of live jobs to it
-abbrev pub stations_told : World → List (Station × ℕ)
-stations_told world = map (λ (site : List ℕ × StationSite). (station_of site.0 site.1, reserved world site.0)) (finite.entries world.layout.stations)
 
 -- the text of a report of this world
 abbrev pub report_text : World → Report → List ℕ

@@ -12,14 +12,14 @@ use Rattle.agv_world.specs.Worlds.{World}
 use Rattle.agv_schema.specs.DeskRows.{Answers}
 use Rattle.agv_schema.specs.Errors.{IsOfStore, is_of_store}
 use Rattle.agv_schema.specs.SchemaNumbers.{desk_seats}
-use Rattle.agv_row_reading.specs.ReadTables.{Reads}
-use Rattle.agv_row_reading.specs.OpenFault.{open_fault_of}
+use Rattle.agv_row_queries.specs.ReadTables.{Reads}
+use Rattle.agv_row_queries.specs.OpenFault.{open_fault_of}
 use Rattle.agv_row_reading.specs.TablesRead.{HasCauseOverTables, Shows, TellsAll}
-use Rattle.agv_row_reading.specs.WorldAnswers.{AnswersQuery}
-use Rattle.agv_row_reading.specs.declared.open_fault.OpenFault.{OpenFault}
-use Rattle.agv_row_reading.specs.declared.open_fault.OpenFault.TheVariants as fault
+use Rattle.agv_row_queries.specs.WorldAnswers.{AnswersQuery}
+use Rattle.agv_row_queries.specs.declared.open_fault.OpenFault.{OpenFault}
+use Rattle.agv_row_queries.specs.declared.open_fault.OpenFault.TheVariants as fault
 use Rattle.agv_schema.proofs.Later.{fault_later, later_by}
-use Rattle.agv_row_reading.proofs.Asking.{Follows, follows, passes, storage_of, tables_then, tells_error, then}
+use Rattle.agv_row_queries.proofs.Asking.{Follows, follows, passes, storage_of, tables_then, tells_error, then}
 
 -- an error says nothing of an answer
 pub if_err : {A : Type 0} (f : OpenFault) (r : Result A OpenFault) → IsErrAnd r (λ why. why ≡ f) → (says : A → Type 0) → IfOk r says

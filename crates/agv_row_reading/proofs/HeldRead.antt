@@ -7,17 +7,18 @@ use Rattle.agv_header.specs.Key.{thing_cmp}
 use Rattle.agv_header.specs.ThingOrder.{thing_cmp-IsAntisymmetric, thing_cmp-total}
 use Rattle.agv_header.specs.declared.key.Thing.{Thing}
 use Rattle.agv_header.specs.declared.key.VehicleKey.{VehicleKey}
-use Rattle.agv_track.specs.Holds.{Holds}
+use Rattle.agv_holds.specs.Holds.{Holds}
 use Rattle.sqlite_value.specs.Order.{Row}
 use Rattle.agv_rows.specs.ValueEncodings.{if_some}
 use Rattle.agv_rows.specs.Columns.{hold_in}
-use Rattle.agv_row_reading.specs.ReadTables.{if_free, read_rows, table_read}
+use Rattle.agv_row_reading.specs.TableChecks.{table_read}
+use Rattle.agv_row_queries.specs.ReadTables.{if_free, read_rows}
 use Rattle.agv_row_reading.specs.declared.held_things.HeldThings.{HeldThings}
-use Rattle.agv_row_reading.specs.declared.open_fault.OpenFault.{OpenFault}
-use Rattle.agv_row_reading.specs.declared.open_fault.OpenFault.TheVariants as fault
-use Rattle.agv_row_reading.proofs.Asking.{Follows}
+use Rattle.agv_row_queries.specs.declared.open_fault.OpenFault.{OpenFault}
+use Rattle.agv_row_queries.specs.declared.open_fault.OpenFault.TheVariants as fault
+use Rattle.agv_row_queries.proofs.Asking.{Follows}
 use Rattle.agv_row_reading.proofs.AskingAll.{IsNoStorage}
-use Rattle.agv_row_reading.proofs.TableReading.{added, no_entries}
+use Rattle.agv_row_queries.proofs.TableReading.{added, no_entries}
 
 pub table_follows : (r : Result HeldThings OpenFault) (says : Holds → Type 0) → Follows (table_read r) says → Follows r (λ held. says held.table)
 table_follows (Ok held) says h = h

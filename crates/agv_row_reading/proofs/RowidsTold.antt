@@ -13,14 +13,14 @@ use Rattle.sqlite.proofs.StateLemmas.{survives_then}
 use Rattle.agv_schema.specs.DeskRows.{AreKeyed, StandApart, Placing, TableHas, table_names}
 use Rattle.agv_schema.specs.Errors.{IsOfStore, is_of_store}
 use Rattle.agv_schema.specs.Connections.{HasStorageCause}
-use Rattle.agv_row_reading.specs.OpenFault.{open_fault_of}
+use Rattle.agv_row_queries.specs.OpenFault.{open_fault_of}
 use Rattle.agv_rows.specs.Rows.{rows_of}
 use Rattle.agv_row_reading.specs.Rowids.{AreTablesKeyed, ShowRowids, TellsKeyed, TellsKeyedAlone}
-use Rattle.agv_row_reading.specs.WorldAnswers.{AnswersQuery}
-use Rattle.agv_row_reading.specs.declared.open_fault.OpenFault.{OpenFault}
-use Rattle.agv_row_reading.specs.declared.open_fault.OpenFault.TheVariants as fault
+use Rattle.agv_row_queries.specs.WorldAnswers.{AnswersQuery}
+use Rattle.agv_row_queries.specs.declared.open_fault.OpenFault.{OpenFault}
+use Rattle.agv_row_queries.specs.declared.open_fault.OpenFault.TheVariants as fault
 use Rattle.agv_schema.specs.declared.table_name.TableName.{TableName}
-use Rattle.agv_row_reading.proofs.Asking.{sound_of, storage_of}
+use Rattle.agv_row_queries.proofs.Asking.{sound_of, storage_of}
 use Rattle.agv_schema.proofs.DeskPlaces.{all_stand}
 use Rattle.agv_schema.proofs.Later.{fault_later, later_by}
 use Rattle.agv_row_reading.proofs.RowidsKeyed.{keyed_alike}

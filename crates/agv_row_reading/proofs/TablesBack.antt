@@ -9,12 +9,12 @@ use Rattle.std.specs.FinSet as set
 use Rattle.sqlite_trees.proofs.ListLemmas.{IsPermutation-flat_map, IsPermutation-same, flat_map-map, flat_map-one}
 use Rattle.sqlite_value.specs.Order.{Row}
 use Rattle.agv_rows.specs.ValueEncodings.{if_some}
-use Rattle.agv_row_reading.specs.ReadTables.{Reads, if_free, read_members, read_rows}
+use Rattle.agv_row_queries.specs.ReadTables.{Reads, if_free, read_members, read_rows}
 use Rattle.agv_rows.specs.Rows.{marked, rows_for, rows_in}
-use Rattle.agv_row_reading.specs.declared.open_fault.OpenFault.{OpenFault}
+use Rattle.agv_row_queries.specs.declared.open_fault.OpenFault.{OpenFault}
 use Rattle.agv_rows.proofs.KeyedRows.{entry_rows}
 use Rattle.agv_rows.proofs.Members.{get-marked, mark, marked-insert, same_marked}
-use Rattle.agv_row_reading.proofs.TableReading.{added, no_entries, reads_all}
+use Rattle.agv_row_queries.proofs.TableReading.{added, no_entries, reads_all}
 
 module _ {K X : Type 0} {R : K → K → Ordering} (total : IsTotalOrder R) (apart : IsAntisymmetric R) (rowed : K → X → List Row) (told : Row → Option (K × X)) (written : (row : Row) (e : K × X) → told row ≡ Some e → rowed e.0 e.1 ≡ row ∷ []) where
   rows_back : (table m : FinMap R X) (rows : List Row) → read_rows told table rows ≡ Some m → IsPermutation (entry_rows rowed m) (entry_rows rowed table ++ rows)

@@ -7,8 +7,8 @@ use Rattle.agv_header.specs.Key.{key_cmp}
 use Rattle.agv_header.specs.KeyOrder.{key_eq}
 use Rattle.agv_header.specs.declared.key.Thing.{Thing}
 use Rattle.agv_header.specs.declared.key.VehicleKey.{VehicleKey}
-use Rattle.agv_track.specs.Footprints.{footprint_of}
-use Rattle.agv_track.specs.Holds.{Holds, is_in, is_own}
+use Rattle.agv_holds.specs.Footprints.{footprint_of}
+use Rattle.agv_holds.specs.Holds.{Holds, is_in, is_own}
 use Rattle.agv_world.specs.Questions.{trip_of}
 use Rattle.agv_world.specs.Worlds.{World}
 use Rattle.agv_world.specs.declared.row.VehicleRow.{VehicleRow}

@@ -6,7 +6,7 @@ use Rattle.sqlite_trees.specs.declared.store.Store.{Ghosts}
 use Rattle.sqlite_value.specs.Order.{Row}
 use Rattle.sqlite.specs.Held.{Held, state}
 use Rattle.sqlite.specs.State.{HasCleanDisk}
-use Rattle.agv_track.specs.Holds.{Holds as Holders}
+use Rattle.agv_holds.specs.Holds.{Holds as Holders}
 use Rattle.agv_rows.specs.TripRows.{acts_of, journeys_of}
 use Rattle.agv_world.specs.Worlds.{World}
 use Rattle.agv_world.specs.declared.world.World.{World as Tables}
@@ -15,9 +15,9 @@ use Rattle.agv_schema.specs.Connections.{HasStorageCause}
 use Rattle.agv_schema.specs.DeskRows.{Placing, Holds, IsDesk, place_of, table_at}
 use Rattle.agv_rows.specs.Rows.{rows_for, rows_in}
 use Rattle.agv_schema.specs.SchemaNumbers.{schema_number}
-use Rattle.agv_row_reading.specs.WorldAnswers.{AnswersQuery}
-use Rattle.agv_row_reading.specs.declared.open_fault.OpenFault.{OpenFault}
-use Rattle.agv_row_reading.specs.declared.open_fault.OpenFault.TheVariants as fault
+use Rattle.agv_row_queries.specs.WorldAnswers.{AnswersQuery}
+use Rattle.agv_row_queries.specs.declared.open_fault.OpenFault.{OpenFault}
+use Rattle.agv_row_queries.specs.declared.open_fault.OpenFault.TheVariants as fault
 use Rattle.agv_schema.specs.declared.table_name.TableName.TheVariants as the
 
 -- what is answered is so of the rows that the desk's tables have, whatever rows these are

@@ -1,12 +1,13 @@
 //! What is held, as rows tell it.
 ghost use Rattle.std.specs.FinMap as map;
 ghost use Rattle.agv_rows.specs.Columns.{hold_in};
-ghost use Rattle.agv_row_reading.specs.ReadTables.{Reads, read_rows, table_read};
+ghost use Rattle.agv_row_reading.specs.TableChecks.{table_read};
+ghost use Rattle.agv_row_queries.specs.ReadTables.{Reads, read_rows};
 
-use crate::OpenFault;
 use crate::held_things::HeldThings;
+use agv_holds::HoldTable;
+use agv_row_queries::OpenFault;
 use agv_rows::decode_row::decode_hold;
-use agv_track::HoldTable;
 use sqlite::Row;
 use std::alloc::Global;
 

@@ -10,12 +10,11 @@ ghost use Rattle.agv_schema.specs.SchemaNumbers.{desk_seats};
 ghost use Rattle.agv_row_reading.specs.HeldThings.{HasEach, are_entries, are_holders, footprint_in, hold_their_own, holds_each, holds_only, is_kept};
 
 use agv_header::{Memory, Thing, VehicleKey};
-use agv_schema::schema_numbers::DESK_SEATS;
-use agv_track::hold_laws::tests_membership;
-use agv_track::{HoldTable, Standing, footprint};
+use agv_holds::hold_laws::tests_membership;
+use agv_holds::{HoldTable, Standing, footprint};
 use agv_world::lawful_laws::has_consistent_trips;
 use agv_world::laws::{holds_are_footprints, tables_tell_the_world};
-use agv_world::{ByVehicle, Floor, PlainFloor, VehicleRow, World};
+use agv_world::{ByVehicle, VehicleRow, World};
 use std::alloc::Global;
 
 /// The vehicle that holds a node or an edge, for each that is held: as a table, and as a list in no order.
@@ -83,14 +82,10 @@ fn footprint_in(
 ) -> Result<Vec<Thing>, Memory>
     ensures { IfOk result (λ things. things.items ≡ footprint_in (world_of tables.now) (key, row.now)) }
 {
-    let mut floor = PlainFloor::new(alloc, tables, DESK_SEATS);
-    let Ok(trip) = floor.trip(key) else {
-        return Err(Memory);
-    };
     let standing = Standing {
         node: row.node,
         rest: row.rest,
-        trip,
+        trip: tables.trip(alloc, &key)?,
     };
     footprint(alloc, &standing)
 }

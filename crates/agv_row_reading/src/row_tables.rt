@@ -1,24 +1,22 @@
-//! The tables that rows of SQL tell.
+//! The tables that rows of SQL tell, but those that a floor is asked for in part (`asked_tables` of agv_row_queries).
 //!
 //! Each row tells one entry, and no two rows tell one key: else the rows are damaged.
-ghost use Rattle.std.specs.Prelude.{◌≡◌, ◌∷◌, Err, IfErr, List, OnOk, is_some};
+ghost use Rattle.std.specs.Prelude.{◌≡◌, is_some};
 ghost use Rattle.std.specs.FinMap as map;
 ghost use Rattle.std.specs.FinSet as set;
-ghost use Rattle.sqlite_value.specs.Order.{Row as SqlRow};
-ghost use Rattle.agv_rows.specs.Columns.{act_in, capacity_in, edge_in, job_in, journey_in, leg_in, load_in, node_in, station_in, used_in};
+ghost use Rattle.agv_rows.specs.Columns.{capacity_in, edge_in, job_in, journey_in, node_in, station_in, used_in};
 ghost use Rattle.agv_rows.specs.DecodedTrips.{vehicle_with};
-ghost use Rattle.agv_row_reading.specs.ReadTables.{Reads, read_members, read_rows};
+ghost use Rattle.agv_row_queries.specs.ReadTables.{Reads, read_members, read_rows};
 
-use crate::OpenFault;
 use agv_header::VehicleKey;
 use agv_layout::{EdgeEnds, StationSite};
+use agv_row_queries::OpenFault;
 use agv_rows::decode_row::{
-    decode_act, decode_capacity, decode_edge, decode_job, decode_journey, decode_leg, decode_load,
-    decode_node, decode_station, decode_used, decode_vehicle,
+    decode_capacity, decode_edge, decode_job, decode_journey, decode_node, decode_station,
+    decode_used, decode_vehicle,
 };
-use agv_rows::{ActKey, ByAct, CapacityRow, JourneyRow};
-use agv_stock::Place;
-use agv_world::{ByLeg, ByName, ByVehicle, JobRow, LegKey, Names, UseKey, UsedNames, VehicleRow};
+use agv_rows::{CapacityRow, JourneyRow};
+use agv_world::{ByName, ByVehicle, JobRow, Names, UseKey, UsedNames, VehicleRow};
 use sqlite::Row;
 use std::alloc::Global;
 
@@ -159,85 +157,6 @@ pub fn journeys_in_rows(alloc: Global, rows: &[Row]) -> Result<ByName<JourneyRow
                 }
             }
         }
-    }
-    Ok(table)
-}
-
-/// The table that these rows encode.
-pub fn acts_in_rows(alloc: Global, rows: &[Row]) -> Result<ByAct, OpenFault>
-    ensures { Reads result (read_rows act_in map.empty rows.now) }
-{
-    let mut table = ByAct::new(alloc);
-    for row in rows {
-        match decode_act(row) {
-            None => return Err(OpenFault::Damaged),
-            Some((key, value)) => {
-                if has_act(&table, &key) {
-                    return Err(OpenFault::Damaged);
-                }
-                table.insert(key, value)?;
-            }
-        }
-    }
-    Ok(table)
-}
-
-// Whether the table has a row of this key.
-fn has_act(table: &ByAct, key: &ActKey) -> bool
-    ensures { result ≡ is_some (map.get table.now key.now) }
-{
-    table.get(*key).is_some()
-}
-
-/// The table that these rows encode.
-pub fn legs_in_rows(alloc: Global, rows: &[Row]) -> Result<ByLeg, OpenFault>
-    ensures { Reads result (read_rows leg_in map.empty rows.now) }
-{
-    let mut table = ByLeg::new(alloc);
-    for row in rows {
-        match decode_leg(row) {
-            None => return Err(OpenFault::Damaged),
-            Some((key, edge)) => {
-                if has_leg(&table, &key) {
-                    return Err(OpenFault::Damaged);
-                }
-                table.insert(key, edge)?;
-            }
-        }
-    }
-    Ok(table)
-}
-
-// Whether the table has a row of this key.
-fn has_leg(table: &ByLeg, key: &LegKey) -> bool
-    ensures { result ≡ is_some (map.get table.now key.now) }
-{
-    table.get(*key).is_some()
-}
-
-/// Adds what one more row encodes.
-pub fn take_place(table: &mut ByName<Place>, row: &Row) -> Result<(), OpenFault>
-    ensures taken { OnOk result ((rest : List SqlRow) → read_rows load_in table.old (row.now ∷ rest) ≡ read_rows load_in table.new rest) }
-    ensures refused { IfErr result (λ why. (rest : List SqlRow) → Reads (Err why) (read_rows load_in table.old (row.now ∷ rest))) }
-{
-    match decode_load(row) {
-        None => Err(OpenFault::Damaged),
-        Some((id, place)) => {
-            if !table.insert_new(id, place)? {
-                return Err(OpenFault::Damaged);
-            }
-            Ok(())
-        }
-    }
-}
-
-/// The table that these rows encode.
-pub fn places_in_rows(alloc: Global, rows: &[Row]) -> Result<ByName<Place>, OpenFault>
-    ensures { Reads result (read_rows load_in map.empty rows.now) }
-{
-    let mut table = ByName::new(alloc);
-    for row in rows {
-        take_place(&mut table, row)?;
     }
     Ok(table)
 }

@@ -12,9 +12,9 @@ ghost use Rattle.agv_schema.specs.DeskRows.{AreKeyed, Placing, StandApart, table
 ghost use Rattle.agv_schema.specs.Errors.{IsOfStore};
 ghost use Rattle.agv_schema.specs.Connections.{HasStorageCause};
 ghost use Rattle.agv_row_reading.specs.Rowids.{ShowRowids, TellsKeyed, TellsKeyedAlone, rowids_text};
-ghost use Rattle.agv_row_reading.specs.WorldAnswers.{AnswersQuery};
+ghost use Rattle.agv_row_queries.specs.WorldAnswers.{AnswersQuery};
 
-use crate::OpenFault;
+use agv_row_queries::OpenFault;
 use agv_rows::decode_value::value_at;
 use agv_schema::table_name::TableName;
 use sqlite::types::ValueRef;

@@ -16,7 +16,7 @@ use Rattle.agv_layout.specs.declared.edge.EdgeEnds.{EdgeEnds}
 use Rattle.agv_order.specs.Trips.{node_at}
 use Rattle.agv_order.specs.WellFormed.{IsEdgeOf}
 use Rattle.agv_order.specs.declared.trip.Trip.{Trip}
-use Rattle.agv_track.specs.Footprints.{along, footprint_of, from_node, once, rest_things, things_by}
+use Rattle.agv_holds.specs.Footprints.{along, footprint_of, from_node, once, rest_things, things_by}
 use Rattle.agv_world.specs.ConsistentTrips.{HasConsistentTrips}
 use Rattle.agv_world.specs.Lawful.{IsLawful}
 use Rattle.agv_world.specs.Maps.{hold_rows, maps_of, standing_of}

@@ -29,7 +29,7 @@ use Rattle.agv_world.specs.declared.key.UseKind.{UseKind}
 use Rattle.agv_world.specs.declared.key.UseKind.TheVariants as used
 use Rattle.agv_world.specs.declared.row.JobRow.{JobRow}
 use Rattle.agv_world.specs.declared.row.VehicleRow.{VehicleRow}
-use Rattle.agv_track.specs.Footprints.{footprint_of}
+use Rattle.agv_holds.specs.Footprints.{footprint_of}
 use Rattle.agv_schema.specs.SchemaNumbers.{desk_seats}
 use Rattle.agv_rows.specs.TypedRows.{AreEnds, IsJobRow, IsPlace, IsStationSite, IsVehicleRow}
 use Rattle.agv_schema.proofs.SpreadRows.{spread_from}

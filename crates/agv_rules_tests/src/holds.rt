@@ -3,7 +3,7 @@
 
 use crate::cases::{check_text, kit, name, part, row, shown, word};
 use agv_header::{Thing, VehicleKey};
-use agv_track::HoldTable;
+use agv_holds::HoldTable;
 use std::alloc::Global;
 use std::process::Abort;
 

@@ -8,10 +8,10 @@ use crate::plans::plan;
 use crate::routes::path_file;
 use crate::trips::{held, message};
 use agv_header::{Thing, VehicleKey};
+use agv_holds::HoldTable;
 use agv_json::order_text;
 use agv_layout::Layout;
 use agv_order::{PlanFault, Trip};
-use agv_track::HoldTable;
 use std::alloc::Global;
 use std::process::Abort;
 

@@ -9,11 +9,12 @@ use crate::cases::{check_text, kit, name, number, number_or_none, part, parts, r
 use crate::layouts::{WAREHOUSE, layout};
 use crate::messages::{header, state_of};
 use agv_header::{Refusal, Thing};
+use agv_holds::{Standing, footprint};
 use agv_json::order_text;
 use agv_layout::Edge;
 use agv_message::{ActKind, InstantKind, OrderMessage, Sequence, StateMessage, Status};
 use agv_order::{Act, Trip};
-use agv_track::{Pending, Standing, footprint, judge, judge_idle};
+use agv_track::{Pending, judge, judge_idle};
 use std::alloc::Global;
 use std::process::Abort;
 use std::str;

@@ -9,8 +9,8 @@
 //!   memory is always clean.
 //!
 //! The crates above it are agv_creation (tables made or recognized), agv_rows (rows in columns), agv_statements (SQL on rows),
-//! agv_changes (what is written), agv_row_reading and agv_world_reading (what is read), agv_queries (what a
-//! floor is asked) and agv_first_schema (the migration from the first schema).
+//! agv_changes (what is written), agv_row_queries, agv_row_reading, agv_table_reading and agv_world_reading (what is read),
+//! agv_queries (what a floor is asked) and agv_first_schema (the migration from the first schema).
 #![tactic(auto)]
 
 pub mod laws;

@@ -7,10 +7,11 @@ use agv_header::{Moment, Name, Refusal};
 use agv_http::{Heard, RequestRef, Routes, answer_bytes, call_of, read_request};
 use agv_json::BodyFault;
 use agv_lawful::TestsLawful;
+use agv_plain_floor::PlainFloor;
 use agv_stock::Place;
 use agv_test_support::fails_at::FailsAt;
 use agv_test_support::lines::{MOMENT, Said, answer_of, asks, parted, request_of, said_in};
-use agv_world::{Fault, PlainFloor, World};
+use agv_world::{Fault, World};
 use std::alloc::Global;
 use std::process::Abort;
 

@@ -14,12 +14,12 @@ use Rattle.agv_desk.specs.Outcomes.{answer_of}
 use Rattle.agv_desk.specs.Step.{answers, step, steps}
 use Rattle.agv_desk.specs.declared.answer.Answer.{Answer}
 use Rattle.agv_desk.specs.declared.call.Call.{Call}
-use Rattle.agv_world_reading.specs.WorldIn.{world_in}
+use Rattle.agv_table_reading.specs.WorldIn.{world_in}
 use Rattle.agv_schema.specs.DeskRows.{IsDesk, KeepsOthers, Placing}
 use Rattle.agv_schema.specs.SchemaNumbers.{desk_seats}
 use Rattle.agv_schema.specs.Connections.{IsClean, IsLater, IsOpen}
 use Rattle.agv_schema.proofs.Later.{later_by, later_refl, later_trans}
-use Rattle.agv_store.specs.Floors.{Keyed, Knows, world_at}
+use Rattle.agv_keyed_floor.specs.Floors.{Keyed, Knows, world_at}
 use Rattle.agv_store.specs.Running.{HasDatabase, IsRun, IsStopped, LeavesLast, stopped_end, world_till}
 use Rattle.agv_store.specs.Serving.{FoundIn, IsServedBy, LeavesAll, LeavesCall, world_after}
 use Rattle.agv_store.proofs.Crashes.{either, has_weaker, known}

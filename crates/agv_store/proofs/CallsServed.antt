@@ -23,15 +23,15 @@ use Rattle.agv_desk.specs.Outcomes.{answer_of}
 use Rattle.agv_desk.specs.declared.answer.Answer.{Answer}
 use Rattle.agv_desk.specs.declared.answer.Decision.{Decision}
 use Rattle.agv_desk.specs.declared.call.Call.{Call}
-use Rattle.agv_world_reading.specs.WorldIn.{world_in}
+use Rattle.agv_table_reading.specs.WorldIn.{world_in}
 use Rattle.agv_schema.specs.DeskRows.{KeepsOthers, Placing}
 use Rattle.agv_schema.specs.SchemaNumbers.{desk_seats}
 use Rattle.agv_schema.specs.declared.table_name.TableName.{TableName}
 use Rattle.agv_schema.specs.Connections.{IsClean, IsOpen}
 use Rattle.agv_schema.proofs.Later.{later_by}
-use Rattle.agv_store.specs.Floors.{IsAsked, Keyed, Knows, facts_of, world_at}
+use Rattle.agv_keyed_floor.specs.Floors.{IsAsked, Keyed, Knows, facts_of, world_at}
 use Rattle.agv_store.specs.Serving.{Decides, FoundIn, IsServedBy, LeavesAll, LeavesCall, outcome_in, world_after}
-use Rattle.agv_store.proofs.Asked.{clean_before}
+use Rattle.agv_keyed_floor.proofs.Asked.{clean_before}
 use Rattle.agv_store.proofs.Writing.{answer_decided}
 
 -- other tables keep their rows where nothing changes

@@ -11,7 +11,7 @@ use Rattle.agv_creation.specs.DeskTables.{LeavesDesk}
 use Rattle.agv_world_reading.specs.NewWorld.{KnowsNothing}
 use Rattle.agv_creation.specs.NewDesk.{MadeDesksStand, StandsNew}
 use Rattle.agv_schema.specs.Connections.{IsClean, IsOpen}
-use Rattle.agv_store.specs.Floors.{Knows, world_at}
+use Rattle.agv_keyed_floor.specs.Floors.{Knows, world_at}
 use Rattle.agv_store.specs.Migration.{FirstFound, LeavesMigrated}
 use Rattle.agv_store.specs.Opening.{CanBeMade}
 use Rattle.agv_store.specs.Running.{HasDatabase}

@@ -1,5 +1,5 @@
 -- A decision over a connection to the desk's tables.
-use Rattle.std.proofs.Common.{◌≡◌, ℕ, Bool, false, Result, Ok, Err, IsErrAnd, arith, ◌∙◌, ap, refl, sym, subst}
+use Rattle.std.proofs.Common.{◌≡◌, ℕ, Bool, false, Result, Ok, Err, arith, ◌∙◌, ap, refl, sym, subst}
 use Rattle.sqlite_trees.specs.declared.store.Store.{Ghosts}
 use Rattle.agv_header.specs.Moment.{IsMoment}
 use Rattle.agv_world.specs.Asks.{Answers, IsFaulted, IsStill, Kept, failed_after}
@@ -20,8 +20,8 @@ use Rattle.agv_desk.specs.WellTyped.{IsSeats, IsWellTyped}
 use Rattle.agv_desk.specs.declared.answer.Decision.{Decision}
 use Rattle.agv_desk.specs.declared.call.Call.{Call}
 use Rattle.agv_schema.specs.SchemaNumbers.{desk_seats}
-use Rattle.agv_store.specs.Flags.{EndsAs}
-use Rattle.agv_store.specs.Floors.{Keyed, facts_of, world_at}
+use Rattle.agv_keyed_floor.specs.Flags.{EndsAs}
+use Rattle.agv_keyed_floor.specs.Floors.{Keyed, facts_of, world_at}
 use Rattle.agv_store.specs.Serving.{Decides, outcome_in, world_after}
 
 -- a decision in a lawful world is that of the call
@@ -37,11 +37,6 @@ decides_in order served keeps at moment call typed world decision decides change
   changes = changes (order desk_seats world (vehicles_of lawful));
   lawful = keeps desk_seats (omega arith, omega arith) world at call lawful moment typed;
 }
-
--- a fault that was passed on
-pub err_of : {B : Type 0} (q : Result B Fault) (why : Fault) → IsErrAnd q (λ made. made ≡ why) → q ≡ Err why
-err_of (Ok b) why is = absurd is
-err_of (Err made) why is = ap Err is
 
 ends_by : (B : Type 0) (why : Fault) → EndsAs {A = B} (Err why) (failed_after why false)
 ends_by B machine.Memory = refl

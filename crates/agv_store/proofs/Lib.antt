@@ -1,12 +1,8 @@
-mod Asked
 mod CallsInTurn
 mod CallsServed
 mod Crashes
 mod Deciding
 mod Found
-mod InTurn
-mod Kept
 mod Moving
-mod ReportLists
 mod Reporting
 mod Writing

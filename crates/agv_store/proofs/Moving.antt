@@ -18,11 +18,11 @@ use Rattle.agv_creation.specs.declared.making_fault.MakingFault.{MakingFault}
 use Rattle.agv_creation.specs.declared.making_fault.MakingFault.TheVariants as making
 use Rattle.agv_known.specs.Known.{IsKnownIn}
 use Rattle.agv_known.specs.declared.known.Known.{Known}
-use Rattle.agv_store.specs.Floors.{IsAsked, IsConsistent, Knows, world_at}
+use Rattle.agv_keyed_floor.specs.Floors.{IsAsked, IsConsistent, Knows, world_at}
 use Rattle.agv_store.specs.Migration.{CanBeMigrated, CannotBeMigrated, FindsFirstDesk, FirstFound, LeavesMigrated, Migrates}
 use Rattle.agv_store.specs.Opening.{IsDamaged, IsStorage, Opening, of_making}
-use Rattle.agv_row_reading.specs.declared.open_fault.OpenFault.{OpenFault}
-use Rattle.agv_row_reading.specs.declared.open_fault.OpenFault.TheVariants as fault
+use Rattle.agv_row_queries.specs.declared.open_fault.OpenFault.{OpenFault}
+use Rattle.agv_row_queries.specs.declared.open_fault.OpenFault.TheVariants as fault
 use Rattle.agv_store.proofs.Found.{TellsItsWorld}
 
 -- ---- a refusal

@@ -9,7 +9,7 @@ use Rattle.agv_world.specs.Worlds.{World}
 use Rattle.agv_world.specs.declared.fault.Fault.{Fault}
 use Rattle.agv_schema.specs.SchemaNumbers.{desk_seats}
 use Rattle.agv_schema.specs.Connections.{IsClean, IsOpen}
-use Rattle.agv_store.specs.Floors.{IsAsked, Keyed, Knows, facts_of, world_at}
+use Rattle.agv_keyed_floor.specs.Floors.{IsAsked, Keyed, Knows, facts_of, world_at}
 use Rattle.agv_store.specs.Serving.{LeavesAll}
 use Rattle.agv_store.proofs.CallsServed.{asked_till, fails_again, faulted_till, knows_before, same_now, stays_failed}
 

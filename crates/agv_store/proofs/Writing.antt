@@ -22,18 +22,18 @@ use Rattle.agv_desk.specs.Step.{step}
 use Rattle.agv_desk.specs.declared.answer.Decision.{Decision}
 use Rattle.agv_desk.specs.declared.call.Call.{Call}
 use Rattle.agv_changes.specs.ChangesMade.{ChangesWorlds, LeavesChanges, MakesChanges}
-use Rattle.agv_row_reading.specs.WorldAnswers.{HasWorld}
-use Rattle.agv_world_reading.specs.WorldIn.{world_in}
+use Rattle.agv_row_queries.specs.WorldAnswers.{HasWorld}
+use Rattle.agv_table_reading.specs.WorldIn.{world_in}
 use Rattle.agv_schema.specs.DeskRows.{Holds, KeepsOthers, Placing}
 use Rattle.agv_rows.specs.Rows.{row_lists, rows_of}
 use Rattle.agv_schema.specs.SchemaNumbers.{desk_seats}
 use Rattle.agv_schema.specs.Connections.{IsClean, IsOpen}
 use Rattle.agv_schema.proofs.Later.{later_by}
-use Rattle.agv_desk.specs.DecisionEnds.{failed_by}
+use Rattle.agv_world.specs.Asks.{failed_by}
 use Rattle.agv_known.specs.Known.{Follows, IsKnownIn}
 use Rattle.agv_known.specs.declared.known.Known.{Known}
-use Rattle.agv_store.specs.Flags.{doubted_by}
-use Rattle.agv_store.specs.Floors.{IsConsistent, Keyed, Knows, world_at}
+use Rattle.agv_keyed_floor.specs.Flags.{doubted_by}
+use Rattle.agv_keyed_floor.specs.Floors.{IsConsistent, Keyed, Knows, world_at}
 use Rattle.agv_store.specs.Serving.{Decides, IsServedBy, LeavesCall, outcome_in, world_after}
 
 pub answer_decided : (outcome : Outcome) → (decided outcome).answer ≡ answer_of outcome

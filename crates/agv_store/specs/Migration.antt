@@ -13,9 +13,9 @@ use Rattle.agv_schema.specs.DeskRows.{Placing}
 use Rattle.agv_schema.specs.Connections.{HasStorageCause, IsClean, IsOpen}
 use Rattle.agv_known.specs.Known.{IsKnownIn}
 use Rattle.agv_known.specs.declared.known.Known.{Known}
-use Rattle.agv_store.specs.Floors.{IsAsked, Keyed, Knows}
-use Rattle.agv_row_reading.specs.declared.open_fault.OpenFault.{OpenFault}
-use Rattle.agv_row_reading.specs.declared.open_fault.OpenFault.TheVariants as fault
+use Rattle.agv_keyed_floor.specs.Floors.{IsAsked, Keyed, Knows}
+use Rattle.agv_row_queries.specs.declared.open_fault.OpenFault.{OpenFault}
+use Rattle.agv_row_queries.specs.declared.open_fault.OpenFault.TheVariants as fault
 
 -- the database can't be migrated: it has the first schema's rows of no lawful world, or the tables that the second schema has besides can't be made beside what it has
 abbrev pub CannotBeMigrated : Database → Type 0

@@ -4,7 +4,7 @@ use Rattle.sqlite_trees.specs.declared.store.Store.{Ghosts}
 use Rattle.sqlite_schema.specs.declared.schema.Schema.{Schema}
 use Rattle.sqlite.specs.Held.{Held, state}
 use Rattle.agv_world.specs.Worlds.{empty_world}
-use Rattle.agv_row_reading.specs.WorldAnswers.{HasNoWorld}
+use Rattle.agv_row_queries.specs.WorldAnswers.{HasNoWorld}
 use Rattle.agv_creation.specs.declared.making_fault.MakingFault.{MakingFault}
 use Rattle.agv_creation.specs.declared.making_fault.MakingFault.TheVariants as making
 use Rattle.agv_creation.specs.DeskSchema.{is_name_taken}
@@ -13,9 +13,9 @@ use Rattle.agv_creation.specs.NewDesk.{AllowsDesk}
 use Rattle.agv_schema.specs.Connections.{HasStorageCause, IsClean, IsOpen}
 use Rattle.agv_known.specs.Known.{IsKnownIn}
 use Rattle.agv_known.specs.declared.known.Known.{Known}
-use Rattle.agv_store.specs.Floors.{IsAsked, Keyed, Knows, world_at}
-use Rattle.agv_row_reading.specs.declared.open_fault.OpenFault.{OpenFault}
-use Rattle.agv_row_reading.specs.declared.open_fault.OpenFault.TheVariants as fault
+use Rattle.agv_keyed_floor.specs.Floors.{IsAsked, Keyed, Knows, world_at}
+use Rattle.agv_row_queries.specs.declared.open_fault.OpenFault.{OpenFault}
+use Rattle.agv_row_queries.specs.declared.open_fault.OpenFault.TheVariants as fault
 
 -- why no desk is opened where its tables aren't made
 abbrev pub of_making : MakingFault → OpenFault

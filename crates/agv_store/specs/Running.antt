@@ -13,7 +13,7 @@ use Rattle.agv_desk.specs.declared.call.Call.{Call}
 use Rattle.agv_schema.specs.DeskRows.{IsDesk, KeepsOthers, Placing}
 use Rattle.agv_schema.specs.SchemaNumbers.{desk_seats}
 use Rattle.agv_schema.specs.Connections.{IsLater, IsOpen}
-use Rattle.agv_store.specs.Floors.{Keyed, Knows, world_at}
+use Rattle.agv_keyed_floor.specs.Floors.{Keyed, Knows, world_at}
 use Rattle.agv_store.specs.Serving.{FoundIn}
 
 -- the world after the first calls of the list

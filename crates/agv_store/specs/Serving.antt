@@ -13,10 +13,10 @@ use Rattle.agv_desk.specs.Step.{step}
 use Rattle.agv_desk.specs.declared.answer.Answer.{Answer}
 use Rattle.agv_desk.specs.declared.answer.Decision.{Decision}
 use Rattle.agv_desk.specs.declared.call.Call.{Call}
-use Rattle.agv_row_reading.specs.WorldAnswers.{HasWorld}
+use Rattle.agv_row_queries.specs.WorldAnswers.{HasWorld}
 use Rattle.agv_schema.specs.DeskRows.{IsDesk, KeepsOthers, Placing}
 use Rattle.agv_schema.specs.SchemaNumbers.{desk_seats}
-use Rattle.agv_store.specs.Floors.{Knows, world_at}
+use Rattle.agv_keyed_floor.specs.Floors.{Knows, world_at}
 
 -- what the table of calls gives for a call at a moment, in this world
 abbrev pub outcome_in : World → ℕ → Call → Outcome

@@ -4,13 +4,14 @@ ghost use Rattle.sqlite.specs.Held.{state};
 ghost use Rattle.sqlite.specs.State.{Survives};
 ghost use Rattle.agv_world.specs.declared.fault.Fault.TheVariants as fault;
 ghost use Rattle.agv_schema.specs.Connections.{IsClean, IsOpen};
-ghost use Rattle.agv_store.specs.Flags.{EndsAs};
-ghost use Rattle.agv_store.specs.Floors.{Knows, world_at};
+ghost use Rattle.agv_keyed_floor.specs.Flags.{EndsAs};
+ghost use Rattle.agv_keyed_floor.specs.Floors.{Knows, world_at};
 ghost use Rattle.agv_store.specs.Serving.{IsServedBy, LeavesAll, LeavesCall};
 
-use crate::keyed_floor::KeyedFloor;
+use crate::serving::serve;
 use agv_desk::{Answer, Call};
 use agv_header::Moment;
+use agv_keyed_floor::KeyedFloor;
 use agv_world::Fault;
 use sqlite::{Alter, Connection};
 use std::marker::Model;
@@ -26,7 +27,7 @@ pub struct Desk<S: Alter> {
 }
 
 impl<S: Alter> Model for Desk<S> {
-    ghost use Rattle.agv_store.specs.Floors.{Keyed, keyed_code};
+    ghost use Rattle.agv_keyed_floor.specs.Floors.{Keyed, keyed_code};
 
     ghost Value = { Keyed S };
 
@@ -74,7 +75,7 @@ impl<S: Alter + Drop> Desk<S> {
         ensures fails { self.old.failed ≡ true → self.new.failed ≡ true }
         ensures stopped { self.old.failed ≡ true → (result ≡ Err fault.Storage) × (self.new ≡ self.old) }
     {
-        self.floor.serve(at, call)
+        serve(&mut self.floor, at, call)
     }
 
     /// The connection, with the desk's tables in it.

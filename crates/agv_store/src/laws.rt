@@ -13,7 +13,7 @@ ghost use Rattle.agv_desk.specs.declared.answer.Answer.{Answer};
 ghost use Rattle.agv_desk.specs.declared.call.Call.{Call};
 ghost use Rattle.agv_creation.specs.DeskTables.{LeavesDesk};
 ghost use Rattle.agv_schema.specs.Connections.{IsClean, IsOpen, MoreFaults};
-ghost use Rattle.agv_store.specs.Floors.{Knows, world_at};
+ghost use Rattle.agv_keyed_floor.specs.Floors.{Knows, world_at};
 ghost use Rattle.agv_store.specs.Migration.{FirstFound, LeavesMigrated};
 ghost use Rattle.agv_store.specs.Opening.{CanBeMade};
 ghost use Rattle.agv_store.specs.Running.{HasDatabase, IsRun, world_till};

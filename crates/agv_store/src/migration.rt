@@ -8,14 +8,14 @@ ghost use Rattle.agv_store.specs.Migration.{CanBeMigrated, CannotBeMigrated, Fin
 ghost use Rattle.agv_store.specs.Opening.{IsDamaged, IsStorage, left_by};
 
 use crate::desk::Desk;
-use crate::keyed_floor::KeyedFloor;
 use crate::opening::of_making;
 use agv_first_schema::table_moving::move_tables;
 use agv_first_schema::world_finding::find_first_world;
+use agv_keyed_floor::KeyedFloor;
 use agv_known::Known;
-use agv_row_reading::OpenFault;
+use agv_row_queries::OpenFault;
+use agv_table_reading::world_laws::a_database_tells_its_world;
 use agv_world::World;
-use agv_world_reading::world_laws::a_database_tells_its_world;
 use sqlite::{Alter, Connection};
 use std::alloc::Global;
 

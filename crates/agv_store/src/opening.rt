@@ -7,29 +7,30 @@ ghost use Rattle.agv_world.specs.Kept.{Keeps};
 ghost use Rattle.agv_world.specs.Lawful.{IsLawful};
 ghost use Rattle.agv_world.specs.Maps.{maps_of};
 ghost use Rattle.agv_world.specs.Worlds.{World as WorldOf};
-ghost use Rattle.agv_row_reading.specs.WorldAnswers.{HasNoWorld};
+ghost use Rattle.agv_row_queries.specs.WorldAnswers.{HasNoWorld};
 ghost use Rattle.agv_creation.specs.DeskTables.{LeavesDesk};
 ghost use Rattle.agv_schema.specs.SchemaNumbers.{desk_seats};
 ghost use Rattle.agv_schema.specs.Connections.{HasStorageCause, IsClean, IsOpen};
 ghost use Rattle.agv_store.specs.Opening.{Adopts, CanBeMade, Finds, IsDamaged, IsStorage, Makes, left_by, of_making};
 
 use crate::desk::Desk;
-use crate::keyed_floor::KeyedFloor;
 use agv_creation::MakingFault;
 use agv_creation::desk_tables::{NAMES, is_any_used, make_desk_tables};
 use agv_creation::making_laws::made_desks_stand;
 use agv_creation::standing_tables::tables_stand;
 use agv_creation::tables_beside::allows_desk;
 use agv_header::Memory;
+use agv_keyed_floor::KeyedFloor;
 use agv_known::{Counts, Known};
 use agv_lawful::TestsLawful;
+use agv_row_queries::OpenFault;
+use agv_row_reading::HeldThings;
 use agv_row_reading::rowid_reading::query_rowids;
-use agv_row_reading::{HeldThings, OpenFault};
 use agv_schema::DESK_SEATS;
+use agv_table_reading::world_laws::a_database_tells_its_world;
 use agv_world::World;
 use agv_world_reading::new_desk_laws::new_desks_know_nothing;
 use agv_world_reading::reading_laws::tables_read_tell_the_world;
-use agv_world_reading::world_laws::a_database_tells_its_world;
 use agv_world_reading::world_reading::read_world;
 use sqlite::{Alter, Connection};
 use sqlite_schema::schema::Schema;
@@ -158,7 +159,8 @@ fn find_desk<S: Alter>(alloc: Global, conn: &mut Connection<S>) -> Result<Known,
     tables_read_tell_the_world();
     a_database_tells_its_world();
     let _settled = conn.is_autocommit();
-    if !tables_stand(alloc, conn.schema())? {
+    let stand = tables_stand(alloc, conn.schema())?;
+    if !stand {
         return Err(OpenFault::Damaged);
     }
     if !query_rowids(alloc, conn)? {

@@ -10,14 +10,14 @@ ghost use Rattle.agv_reports.specs.Reports.{names_report, report_of, report_text
 ghost use Rattle.agv_reports.specs.declared.report.Report.TheVariants as report;
 ghost use Rattle.agv_schema.specs.SchemaNumbers.{desk_seats};
 ghost use Rattle.agv_schema.specs.Connections.{IsClean, IsOpen};
-ghost use Rattle.agv_store.specs.Flags.{EndsAs};
-ghost use Rattle.agv_store.specs.Floors.{Knows, facts_of, world_at};
+ghost use Rattle.agv_keyed_floor.specs.Flags.{EndsAs};
+ghost use Rattle.agv_keyed_floor.specs.Floors.{Knows, facts_of, world_at};
 ghost use Rattle.agv_store.specs.Serving.{LeavesAll};
 
 use crate::desk::Desk;
-use crate::keyed_floor::KeyedFloor;
 use agv_count::{hold_report, loads_csv, stock_report};
 use agv_desk::Answer;
+use agv_keyed_floor::KeyedFloor;
 use agv_reports::{Report, report_named};
 use agv_world::Fault;
 use sqlite::Alter;
@@ -47,82 +47,83 @@ impl<S: Alter + Drop> Desk<S> {
         ensures fails { self.old.failed ≡ true → self.new.failed ≡ true }
         ensures stopped { names_report told.now ≡ true → self.old.failed ≡ true → (result ≡ Err fault.Storage) × (self.new ≡ self.old) }
     {
-        self.floor.report(told)
+        report(&mut self.floor, told)
     }
 }
 
-impl<S: Alter + Drop> KeyedFloor<S> {
-    // The report that the answer names; none where it names none.
-    pub(crate) fn report(&mut self, told: &Answer) -> Result<Vec<u8>, Fault>
-        ensures tells { IsClean S.Store self.new.held → IfOk result (λ bytes. bytes.items ≡ report_of (world_at S.Store self.old.held) told.now) }
-        ensures knew { IsClean S.Store self.new.held → OnOk result (names_report told.now ≡ true → Knows S.Store self.old.held (world_at S.Store self.old.held)) }
-        ensures knows { IsClean S.Store self.new.held → OnOk result (names_report told.now ≡ true → Knows S.Store self.new.held (world_at S.Store self.old.held)) }
-        ensures unchanged { IsClean S.Store self.new.held → IsOpen S.Store self.new.held → LeavesAll S.Store self.old.held self.new.held }
-        ensures was_open { IsClean S.Store self.new.held → IsOpen S.Store self.new.held → IsOpen S.Store self.old.held }
-        ensures crash { Survives (state S.Store self.old.held) (state S.Store self.new.held) (λ _. ⊥) }
-        ensures silent { names_report told.now ≡ false → IsOkAnd result (λ bytes. bytes.items ≡ []) × (self.new ≡ self.old) }
-        ensures ends { names_report told.now ≡ true → EndsAs result self.new.failed }
-        ensures fails { self.old.failed ≡ true → self.new.failed ≡ true }
-        ensures stopped { names_report told.now ≡ true → self.old.failed ≡ true → (result ≡ Err fault.Storage) × (self.new ≡ self.old) }
-    {
-        self.knows();
-        match report_named(told) {
-            None => Ok(Vec::new(self.alloc)),
-            Some(report) => self.reported(report),
-        }
+// The report that the answer names; none where it names none.
+pub(crate) fn report<S: Alter + Drop>(
+    floor: &mut KeyedFloor<S>,
+    told: &Answer,
+) -> Result<Vec<u8>, Fault>
+    ensures tells { IsClean S.Store floor.new.held → IfOk result (λ bytes. bytes.items ≡ report_of (world_at S.Store floor.old.held) told.now) }
+    ensures knew { IsClean S.Store floor.new.held → OnOk result (names_report told.now ≡ true → Knows S.Store floor.old.held (world_at S.Store floor.old.held)) }
+    ensures knows { IsClean S.Store floor.new.held → OnOk result (names_report told.now ≡ true → Knows S.Store floor.new.held (world_at S.Store floor.old.held)) }
+    ensures unchanged { IsClean S.Store floor.new.held → IsOpen S.Store floor.new.held → LeavesAll S.Store floor.old.held floor.new.held }
+    ensures was_open { IsClean S.Store floor.new.held → IsOpen S.Store floor.new.held → IsOpen S.Store floor.old.held }
+    ensures crash { Survives (state S.Store floor.old.held) (state S.Store floor.new.held) (λ _. ⊥) }
+    ensures silent { names_report told.now ≡ false → IsOkAnd result (λ bytes. bytes.items ≡ []) × (floor.new ≡ floor.old) }
+    ensures ends { names_report told.now ≡ true → EndsAs result floor.new.failed }
+    ensures fails { floor.old.failed ≡ true → floor.new.failed ≡ true }
+    ensures stopped { names_report told.now ≡ true → floor.old.failed ≡ true → (result ≡ Err fault.Storage) × (floor.new ≡ floor.old) }
+{
+    floor.knows();
+    match report_named(told) {
+        None => Ok(Vec::new(floor.alloc)),
+        Some(report) => reported(floor, report),
     }
+}
 
-    // The report, by a store that was open before it and is after it.
-    fn reported(&mut self, report: Report) -> Result<Vec<u8>, Fault>
-        ensures tells { Asks (facts_of S.Store) self.old self.new result (λ world bytes. IsLawful desk_seats world → bytes.items ≡ report_text world report) }
-        ensures knows { IsClean S.Store self.new.held → OnOk result (Knows S.Store self.new.held (world_at S.Store self.new.held)) }
-        ensures ends { EndsAs result self.new.failed }
-        ensures stopped { self.old.failed ≡ true → (result ≡ Err fault.Storage) × (self.new ≡ self.old) }
-    {
-        self.settle()?;
-        let bytes = self.bytes_of(report)?;
-        self.settle()?;
-        Ok(bytes)
-    }
+// The report, by a store that was open before it and is after it.
+fn reported<S: Alter + Drop>(floor: &mut KeyedFloor<S>, report: Report) -> Result<Vec<u8>, Fault>
+    ensures tells { Asks (facts_of S.Store) floor.old floor.new result (λ world bytes. IsLawful desk_seats world → bytes.items ≡ report_text world report) }
+    ensures knows { IsClean S.Store floor.new.held → OnOk result (Knows S.Store floor.new.held (world_at S.Store floor.new.held)) }
+    ensures ends { EndsAs result floor.new.failed }
+    ensures stopped { floor.old.failed ≡ true → (result ≡ Err fault.Storage) × (floor.new ≡ floor.old) }
+{
+    floor.settle()?;
+    let bytes = bytes_of(floor, report)?;
+    floor.settle()?;
+    Ok(bytes)
+}
 
-    // The bytes of the report.
-    fn bytes_of(&mut self, report: Report) -> Result<Vec<u8>, Fault>
-        ensures { Asks (facts_of S.Store) self.old self.new result (λ world bytes. IsLawful desk_seats world → bytes.items ≡ report_text world report) }
-    {
-        match report {
-            Report::Stock => self.stock(),
-            Report::Holds => self.holds(),
-            Report::Loads => self.export(),
-        }
+// The bytes of the report.
+fn bytes_of<S: Alter + Drop>(floor: &mut KeyedFloor<S>, report: Report) -> Result<Vec<u8>, Fault>
+    ensures { Asks (facts_of S.Store) floor.old floor.new result (λ world bytes. IsLawful desk_seats world → bytes.items ≡ report_text world report) }
+{
+    match report {
+        Report::Stock => stock(floor),
+        Report::Holds => holds(floor),
+        Report::Loads => export(floor),
     }
+}
 
-    // The stations with their loads and the live jobs to them, the vehicles with their loads, and how many have left.
-    fn stock(&mut self) -> Result<Vec<u8>, Fault>
-        ensures { Asks (facts_of S.Store) self.old self.new result (λ world bytes. IsLawful desk_seats world → bytes.items ≡ report_text world report.Stock) }
-    {
-        let alloc = self.alloc;
-        let stations = self.stations_told()?;
-        let loads = self.loads_told()?;
-        let vehicles = self.vehicles_told()?;
-        Ok(stock_report(alloc, &stations, &loads, &vehicles)?)
-    }
+// The stations with their loads and the live jobs to them, the vehicles with their loads, and how many have left.
+fn stock<S: Alter + Drop>(floor: &mut KeyedFloor<S>) -> Result<Vec<u8>, Fault>
+    ensures { Asks (facts_of S.Store) floor.old floor.new result (λ world bytes. IsLawful desk_seats world → bytes.items ≡ report_text world report.Stock) }
+{
+    let alloc = floor.alloc;
+    let stations = floor.stations_told()?;
+    let loads = floor.loads_told()?;
+    let vehicles = floor.vehicles_told()?;
+    Ok(stock_report(alloc, &stations, &loads, &vehicles)?)
+}
 
-    // What is held, by whom, and how many nodes and edges there are.
-    fn holds(&mut self) -> Result<Vec<u8>, Fault>
-        ensures { Asks (facts_of S.Store) self.old self.new result (λ world bytes. IsLawful desk_seats world → bytes.items ≡ report_text world report.Holds) }
-    {
-        let alloc = self.alloc;
-        let holds = self.holds_told()?;
-        let things = self.things_counted()?;
-        Ok(hold_report(alloc, &holds, things)?)
-    }
+// What is held, by whom, and how many nodes and edges there are.
+fn holds<S: Alter + Drop>(floor: &mut KeyedFloor<S>) -> Result<Vec<u8>, Fault>
+    ensures { Asks (facts_of S.Store) floor.old floor.new result (λ world bytes. IsLawful desk_seats world → bytes.items ≡ report_text world report.Holds) }
+{
+    let alloc = floor.alloc;
+    let holds = floor.holds_told()?;
+    let things = floor.things_counted()?;
+    Ok(hold_report(alloc, &holds, things)?)
+}
 
-    // Where each load is.
-    fn export(&mut self) -> Result<Vec<u8>, Fault>
-        ensures { Asks (facts_of S.Store) self.old self.new result (λ world bytes. bytes.items ≡ report_text world report.Loads) }
-    {
-        let alloc = self.alloc;
-        let loads = self.loads_told()?;
-        Ok(loads_csv(alloc, &loads)?)
-    }
+// Where each load is.
+fn export<S: Alter + Drop>(floor: &mut KeyedFloor<S>) -> Result<Vec<u8>, Fault>
+    ensures { Asks (facts_of S.Store) floor.old floor.new result (λ world bytes. bytes.items ≡ report_text world report.Loads) }
+{
+    let alloc = floor.alloc;
+    let loads = floor.loads_told()?;
+    Ok(loads_csv(alloc, &loads)?)
 }

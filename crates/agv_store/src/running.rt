@@ -1,7 +1,7 @@
 //! A list of calls is served, up to the first fault.
 ghost use Rattle.std.specs.Prelude.{◌≡◌, true, false, length, vec_capacity};
 ghost use Rattle.agv_schema.specs.Connections.{IsClean};
-ghost use Rattle.agv_store.specs.Floors.{Knows, world_at};
+ghost use Rattle.agv_keyed_floor.specs.Floors.{Knows, world_at};
 ghost use Rattle.agv_store.specs.Running.{HasAnswered, HasReserved, IsRun, IsStopped, LeavesLast, RunEndsAs};
 
 use crate::desk::Desk;
@@ -9,8 +9,8 @@ use agv_changes::change_laws::other_tables_stay;
 use agv_desk::laws::calls::serves_in_turn;
 use agv_desk::{Answer, Call};
 use agv_header::Moment;
+use agv_table_reading::world_laws::a_database_tells_its_world;
 use agv_world::Fault;
-use agv_world_reading::world_laws::a_database_tells_its_world;
 use sqlite::Alter;
 
 impl<S: Alter + Drop> Desk<S> {

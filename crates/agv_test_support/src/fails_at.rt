@@ -6,8 +6,9 @@ use agv_header::{Name, Thing, VehicleKey};
 use agv_layout::{Layout, StationSite};
 use agv_message::Sequence;
 use agv_order::Trip;
+use agv_plain_floor::PlainFloor;
 use agv_stock::Place;
-use agv_world::{Counted, Fault, Floor, JobRow, PlainFloor, UseKind, VehicleRow};
+use agv_world::{Counted, Fault, Floor, JobRow, UseKind, VehicleRow};
 
 /// A world in memory whose store fails once it has answered so many questions.
 #[derive(Drop)]

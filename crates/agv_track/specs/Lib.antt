@@ -4,9 +4,4 @@ pub mod Acts
 pub mod ActionId
 pub mod Judgements
 pub mod Idle
-pub mod Footprints
-pub mod OrderedSet
-pub mod HoldCode
-pub mod Holders
-pub mod Holds
 pub mod Progressed

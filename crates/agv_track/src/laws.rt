@@ -1,32 +1,15 @@
 //! What holds of the definitions that the contracts of this crate cite, whatever the code does.
 //! Each function does nothing: its clause is the law.
-ghost use Rattle.std.specs.Prelude.{◌≡◌, ◌≤◌, ◌↔◌, Contains, length, IsTrue, None, Option, Ok};
-ghost use Rattle.std.specs.List.{IsDistinct};
-ghost use Rattle.agv_header.specs.ThingOrder.{thing_eq};
-ghost use Rattle.agv_header.specs.declared.key.Thing.{Thing};
+ghost use Rattle.std.specs.Prelude.{◌≡◌, ◌≤◌, length, IsTrue, None, Option, Ok};
 ghost use Rattle.agv_layout.specs.Layout.{Layout as Plan};
 ghost use Rattle.agv_message.specs.declared.state.StateMessage.{StateMessage};
 ghost use Rattle.agv_order.specs.WellFormed.{IsUnderWay, IsWellFormed, is_over};
 ghost use Rattle.agv_order.specs.declared.act.Act.{Act};
 ghost use Rattle.agv_order.specs.declared.trip.Trip.{Trip};
-ghost use Rattle.agv_track.specs.Footprints.{Occupies, IsOnBase, footprint_of};
 ghost use Rattle.agv_track.specs.Judgements.{judged};
 ghost use Rattle.agv_track.specs.Progressed.{progressed, ActGoesOn, Advances};
 ghost use Rattle.agv_track.specs.declared.pending.Pending.{Pending};
 ghost use Rattle.agv_track.specs.declared.progress.Progress.{Progress};
-ghost use Rattle.agv_track.specs.declared.standing.Standing.{Standing};
-
-/// A footprint lists exactly the nodes and edges that the vehicle holds, where its trip, if it has
-/// one, has not passed the last node that is released.
-pub fn lists_what_is_held()
-    ensures { (standing : Standing) → IsOnBase standing.trip → (held : Thing)
-        → Contains (footprint_of standing) held ↔ Occupies standing held }
-{}
-
-/// A footprint lists no node or edge twice.
-pub fn lists_each_once()
-    ensures { (standing : Standing) → IsDistinct thing_eq (footprint_of standing) }
-{}
 
 /// A trip that is under way advances by each state that is accepted: its base and its plan stay, the
 /// node and the statuses only go forward, within what is released, and it is under way afterwards or

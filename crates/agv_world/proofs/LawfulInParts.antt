@@ -4,8 +4,8 @@ use Rattle.agv_header.specs.declared.key.Thing.{Thing}
 use Rattle.agv_header.specs.declared.key.VehicleKey.{VehicleKey}
 use Rattle.agv_order.specs.WellFormed.{IsWellFormed}
 use Rattle.agv_order.specs.declared.trip.Trip.{Trip}
-use Rattle.agv_track.specs.Footprints.{IsOnBase, Occupies, footprint_of}
-use Rattle.agv_track.proofs.HeldLists.{footprint-held}
+use Rattle.agv_holds.specs.Footprints.{IsOnBase, Occupies, footprint_of}
+use Rattle.agv_holds.proofs.HeldLists.{footprint-held}
 use Rattle.agv_world.specs.ConsistentTrips.{IsHolder, IsVehicle}
 use Rattle.agv_world.specs.Lawful.{IsLawful, IsOccupant}
 use Rattle.agv_world.specs.LawfulParts.{HasLawfulLoads, HasLawfulVehicles}

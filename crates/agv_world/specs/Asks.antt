@@ -24,6 +24,11 @@ abbrev pub failed_after : Fault → Bool → Bool
 failed_after Memory before = before
 failed_after Storage before = true
 
+-- and after a question or a call has ended: a fault of the store says so, and nothing else changes it
+abbrev pub failed_by : {A : Type 0} → Result A Fault → Bool → Bool
+failed_by (Ok answer) before = before
+failed_by (Err why) before = failed_after why before
+
 module _ {S : Type 0} (f : Facts S) where
   -- every question between the two moments had an answer: what is so now was so at the start
   pub record Still (start now : S) : Type 0 where

@@ -25,7 +25,7 @@ use Rattle.agv_stock.specs.Rooms.{is_on}
 use Rattle.agv_stock.specs.declared.job.Phase.TheVariants as phase
 use Rattle.agv_stock.specs.declared.place.Place.{Place}
 use Rattle.agv_stock.specs.declared.place.Place.TheVariants as place
-use Rattle.agv_track.specs.Footprints.{Occupies}
+use Rattle.agv_holds.specs.Footprints.{Occupies}
 use Rattle.agv_world.specs.ConsistentTrips.{IsVehicle, HasTrip, HasOneTripAnOrder}
 use Rattle.agv_world.specs.Questions.{loads_at, loads_on, reserved}
 use Rattle.agv_world.specs.Maps.{standing_of}

@@ -15,8 +15,8 @@ use Rattle.agv_layout.specs.declared.edge.EdgeEnds.{EdgeEnds}
 use Rattle.agv_layout.specs.declared.station.StationSite.{StationSite}
 use Rattle.agv_order.specs.declared.trip.Trip.{Trip}
 use Rattle.agv_stock.specs.declared.place.Place.{Place}
-use Rattle.agv_track.specs.Footprints.{footprint_of}
-use Rattle.agv_track.specs.declared.standing.Standing.{Standing}
+use Rattle.agv_holds.specs.Footprints.{footprint_of}
+use Rattle.agv_holds.specs.declared.standing.Standing.{Standing}
 use Rattle.agv_world.specs.Keys.{leg_cmp, use_cmp}
 use Rattle.agv_header.specs.Spread.{spread}
 use Rattle.agv_world.specs.Worlds.{Vehicle, World}

@@ -1,5 +1,5 @@
 -- The questions to what the desk knows (this project's profile).
-use Rattle.std.specs.Prelude.{ℕ, ◌&&◌, ◌==◌, nat_eq, not, Bool, List, length, filter, find, count_by, Option, None, Some, Result, Ok, Err}
+use Rattle.std.specs.Prelude.{ℕ, ◌&&◌, ◌==◌, nat_eq, not, Bool, List, map, length, filter, find, count_by, Option, None, Some, Result, Ok, Err}
 use Rattle.std.specs.Cmp.Lexicographic.{pointwise}
 use Rattle.std.specs.FinMap as finite
 use Rattle.std.specs.FinSet as set
@@ -8,10 +8,11 @@ use Rattle.std.specs.Option.{option_map, option_and_then}
 use Rattle.agv_header.specs.Name.{name_cmp}
 use Rattle.agv_header.specs.declared.key.Thing.{Thing}
 use Rattle.agv_header.specs.declared.key.VehicleKey.{VehicleKey}
-use Rattle.agv_layout.specs.Layout.{Layout}
+use Rattle.agv_layout.specs.Layout.{Layout, station_of}
 use Rattle.agv_layout.specs.LayoutOf.{layout_of, rows_in}
 use Rattle.agv_layout.specs.declared.fault.LayoutFault.{LayoutFault}
 use Rattle.agv_layout.specs.declared.station.StationSite.{StationSite}
+use Rattle.agv_layout.specs.declared.station.Station.{Station}
 use Rattle.agv_order.specs.declared.trip.Trip.{Trip}
 use Rattle.agv_stock.specs.Phase.{is_live}
 use Rattle.agv_stock.specs.Rooms.{is_at, is_on, room_left}
@@ -81,6 +82,10 @@ reserved_by jobs station = count_by (λ (job : List ℕ × JobRow). is_live_to s
 -- how many places at a station are kept
 unfoldable pub reserved : World → List ℕ → ℕ
 reserved world station = reserved_by world.jobs station
+
+-- the stations in the order of their names, each with the number of live jobs to it
+abbrev pub stations_told : World → List (Station × ℕ)
+stations_told world = map (λ (site : List ℕ × StationSite). (station_of site.0 site.1, reserved world site.0)) (finite.entries world.layout.stations)
 
 -- how many loads more fit at a station: its capacity, less the loads there, less the live jobs to it; none where there is no such station
 unfoldable pub room_at : World → List ℕ → Option ℕ

@@ -12,8 +12,8 @@ use Rattle.agv_layout.specs.Layout.{Layout, edge_of}
 use Rattle.agv_layout.specs.declared.edge.Edge.{Edge}
 use Rattle.agv_layout.specs.declared.edge.EdgeEnds.{EdgeEnds}
 use Rattle.agv_order.specs.declared.trip.Trip.{Trip}
-use Rattle.agv_track.specs.Footprints.{footprint_of}
-use Rattle.agv_track.specs.Holds.{is_in}
+use Rattle.agv_holds.specs.Footprints.{footprint_of}
+use Rattle.agv_holds.specs.Holds.{is_in}
 use Rattle.agv_world.specs.Keys.{use_rank}
 use Rattle.agv_world.specs.Maps.{standing_of}
 use Rattle.agv_world.specs.Worlds.{Vehicle, World}

@@ -6,8 +6,8 @@ use Rattle.agv_header.specs.declared.key.Thing.{Thing}
 use Rattle.agv_header.specs.declared.key.VehicleKey.{VehicleKey}
 use Rattle.agv_layout.specs.declared.edge.Edge.{Edge}
 use Rattle.agv_order.specs.declared.trip.Trip.{Trip}
-use Rattle.agv_track.specs.Footprints.{footprint_of}
-use Rattle.agv_track.specs.Holders.{gained}
+use Rattle.agv_holds.specs.Footprints.{footprint_of}
+use Rattle.agv_holds.specs.Holders.{gained}
 use Rattle.agv_world.specs.Maps.{standing_of, trip_row}
 use Rattle.agv_world.specs.SameRows.{same_row, same_trip_row}
 use Rattle.agv_world.specs.Worlds.{Vehicle, World}

@@ -12,7 +12,7 @@
 //!   maps of a world to those of the world with them ([`change_laws`]).
 //! - A [`Floor`] answers questions to what the desk knows, however it is kept. One clause says of each
 //!   what it answers, what it leaves as it was, and what a fault leaves (`specs/Asks.antt`).
-//!   [`PlainFloor`] answers them from a world in memory, which it borrows (`specs/Told.antt`).
+//!   From a world in memory `agv_plain_floor` answers them, whose tables tell a world (`specs/Told.antt`).
 //! - A world is lawful by `specs/Lawful.antt`; what follows from that is in [`lawful_laws`]. Whether tables are those of a
 //!   lawful world is tested by `agv_lawful`.
 //! - A [`Fault`] says why a question to what the desk knows has no answer.
@@ -25,7 +25,6 @@ mod floor;
 mod key;
 pub mod lawful_laws;
 pub mod laws;
-mod plain_floor;
 mod questions;
 mod row;
 mod tables;
@@ -36,7 +35,6 @@ pub use change::Change;
 pub use fault::Fault;
 pub use floor::{Counted, Floor};
 pub use key::{LegKey, UseKey, UseKind};
-pub use plain_floor::PlainFloor;
 pub use row::{JobRow, Sent, TripRow, VehicleRow};
 pub use tables::{ByLeg, ByName, ByVehicle, Names, Row, UsedNames};
 pub use world::World;

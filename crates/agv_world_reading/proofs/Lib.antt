@@ -1,9 +1,2 @@
-pub mod CapacityTables
-pub mod LayoutAnswers
-pub mod MetaAnswers
 pub mod NewDesks
 pub mod ReadWorld
-pub mod RowsTaken
-pub mod TableAnswers
-pub mod TripTableAnswers
-pub mod WorldIn

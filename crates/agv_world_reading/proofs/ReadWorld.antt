@@ -4,7 +4,7 @@ use Rattle.std.proofs.lemmas.List.Sorted.{IsPermutation-refl}
 use Rattle.std.specs.List.{AllZip}
 use Rattle.sqlite_value.specs.Order.{Row}
 use Rattle.sqlite.specs.Effect.{Database}
-use Rattle.agv_track.specs.Holds.{Holds as Holders}
+use Rattle.agv_holds.specs.Holds.{Holds as Holders}
 use Rattle.agv_rows.specs.TripRows.{acts_of, journeys_of}
 use Rattle.agv_world.specs.Kept.{Keeps}
 use Rattle.agv_world.specs.Maps.{maps_of}

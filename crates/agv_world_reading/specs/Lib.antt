@@ -1,2 +1,1 @@
 pub mod NewWorld
-pub mod WorldIn

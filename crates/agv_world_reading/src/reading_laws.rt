@@ -2,7 +2,7 @@
 ghost use Rattle.std.specs.Prelude.{◌≡◌, List};
 ghost use Rattle.sqlite_value.specs.Order.{Row};
 ghost use Rattle.sqlite.specs.Effect.{Database};
-ghost use Rattle.agv_track.specs.Holds.{Holds as Holders};
+ghost use Rattle.agv_holds.specs.Holds.{Holds as Holders};
 ghost use Rattle.agv_world.specs.Kept.{Keeps};
 ghost use Rattle.agv_world.specs.Maps.{maps_of};
 ghost use Rattle.agv_world.specs.Worlds.{World};

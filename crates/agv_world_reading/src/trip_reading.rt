@@ -11,10 +11,11 @@ ghost use Rattle.agv_rows.specs.Rows.{rows_in};
 ghost use Rattle.agv_row_reading.specs.TablesRead.{TellsAll};
 ghost use Rattle.agv_schema.specs.declared.table_name.TableName.TheVariants as the;
 
-use crate::table_reading::query_jobs;
-use agv_row_reading::OpenFault;
-use agv_row_reading::queried_rows::query_all_rows;
-use agv_row_reading::row_tables::{acts_in_rows, journeys_in_rows};
+use crate::world_tables::query_jobs;
+use agv_row_queries::OpenFault;
+use agv_row_queries::asked_tables::acts_in_rows;
+use agv_row_reading::all_rows::query_all_rows;
+use agv_row_reading::row_tables::journeys_in_rows;
 use agv_rows::trip_laws::rows_tell_trips;
 use agv_rows::trips_told_laws::lawful_rows_tell_trips;
 use agv_rows::{ByAct, JourneyRow, trips_told};

@@ -13,7 +13,7 @@ use Rattle.agv_message.specs.declared.state.StateMessage.{StateMessage}
 use Rattle.agv_order.specs.Trips.{node_at}
 use Rattle.agv_order.specs.WellFormed.{IsUnderWay}
 use Rattle.agv_order.specs.declared.trip.Trip.{Trip}
-use Rattle.agv_track.specs.Footprints.{footprint_of, from_node, once}
+use Rattle.agv_holds.specs.Footprints.{footprint_of, from_node, once}
 use Rattle.agv_track.specs.Judgements.{is_through}
 use Rattle.agv_track.specs.Progressed.{progressed, Advances}
 use Rattle.agv_track.specs.Reached.{reported_node}

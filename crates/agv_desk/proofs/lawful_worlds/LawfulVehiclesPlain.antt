@@ -10,7 +10,7 @@ use Rattle.agv_layout.specs.Rows.{AreNamed}
 use Rattle.agv_layout.specs.declared.row.LayoutRow.{LayoutRow}
 use Rattle.agv_message.specs.declared.instant.InstantKind.{InstantKind}
 use Rattle.agv_message.specs.declared.state.StateMessage.{StateMessage}
-use Rattle.agv_track.specs.Footprints.{footprint_of}
+use Rattle.agv_holds.specs.Footprints.{footprint_of}
 use Rattle.agv_world.specs.ConsistentTrips.{IsVehicle}
 use Rattle.agv_world.specs.Lawful.{IsKey}
 use Rattle.agv_world.specs.LawfulParts.{HasLawfulVehicles, IsVehicleOf}

@@ -1,12 +1,10 @@
 -- What a floor knows as a decision ends.
-use Rattle.std.proofs.Common.{◌≡◌, ◌≢◌, Bool, false, Result, Ok, Err, ap, ◌∙◌}
-use Rattle.std.proofs.lemmas.Bool.{false≢true}
-use Rattle.agv_world.specs.Asks.{Asks, Facts, IsStill, failed_after}
+use Rattle.std.proofs.Common.{◌≡◌, Result, Ok, Err}
+use Rattle.agv_world.specs.Asks.{Asks, Facts, IsStill, failed_by}
 use Rattle.agv_world.specs.Worlds.{World}
 use Rattle.agv_world.specs.declared.fault.Fault.{Fault}
-use Rattle.agv_world.specs.declared.fault.Fault.TheVariants as fault
 use Rattle.agv_world.proofs.lists.Asking.{kept_here, left}
-use Rattle.agv_desk.specs.DecisionEnds.{LeavesWorld, failed_by}
+use Rattle.agv_desk.specs.DecisionEnds.{LeavesWorld}
 
 module _ {S A : Type 0} (f : Facts S) (floor floor_then : S) (says : World → A → Type 0) where
   pub ends_failed : (result : Result A Fault) → Asks f floor floor_then result says → f.failed floor_then ≡ failed_by result (f.failed floor)
@@ -22,7 +20,3 @@ module _ {S A : Type 0} (f : Facts S) (floor floor_then : S) (says : World → A
   pub leaves_world : (result : Result A Fault) → Asks f floor floor_then result says → LeavesWorld f floor floor_then result
   leaves_world (Ok decision) asked = asked.world
   leaves_world (Err why) asked = (left why asked).world
-
--- an answer that isn't a fault of the store
-pub no_storage : {A : Type 0} (result : Result A Fault) → false ≡ failed_by result false → result ≢ Err fault.Storage
-no_storage {A = A} result same is = absurd (false≢true (same ∙ ap (λ (it : Result A Fault). failed_by it false) is))

@@ -8,13 +8,13 @@ use Rattle.agv_layout.specs.LayoutOf.{layout_of, rows_in}
 use Rattle.agv_message.specs.declared.state.StateMessage.{StateMessage}
 use Rattle.agv_order.specs.WellFormed.{IsUnderWay}
 use Rattle.agv_order.specs.declared.trip.Trip.{Trip}
-use Rattle.agv_track.specs.Footprints.{Occupies, IsOnBase, footprint_of}
-use Rattle.agv_track.specs.Holds.{first_held}
+use Rattle.agv_holds.specs.Footprints.{Occupies, IsOnBase, footprint_of}
+use Rattle.agv_holds.specs.Holds.{first_held}
 use Rattle.agv_track.specs.Judgements.{judged}
 use Rattle.agv_track.specs.Progressed.{Advances}
 use Rattle.agv_track.specs.declared.pending.Pending.{Pending}
 use Rattle.agv_track.specs.declared.progress.Progress.{Progress}
-use Rattle.agv_track.specs.declared.standing.Standing.{Standing}
+use Rattle.agv_holds.specs.declared.standing.Standing.{Standing}
 use Rattle.agv_world.specs.Changes.{changed}
 use Rattle.agv_world.specs.ConsistentTrips.{HasTrip, HasOneTripAnOrder, SharesNothing}
 use Rattle.agv_world.specs.Maps.{maps_of, standing_of}

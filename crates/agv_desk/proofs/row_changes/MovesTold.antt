@@ -11,8 +11,8 @@ use Rattle.agv_layout.specs.declared.edge.Edge.{Edge}
 use Rattle.agv_layout.specs.declared.edge.EdgeEnds.{EdgeEnds}
 use Rattle.agv_layout.specs.declared.station.StationSite.{StationSite}
 use Rattle.agv_order.specs.declared.trip.Trip.{Trip}
-use Rattle.agv_track.specs.Footprints.{footprint_of}
-use Rattle.agv_track.specs.Holders.{gained}
+use Rattle.agv_holds.specs.Footprints.{footprint_of}
+use Rattle.agv_holds.specs.Holders.{gained}
 use Rattle.agv_world.specs.Maps.{standing_of, trip_row}
 use Rattle.agv_world.specs.SameRows.{same_row, same_trip_row}
 use Rattle.agv_world.specs.VehicleChanges.{own_changes, trip_changes, hold_changes, row_before, trip_before, held_before}

@@ -9,7 +9,7 @@ use Rattle.agv_layout.specs.declared.edge.Edge.{Edge}
 use Rattle.agv_message.specs.declared.state.StateMessage.{StateMessage}
 use Rattle.agv_order.specs.Trips.{node_at}
 use Rattle.agv_order.specs.declared.trip.Trip.{Trip}
-use Rattle.agv_track.specs.Footprints.{IsOnBase, IsOnTrip, IsHeldBy, IsOnRest, footprint_of}
+use Rattle.agv_holds.specs.Footprints.{IsOnBase, IsOnTrip, IsHeldBy, IsOnRest, footprint_of}
 use Rattle.agv_track.specs.Progressed.{progressed, Advances, IsNextOf}
 use Rattle.agv_track.specs.declared.progress.Progress.{Progress}
 use Rattle.agv_world.specs.Questions.{row_of, trip_of}

@@ -2,8 +2,8 @@
 use Rattle.std.proofs.Common.{◌≡◌, ℕ, List, [], ◌∷◌, ◌++◌, map, Option, None, Some, append_assoc, ap, ◌∙◌}
 use Rattle.agv_header.specs.declared.key.VehicleKey.{VehicleKey}
 use Rattle.agv_order.specs.declared.trip.Trip.{Trip}
-use Rattle.agv_track.specs.Footprints.{footprint_of}
-use Rattle.agv_track.specs.declared.standing.Standing.{Standing}
+use Rattle.agv_holds.specs.Footprints.{footprint_of}
+use Rattle.agv_holds.specs.declared.standing.Standing.{Standing}
 use Rattle.agv_world.specs.VehicleChanges.{hold_changes, own_changes, trip_changes}
 use Rattle.agv_world.specs.Worlds.{World}
 use Rattle.agv_world.specs.declared.change.Change.{Change}

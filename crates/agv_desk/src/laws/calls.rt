@@ -1,5 +1,5 @@
 //! What holds of the rules, for every world and call. Each function's clause says it.
-ghost use Rattle.std.specs.Prelude.{◌≡◌, ◌≢◌, ℕ, true, false, List, [], ◌++◌, Result, Err};
+ghost use Rattle.std.specs.Prelude.{◌≡◌, ℕ, true, false, List, [], ◌++◌};
 ghost use Rattle.std.specs.FinMap as finite;
 ghost use Rattle.std.specs.List.{list_all};
 ghost use Rattle.agv_header.specs.declared.key.VehicleKey.{VehicleKey};
@@ -8,11 +8,7 @@ ghost use Rattle.agv_message.specs.declared.state.StateMessage.{StateMessage as 
 ghost use Rattle.agv_world.specs.Changes.{changed};
 ghost use Rattle.agv_world.specs.Maps.{maps_of};
 ghost use Rattle.agv_world.specs.Worlds.{World};
-ghost use Rattle.agv_world.specs.declared.fault.Fault.{Fault};
-ghost use Rattle.agv_world.specs.declared.fault.Fault.TheVariants as fault;
-ghost use Rattle.agv_world.specs.declared.plain_floor.PlainFloor.{PlainFloor as OfPlainFloor};
 ghost use Rattle.agv_desk.specs.Causes.{is_refusal, moves_for};
-ghost use Rattle.agv_desk.specs.DecisionEnds.{failed_by};
 ghost use Rattle.agv_desk.specs.InOrder.{IsInOrder};
 ghost use Rattle.agv_desk.specs.Moves.{moves_in, moves_made};
 ghost use Rattle.agv_desk.specs.Outcomes.{Effect, Move, Refused, after, answer_of, changes_of, decided, moves_of};
@@ -21,17 +17,16 @@ ghost use Rattle.agv_desk.specs.StateSteps.{take_state};
 ghost use Rattle.agv_desk.specs.Step.{step, steps, answers, moves};
 ghost use Rattle.agv_desk.specs.Unchanged.{ChangesNothing, IsOld, only_tells};
 ghost use Rattle.agv_desk.specs.declared.answer.Answer.TheVariants as answer;
-ghost use Rattle.agv_desk.specs.declared.answer.Decision.{Decision};
 ghost use Rattle.agv_desk.specs.declared.call.Call.{Call};
 ghost use Rattle.agv_desk.specs.declared.call.Call.TheVariants as call;
 
+use agv_holds::laws::lists_what_is_held;
 use agv_layout::laws::gives_itself;
-use agv_track::laws::{advances, lists_what_is_held};
+use agv_track::laws::advances;
 use agv_world::change_laws::{
     follows_a_vehicle, keeps_apart_by_claim, keeps_apart_by_less, keeps_one_trip_further,
     keeps_one_trip_new, keeps_one_trip_without, notes_a_vehicle, sets_the_layout, uses_a_name,
 };
-use agv_world::{Floor, PlainFloor};
 
 /// From a world in order, the rows that a call changes lead to the maps of the world after it.
 pub fn leads_to_the_maps()
@@ -56,15 +51,6 @@ pub fn leads_to_the_maps()
 #[tactic(auto, using(crate::proofs::row_changes::MovesTold::moves_told))]
 pub fn moves_are_told()
     ensures { (effect : Effect) → moves_in (changes_of effect) ≡ moves_made effect }
-{}
-
-/// Over a world in memory no decision is a fault of the store: none that ends as [`decide`](crate::decide) says of the
-/// floor.
-#[tactic(auto, using(crate::proofs::outcomes::DecisionEnds::no_storage))]
-pub fn never_fails_in_memory()
-    ensures { (floor floor_then : OfPlainFloor) (result : Result Decision Fault)
-        → ⟦<PlainFloor<'static> as Floor>⟧.facts.failed floor_then ≡ failed_by result (⟦<PlainFloor<'static> as Floor>⟧.facts.failed floor)
-        → result ≢ Err fault.Storage }
 {}
 
 /// A call that is refused changes nothing.

@@ -7,11 +7,12 @@ ghost use Rattle.agv_desk.specs.Step.{step};
 ghost use Rattle.agv_desk.specs.WellTyped.{IsMoment, IsSeats, IsWellTyped};
 ghost use Rattle.agv_desk.specs.declared.call.Call.{Call};
 
+use agv_holds::laws::lists_what_is_held;
 use agv_layout::laws::{gives_itself, rules_law};
 use agv_order::laws::{
     plans_are_well_formed, plans_go_by_routes, releases_keep_trips_well_formed, stops_twice,
 };
-use agv_track::laws::{advances, lists_what_is_held, stays_well_formed};
+use agv_track::laws::{advances, stays_well_formed};
 use agv_world::change_laws::{
     follows_a_vehicle, keeps_apart_as_before, keeps_apart_by_claim, keeps_apart_by_less,
     keeps_one_trip_as_before, keeps_one_trip_further, keeps_one_trip_new, keeps_one_trip_without,

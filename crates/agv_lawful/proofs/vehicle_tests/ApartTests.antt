@@ -10,8 +10,8 @@ use Rattle.agv_header.specs.KeyOrder.{key_cmp-total, key_cmp-IsAntisymmetric, ke
 use Rattle.agv_header.specs.ThingOrder.{thing_cmp-total, thing_cmp-IsAntisymmetric, thing_eq, thing_eq-equivalence}
 use Rattle.agv_header.specs.declared.key.Thing.{Thing}
 use Rattle.agv_header.specs.declared.key.VehicleKey.{VehicleKey}
-use Rattle.agv_track.specs.Footprints.{footprint_of}
-use Rattle.agv_track.specs.Holds.{Holds, claimed, first_held, is_in, or_further, other_holder}
+use Rattle.agv_holds.specs.Footprints.{footprint_of}
+use Rattle.agv_holds.specs.Holds.{Holds, claimed, first_held, is_in, or_further, other_holder}
 use Rattle.agv_world.specs.ConsistentTrips.{IsHolder, SharesNothing}
 use Rattle.agv_lawful.specs.LawfulTests.{are_apart, can_claim, things_of}
 use Rattle.agv_world.specs.Maps.{standing_of}

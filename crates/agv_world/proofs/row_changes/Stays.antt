@@ -9,8 +9,8 @@ use Rattle.agv_header.specs.ThingOrder.{thing_eq, thing_eq-equivalence, thing_cm
 use Rattle.agv_header.specs.declared.key.Thing.{Thing}
 use Rattle.agv_header.specs.declared.key.VehicleKey.{VehicleKey}
 use Rattle.agv_order.specs.declared.trip.Trip.{Trip}
-use Rattle.agv_track.specs.Footprints.{footprint_of}
-use Rattle.agv_track.specs.Holds.{Holds, is_in, first_held, other_holder, or_further}
+use Rattle.agv_holds.specs.Footprints.{footprint_of}
+use Rattle.agv_holds.specs.Holds.{Holds, is_in, first_held, other_holder, or_further}
 use Rattle.agv_world.specs.ConsistentTrips.{IsVehicle, IsHolder, HasTrip, HasOneTripAnOrder, SharesNothing}
 use Rattle.agv_world.specs.Maps.{maps_of, standing_of}
 use Rattle.agv_world.specs.VehicleChanges.{with_vehicle}

@@ -13,8 +13,8 @@ use Rattle.agv_header.specs.declared.key.Thing.{Thing}
 use Rattle.agv_header.specs.declared.key.VehicleKey.{VehicleKey}
 use Rattle.agv_layout.specs.declared.edge.Edge.{Edge}
 use Rattle.agv_order.specs.declared.trip.Trip.{Trip}
-use Rattle.agv_track.specs.Holders.{gained}
-use Rattle.agv_track.specs.Holds.{is_in}
+use Rattle.agv_holds.specs.Holders.{gained}
+use Rattle.agv_holds.specs.Holds.{is_in}
 use Rattle.agv_world.specs.KeyOrders.{leg_cmp-total, leg_cmp-IsAntisymmetric}
 use Rattle.agv_world.specs.Keys.{leg_cmp}
 use Rattle.agv_world.specs.Maps.{Maps, rows_of_trip, trip_rows, trip_row, leg_rows, legs_of_trip, hold_rows, vehicle_rows}

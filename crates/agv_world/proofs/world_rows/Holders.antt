@@ -10,8 +10,8 @@ use Rattle.agv_header.specs.KeyOrder.{key_cmp-total, key_cmp-IsAntisymmetric}
 use Rattle.agv_header.specs.ThingOrder.{thing_cmp-total, thing_cmp-IsAntisymmetric}
 use Rattle.agv_header.specs.declared.key.Thing.{Thing}
 use Rattle.agv_header.specs.declared.key.VehicleKey.{VehicleKey}
-use Rattle.agv_track.specs.Footprints.{footprint_of}
-use Rattle.agv_track.specs.Holds.{is_in}
+use Rattle.agv_holds.specs.Footprints.{footprint_of}
+use Rattle.agv_holds.specs.Holds.{is_in}
 use Rattle.agv_world.specs.ConsistentTrips.{IsHolder, SharesNothing}
 use Rattle.agv_world.specs.Maps.{maps_of, hold_rows, standing_of}
 use Rattle.agv_world.specs.Worlds.{Vehicle, World}

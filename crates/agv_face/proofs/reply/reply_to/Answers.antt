@@ -1,7 +1,7 @@
 use Rattle.std.proofs.Common.{ap}
 use Rattle.sqlite.specs.Held.{state}
 use Rattle.agv_desk.specs.declared.answer.Answer.TheVariants as answer
-use Rattle.agv_store.specs.Floors.{world_at}
+use Rattle.agv_keyed_floor.specs.Floors.{world_at}
 use Rattle.agv_face.proofs.Serving.{crash_by, reached_by, reached_none, refused_so, survives_still}
 use Rattle.agv_face.proofs.reply.reply_to.Goals as goal
 

@@ -2,10 +2,10 @@ use Rattle.std.proofs.Common.{◌≡◌, true, arith, ap, sym, subst, ◌∙◌}
 use Rattle.sqlite.proofs.StateLemmas.{survives_then}
 use Rattle.sqlite.specs.Held.{state}
 use Rattle.agv_reports.specs.Reports.{names_report, report_of}
-use Rattle.agv_store.specs.Floors.{Keyed, Knows, world_at}
+use Rattle.agv_keyed_floor.specs.Floors.{Keyed, Knows, world_at}
 use Rattle.agv_schema.specs.Connections.{IsClean}
 use Rattle.agv_schema.proofs.Later.{later_by}
-use Rattle.agv_world_reading.specs.WorldIn.{world_in}
+use Rattle.agv_table_reading.specs.WorldIn.{world_in}
 use Rattle.agv_world.specs.Worlds.{World}
 use Rattle.agv_face.proofs.Serving.{by_both, later_then, on_err, same_report, stays, true_where, world_known}
 use Rattle.agv_face.specs.Replies.{IsLaterDesk}

@@ -1,6 +1,6 @@
 use Rattle.std.proofs.Common.{◌≡◌, drop}
 use Rattle.std.specs.FinMap as map
-use Rattle.agv_row_reading.specs.ReadTables.{read_rows}
+use Rattle.agv_row_queries.specs.ReadTables.{read_rows}
 use Rattle.agv_first_schema.specs.FirstColumns.{trip_with}
 use Rattle.agv_first_schema.proofs.trip_reading.trips_in_rows.Given as goal
 

@@ -1,5 +1,5 @@
 use Rattle.std.proofs.Common.{Err, sym, subst}
-use Rattle.agv_track.specs.Holds.{Holds as Holders}
+use Rattle.agv_holds.specs.Holds.{Holds as Holders}
 use Rattle.agv_world.specs.declared.world.World.{World as Tables}
 use Rattle.agv_first_schema.specs.FirstFound.{FirstTablesStand}
 use Rattle.agv_first_schema.specs.FirstTold.{Finds, TellFirst, rows_listed}

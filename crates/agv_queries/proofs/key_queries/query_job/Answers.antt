@@ -1,10 +1,10 @@
 use Rattle.std.proofs.Common.{refl, sym, ap, subst, ◌∙◌}
 use Rattle.agv_rows.specs.Columns.{job_in}
 use Rattle.agv_schema.specs.DeskRows.{table_for}
-use Rattle.agv_row_reading.specs.FirstRow.{first_in}
+use Rattle.agv_row_queries.specs.FirstRow.{first_in}
 use Rattle.agv_statements.specs.RowQueries.{FitsColumns}
 use Rattle.agv_schema.specs.declared.table_name.TableName.TheVariants as the
-use Rattle.agv_row_reading.proofs.Asking.{follows, passes}
+use Rattle.agv_row_queries.proofs.Asking.{follows, passes}
 use Rattle.agv_queries.proofs.KeyAnswers.{tells_job}
 use Rattle.agv_queries.proofs.key_queries.query_job.Goals as goal
 

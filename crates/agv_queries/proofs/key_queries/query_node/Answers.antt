@@ -2,7 +2,7 @@ use Rattle.std.proofs.Common.{◌==◌, ℕ, Ok, not, refl, sym, ap, subst, ◌�
 use Rattle.agv_schema.specs.DeskRows.{table_for}
 use Rattle.agv_statements.specs.RowQueries.{FitsColumns}
 use Rattle.agv_schema.specs.declared.table_name.TableName.TheVariants as the
-use Rattle.agv_row_reading.proofs.Asking.{follows, passes}
+use Rattle.agv_row_queries.proofs.Asking.{follows, passes}
 use Rattle.agv_queries.proofs.KeyAnswers.{tells_node}
 use Rattle.agv_queries.proofs.key_queries.query_node.Goals as goal
 

@@ -1,6 +1,6 @@
 use Rattle.std.proofs.Common.{Err, None, Ok, sym, ◌∙◌}
 use Rattle.agv_world.specs.Questions.{row_of}
-use Rattle.agv_row_reading.proofs.Asking.{follows, passes, then_follows, then_passes}
+use Rattle.agv_row_queries.proofs.Asking.{follows, passes, then_follows, then_passes}
 use Rattle.agv_queries.proofs.KeyAnswers.{joined, neither, not_one}
 use Rattle.agv_queries.proofs.key_queries.query_vehicle.Goals as goal
 

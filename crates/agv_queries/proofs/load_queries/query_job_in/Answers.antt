@@ -1,9 +1,9 @@
 use Rattle.std.proofs.Common.{refl, sym, ap, subst, ◌∙◌}
 use Rattle.agv_rows.specs.Columns.{job_in}
-use Rattle.agv_row_reading.specs.FirstRow.{first_key_in}
+use Rattle.agv_row_queries.specs.FirstRow.{first_key_in}
 use Rattle.agv_statements.specs.RowQueries.{FitsColumns, columns_asked, table_asked}
 use Rattle.agv_schema.specs.declared.rows_by.RowsBy.TheVariants as by
-use Rattle.agv_row_reading.proofs.Asking.{follows, passes}
+use Rattle.agv_row_queries.proofs.Asking.{follows, passes}
 use Rattle.agv_queries.proofs.JobAnswers.{tells_job_in}
 use Rattle.agv_queries.proofs.load_queries.query_job_in.Goals as goal
 

@@ -1,6 +1,6 @@
 use Rattle.std.proofs.Common.{Ok, ap₂, sym, ◌∙◌}
 use Rattle.std.specs.Option.{option_or}
-use Rattle.agv_row_reading.proofs.Asking.{passes, then_follows, then_passes}
+use Rattle.agv_row_queries.proofs.Asking.{passes, then_follows, then_passes}
 use Rattle.agv_queries.proofs.JobAnswers.{live_job}
 use Rattle.agv_queries.proofs.load_queries.query_job_of.Goals as goal
 

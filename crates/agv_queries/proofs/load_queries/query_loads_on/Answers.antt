@@ -2,7 +2,7 @@ use Rattle.std.proofs.Common.{refl, sym, subst, ◌∙◌}
 use Rattle.agv_statements.specs.CountQueries.{columns_counted, table_counted}
 use Rattle.agv_statements.specs.RowQueries.{FitsColumns}
 use Rattle.agv_schema.specs.declared.rows_counted.RowsCounted.TheVariants as counted
-use Rattle.agv_row_reading.proofs.Asking.{tells}
+use Rattle.agv_row_queries.proofs.Asking.{tells}
 use Rattle.agv_queries.proofs.LoadAnswers.{counts_loads_on}
 use Rattle.agv_queries.proofs.load_queries.query_loads_on.Goals as goal
 

@@ -1,5 +1,5 @@
 use Rattle.std.proofs.Common.{Ok, ◌∙◌}
-use Rattle.agv_row_reading.proofs.Asking.{passes, then_follows, then_passes}
+use Rattle.agv_row_queries.proofs.Asking.{passes, then_follows, then_passes}
 use Rattle.agv_queries.proofs.JobAnswers.{reserved_in_all}
 use Rattle.agv_queries.proofs.load_queries.query_reserved.Goals as goal
 

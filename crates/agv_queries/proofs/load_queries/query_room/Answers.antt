@@ -1,5 +1,5 @@
 use Rattle.std.proofs.Common.{None, Some, Ok, sym, ◌∙◌}
-use Rattle.agv_row_reading.proofs.Asking.{follows, passes, then_follows, then_passes}
+use Rattle.agv_row_queries.proofs.Asking.{follows, passes, then_follows, then_passes}
 use Rattle.agv_queries.proofs.LoadAnswers.{room_none, room_some}
 use Rattle.agv_queries.proofs.load_queries.query_room.Goals as goal
 

@@ -1,6 +1,6 @@
 use Rattle.std.proofs.Common.{Ok, ap₂, ◌∙◌}
 use Rattle.agv_stock.specs.Rooms.{room_left}
-use Rattle.agv_row_reading.proofs.Asking.{passes, then_follows, then_passes}
+use Rattle.agv_row_queries.proofs.Asking.{passes, then_follows, then_passes}
 use Rattle.agv_queries.proofs.load_queries.query_room_left.Goals as goal
 
 pub returns-in_err-loads : goal.returns-in_err-loads

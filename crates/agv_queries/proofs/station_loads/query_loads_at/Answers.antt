@@ -3,12 +3,12 @@ use Rattle.std.specs.FinMap as map
 use Rattle.agv_header.specs.Name.{name_cmp}
 use Rattle.agv_stock.specs.declared.place.Place.{Place}
 use Rattle.agv_rows.specs.Columns.{load_in}
-use Rattle.agv_row_reading.specs.ReadTables.{Reads, read_rows}
+use Rattle.agv_row_queries.specs.ReadTables.{Reads, read_rows}
 use Rattle.agv_statements.specs.RowQueries.{FitsColumns, columns_asked, table_asked}
 use Rattle.agv_schema.specs.declared.rows_by.RowsBy.TheVariants as by
-use Rattle.agv_row_reading.proofs.Asking.{follows, passes}
+use Rattle.agv_row_queries.proofs.Asking.{follows, passes}
 use Rattle.agv_queries.proofs.StationLoads.{fails_there, names_told}
-use Rattle.agv_row_reading.proofs.TableReading.{runs_short}
+use Rattle.agv_row_queries.proofs.TableReading.{runs_short}
 use Rattle.agv_queries.proofs.station_loads.query_loads_at.Goals as goal
 
 pub query_rows_by-requires : goal.query_rows_by-requires

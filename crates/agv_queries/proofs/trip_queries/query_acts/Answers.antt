@@ -3,11 +3,11 @@ use Rattle.std.specs.FinMap as map
 use Rattle.agv_rows.specs.ActKeys.{act_cmp}
 use Rattle.agv_rows.specs.declared.act_row.ActRow.{ActRow}
 use Rattle.agv_rows.specs.Columns.{act_in}
-use Rattle.agv_row_reading.specs.ReadTables.{Reads, read_rows}
+use Rattle.agv_row_queries.specs.ReadTables.{Reads, read_rows}
 use Rattle.agv_statements.specs.RowQueries.{FitsColumns, columns_asked, table_asked}
 use Rattle.agv_schema.specs.declared.rows_by.RowsBy.TheVariants as by
-use Rattle.agv_row_reading.proofs.Asking.{follows, passes, then_follows, then_passes}
-use Rattle.agv_row_reading.proofs.TableReading.{runs_short}
+use Rattle.agv_row_queries.proofs.Asking.{follows, passes, then_follows, then_passes}
+use Rattle.agv_row_queries.proofs.TableReading.{runs_short}
 use Rattle.agv_queries.proofs.TripAnswers.{act_known, act_numbered, acts_begin, acts_end, acts_fail, acts_go_on}
 use Rattle.agv_queries.proofs.trip_queries.query_acts.Goals as goal
 

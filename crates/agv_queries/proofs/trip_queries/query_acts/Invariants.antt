@@ -1,5 +1,5 @@
 use Rattle.std.proofs.Common.{Ok}
-use Rattle.agv_row_reading.specs.WorldAnswers.{AnswersQuery}
+use Rattle.agv_row_queries.specs.WorldAnswers.{AnswersQuery}
 use Rattle.agv_queries.proofs.TripAnswers.{GoesActs}
 use Rattle.agv_queries.proofs.trip_queries.query_acts.Given as goal
 

@@ -3,7 +3,7 @@ use Rattle.agv_world.specs.Maps.{maps_of}
 use Rattle.agv_rows.specs.DecodedTrips.{journey_for}
 use Rattle.agv_statements.specs.RowQueries.{FitsColumns, columns_asked, table_asked}
 use Rattle.agv_schema.specs.declared.rows_by.RowsBy.TheVariants as by
-use Rattle.agv_row_reading.proofs.Asking.{follows, passes}
+use Rattle.agv_row_queries.proofs.Asking.{follows, passes}
 use Rattle.agv_queries.proofs.TripAnswers.{tells_driven, trip_there}
 use Rattle.agv_queries.proofs.trip_queries.query_has_trip.Goals as goal
 

@@ -1,5 +1,5 @@
 use Rattle.std.proofs.Common.{Ok, Some, ap, sym, ◌∙◌}
-use Rattle.agv_row_reading.proofs.Asking.{passes, then_follows, then_passes}
+use Rattle.agv_row_queries.proofs.Asking.{passes, then_follows, then_passes}
 use Rattle.agv_queries.proofs.TripAnswers.{told_journey}
 use Rattle.agv_queries.proofs.trip_queries.query_told_trip.Goals as goal
 

@@ -2,7 +2,7 @@ use Rattle.std.proofs.Common.{None, Ok, Some, ap, sym, ◌∙◌}
 use Rattle.std.specs.Option.{option_and_then}
 use Rattle.agv_world.specs.Maps.{maps_of}
 use Rattle.agv_rows.specs.DecodedTrips.{told_by_journey}
-use Rattle.agv_row_reading.proofs.Asking.{follows, passes, then_follows, then_passes}
+use Rattle.agv_row_queries.proofs.Asking.{follows, passes, then_follows, then_passes}
 use Rattle.agv_queries.proofs.trip_queries.query_trip.Goals as goal
 
 pub returns-in_err-journey : goal.returns-in_err-journey

@@ -4,12 +4,12 @@ use Rattle.std.specs.Option.{option_map}
 use Rattle.agv_layout.specs.Layout.{edge_of}
 use Rattle.agv_world.specs.Keys.{leg_cmp}
 use Rattle.agv_rows.specs.Columns.{leg_in}
-use Rattle.agv_row_reading.specs.ReadTables.{Reads, read_rows}
+use Rattle.agv_row_queries.specs.ReadTables.{Reads, read_rows}
 use Rattle.agv_statements.specs.RowQueries.{FitsColumns, columns_asked, table_asked}
 use Rattle.agv_schema.specs.SchemaNumbers.{desk_seats}
 use Rattle.agv_schema.specs.declared.rows_by.RowsBy.TheVariants as by
-use Rattle.agv_row_reading.proofs.Asking.{follows, passes, then_follows, then_passes}
-use Rattle.agv_row_reading.proofs.TableReading.{runs_short}
+use Rattle.agv_row_queries.proofs.Asking.{follows, passes, then_follows, then_passes}
+use Rattle.agv_row_queries.proofs.TableReading.{runs_short}
 use Rattle.agv_queries.proofs.TripAnswers.{begins, fails_there, goes_all, goes_known, goes_on}
 use Rattle.agv_queries.proofs.trip_queries.query_way.Goals as goal
 

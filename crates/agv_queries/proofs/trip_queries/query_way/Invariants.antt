@@ -1,5 +1,5 @@
 use Rattle.std.proofs.Common.{Ok}
-use Rattle.agv_row_reading.specs.WorldAnswers.{AnswersQuery}
+use Rattle.agv_row_queries.specs.WorldAnswers.{AnswersQuery}
 use Rattle.agv_queries.proofs.TripAnswers.{Goes}
 use Rattle.agv_queries.proofs.trip_queries.query_way.Given as goal
 

@@ -1,8 +1,8 @@
 use Rattle.std.proofs.Common.{◌≡◌, ◌∙◌, ◌<◌, length, None, Some, ap, rules, sym}
 use Rattle.std.specs.FinMap as map
-use Rattle.agv_track.specs.Holds.{Holds}
+use Rattle.agv_holds.specs.Holds.{Holds}
 use Rattle.agv_rows.specs.Columns.{hold_in}
-use Rattle.agv_row_reading.specs.ReadTables.{read_rows}
+use Rattle.agv_row_queries.specs.ReadTables.{read_rows}
 use Rattle.agv_row_reading.proofs.HeldFootprints.{lists_each, lists_entries}
 use Rattle.agv_row_reading.proofs.HeldRead.{none_listed, one_more_listed, reads_on}
 use Rattle.agv_row_reading.proofs.held_rows.holds_in_rows.Goals as goal

@@ -1,6 +1,6 @@
 use Rattle.std.proofs.Common.{◌||◌, not, sym, ap, ◌∙◌}
-use Rattle.agv_track.specs.Holds.{is_in}
-use Rattle.agv_track.proofs.Claims.{is_in-turned}
+use Rattle.agv_holds.specs.Holds.{is_in}
+use Rattle.agv_holds.proofs.Claims.{is_in-turned}
 use Rattle.agv_row_reading.proofs.held_things.is_kept.Goals as goal
 
 pub returns-then-eq : goal.returns-then-eq

@@ -1,7 +1,7 @@
 use Rattle.std.proofs.Common.{◌≡◌, drop}
 use Rattle.std.specs.FinMap as map
 use Rattle.agv_rows.specs.Columns.{journey_in}
-use Rattle.agv_row_reading.specs.ReadTables.{read_rows}
+use Rattle.agv_row_queries.specs.ReadTables.{read_rows}
 use Rattle.agv_row_reading.proofs.row_tables.journeys_in_rows.Given as goal
 
 -- what is read, and what is left, make all

@@ -1,6 +1,6 @@
 use Rattle.std.proofs.Common.{◌≡◌, drop}
 use Rattle.std.specs.FinMap as map
-use Rattle.agv_row_reading.specs.ReadTables.{read_rows}
+use Rattle.agv_row_queries.specs.ReadTables.{read_rows}
 use Rattle.agv_rows.specs.DecodedTrips.{vehicle_with}
 use Rattle.agv_row_reading.proofs.row_tables.vehicles_in_rows.Given as goal
 

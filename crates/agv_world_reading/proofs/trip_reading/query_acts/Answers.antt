@@ -2,11 +2,11 @@ use Rattle.std.proofs.Common.{subst}
 use Rattle.std.specs.FinMap as map
 use Rattle.agv_rows.specs.ActKeys.{act_cmp-IsAntisymmetric, act_cmp-total}
 use Rattle.agv_rows.specs.Columns.{act_columns, act_in}
-use Rattle.agv_row_reading.specs.ReadTables.{Reads, read_rows}
+use Rattle.agv_row_queries.specs.ReadTables.{Reads, read_rows}
 use Rattle.agv_row_reading.proofs.AskingAll.{all_follows, all_passes, reads_no_storage}
 use Rattle.agv_rows.proofs.ColumnsWritten.{act_written}
 use Rattle.agv_row_reading.proofs.TablesBack.{shows_table}
-use Rattle.agv_world_reading.proofs.TripTableAnswers.{tells_acts}
+use Rattle.agv_table_reading.proofs.TripTableAnswers.{tells_acts}
 use Rattle.agv_world_reading.proofs.trip_reading.query_acts.Goals as goal
 
 pub returns-in_err-rows : goal.returns-in_err-rows

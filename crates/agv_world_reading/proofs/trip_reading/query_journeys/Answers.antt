@@ -2,12 +2,12 @@ use Rattle.std.proofs.Common.{subst}
 use Rattle.std.specs.FinMap as map
 use Rattle.std.specs.Cmp.Lexicographic.{nat_list_cmp_total}
 use Rattle.agv_rows.specs.Columns.{journey_columns, journey_in}
-use Rattle.agv_row_reading.specs.ReadTables.{Reads, read_rows}
+use Rattle.agv_row_queries.specs.ReadTables.{Reads, read_rows}
 use Rattle.agv_row_reading.proofs.AskingAll.{all_follows, all_passes, reads_no_storage}
 use Rattle.agv_rows.proofs.ColumnsWritten.{journey_written}
 use Rattle.agv_rows.proofs.ListsFollow.{names_apart}
 use Rattle.agv_row_reading.proofs.TablesBack.{shows_table}
-use Rattle.agv_world_reading.proofs.TripTableAnswers.{tells_journeys}
+use Rattle.agv_table_reading.proofs.TripTableAnswers.{tells_journeys}
 use Rattle.agv_world_reading.proofs.trip_reading.query_journeys.Goals as goal
 
 pub returns-in_err-rows : goal.returns-in_err-rows

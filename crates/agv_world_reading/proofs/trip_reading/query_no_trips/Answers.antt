@@ -1,7 +1,7 @@
 use Rattle.std.proofs.Common.{◌∙◌, nat_eq, Err, Ok, ap, sym}
-use Rattle.agv_row_reading.specs.declared.open_fault.OpenFault.TheVariants as fault
+use Rattle.agv_row_queries.specs.declared.open_fault.OpenFault.TheVariants as fault
 use Rattle.agv_row_reading.proofs.AskingAll.{all_follows, all_passes}
-use Rattle.agv_world_reading.proofs.TripTableAnswers.{none_shown, tells_no_trips}
+use Rattle.agv_table_reading.proofs.TripTableAnswers.{none_shown, tells_no_trips}
 use Rattle.agv_world_reading.proofs.trip_reading.query_no_trips.Goals as goal
 
 pub returns-in_err-rows : goal.returns-in_err-rows

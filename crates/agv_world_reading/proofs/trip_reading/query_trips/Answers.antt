@@ -5,10 +5,10 @@ use Rattle.agv_header.specs.Name.{name_cmp}
 use Rattle.agv_world.specs.Maps.{maps_of}
 use Rattle.agv_world.specs.declared.row.TripRow.{TripRow}
 use Rattle.agv_schema.specs.SchemaNumbers.{desk_seats}
-use Rattle.agv_row_reading.specs.declared.open_fault.OpenFault.TheVariants as fault
+use Rattle.agv_row_queries.specs.declared.open_fault.OpenFault.TheVariants as fault
 use Rattle.agv_row_reading.proofs.AskingAll.{all_passes, all_then, all_then_follows, all_then_passes, if_err, passes_no_storage}
-use Rattle.agv_row_reading.proofs.TableReading.{runs_short}
-use Rattle.agv_world_reading.proofs.TripTableAnswers.{shows_acts, shows_journeys, tells_trips}
+use Rattle.agv_row_queries.proofs.TableReading.{runs_short}
+use Rattle.agv_table_reading.proofs.TripTableAnswers.{shows_acts, shows_journeys, tells_trips}
 use Rattle.agv_world_reading.proofs.trip_reading.query_trips.Goals as goal
 
 pub returns-in_err-query_no_trips : goal.returns-in_err-query_no_trips

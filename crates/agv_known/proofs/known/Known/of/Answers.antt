@@ -7,5 +7,5 @@ use Rattle.agv_known.proofs.known.Known.of.Goals as goal
 pub returns : goal.returns
 returns c seats world lawful keeps =
     let same = c.tables_tell_the_world.ensures c.args.tables.now world keeps (c.has_consistent_trips.ensures seats world lawful) in
-    c.new.ensures world (λ what. c.in_ok-counts.ensures what ∙ ap (λ (w : World). count_of w what) same)
+    c.new.ensures world (λ what. c.of-counts.ensures what ∙ ap (λ (w : World). count_of w what) same)
     (agrees_set c.gives_itself.ensures c.needs_a_node.ensures world lawful.limits.laid c.in_ok-layout.layout (c.in_ok-layout.ensures ∙ ap layout_set same))

@@ -12,7 +12,7 @@ use Rattle.agv_creation.specs.NewDesk.{AllowsDesk, MadeDesksStand, StandsNew}
 use Rattle.agv_schema.specs.Connections.{IsClean, IsOpen}
 use Rattle.agv_known.specs.Known.{IsKnownIn}
 use Rattle.agv_known.specs.declared.known.Known.{Known}
-use Rattle.agv_store.specs.Floors.{IsConsistent, Keyed, Knows, world_at}
+use Rattle.agv_keyed_floor.specs.Floors.{IsConsistent, Keyed, Knows, world_at}
 use Rattle.agv_store.specs.Opening.{CanBeMade, Makes}
 use Rattle.agv_store.proofs.Found.{TellsItsWorld}
 use Rattle.agv_store.proofs.desk.Desk.create.Goals as goal

@@ -3,7 +3,7 @@ use Rattle.sqlite.specs.Held.{state}
 use Rattle.sqlite.specs.State.{Survives}
 use Rattle.agv_first_schema.specs.Moved.{CanBeAdded}
 use Rattle.agv_schema.specs.Connections.{IsClean}
-use Rattle.agv_store.specs.Floors.{Keyed}
+use Rattle.agv_keyed_floor.specs.Floors.{Keyed}
 use Rattle.agv_store.specs.Migration.{LeavesMigrated, Migrates}
 use Rattle.agv_store.proofs.Moving.{can_be_migrated, could_be_added, crash_leaves, damaged_only, migrates, moved_consistent, none_added, storage_only}
 use Rattle.agv_store.proofs.desk.Desk.migrate.Goals as goal

@@ -1,0 +1,158 @@
+//! How a run of the program ends, and what it prints if the arguments are not accepted.
+ghost use Rattle.std.specs.Prelude.{◌≡◌};
+ghost use Rattle.agv_host.specs.RunEnds.{IsTold, end_by, end_of, fault_line, opening_fault, said_of, status_of, status_without};
+
+use agv_command_line::LineFault;
+use agv_header::Refusal;
+use agv_row_queries::OpenFault;
+use agv_stream_io::{CountingIo, Ended, Served, StreamFault, write_whole};
+use clap::Error;
+use std::io::Write;
+use std::{error, fmt};
+
+/// Why a run failed, as the program prints it.
+#[derive(Clone, Copy, Debug, PartialEq, Eq, thiserror::Error)]
+pub enum RunFault {
+    /// The file has tables or rows that are no lawful desk's, or allows no desk's tables.
+    #[error("the file has no desk's tables, or what they have breaks a rule of the desk")]
+    Damaged,
+    /// Out of memory.
+    #[error("out of memory")]
+    Memory,
+    /// A fault of the store: the file can't be opened, read or written.
+    #[error("the file can't be opened, read or written")]
+    Storage,
+    /// Standard input can't be read.
+    #[error("standard input can't be read")]
+    Read,
+    /// Standard output can't be written.
+    #[error("standard output can't be written")]
+    Write,
+    /// The port can't be listened on, or a connection can't be accepted.
+    #[error("the port can't be listened on, or a connection can't be had")]
+    Net,
+    /// The clock is not between 1970 and 2099.
+    #[error("the clock is not between 1970 and 2099")]
+    Clock,
+}
+
+impl RunFault {
+    ghost use Rattle.std.specs.Prelude.{◌≡◌};
+    ghost use Rattle.agv_host.specs.RunEnds.{fault_line};
+
+    /// The line that says it, with its line end: `fault: ` and its name.
+    pub fn line(self) -> &'static str
+        ensures { result.now ≡ fault_line self }
+    {
+        match self {
+            RunFault::Damaged => "fault: Damaged\n",
+            RunFault::Memory => "fault: Memory\n",
+            RunFault::Storage => "fault: Storage\n",
+            RunFault::Read => "fault: Read\n",
+            RunFault::Write => "fault: Write\n",
+            RunFault::Net => "fault: Net\n",
+            RunFault::Clock => "fault: Clock\n",
+        }
+    }
+}
+
+impl From<OpenFault> for RunFault {
+    ghost use Rattle.agv_host.specs.RunEnds.{opening_fault};
+
+    ghost from_gives = { λ why fault. fault ≡ opening_fault why };
+
+    fn from(why: OpenFault) -> RunFault {
+        match why {
+            OpenFault::Damaged => RunFault::Damaged,
+            OpenFault::Memory => RunFault::Memory,
+            OpenFault::Storage => RunFault::Storage,
+        }
+    }
+}
+
+/// Why the arguments are not accepted, as the text that is printed to standard error.
+#[derive(Debug, Drop)]
+pub enum NoLine {
+    /// The arguments are wrong, or ask for help; the error is the text.
+    Refused(Error),
+    /// An argument is not UTF-8.
+    NotText,
+    /// Out of memory.
+    Memory,
+}
+
+impl NoLine {
+    /// The exit status: 2 if the arguments are wrong, 1 if out of memory.
+    pub fn status(&self) -> u8
+        ensures { result ≡ status_without self.now }
+    {
+        match self {
+            NoLine::Memory => 1,
+            _ => 2,
+        }
+    }
+}
+
+impl From<LineFault> for NoLine {
+    ghost use Rattle.agv_host.specs.RunEnds.{without_line};
+
+    ghost from_gives = { λ why without. without ≡ without_line why };
+
+    fn from(why: LineFault) -> NoLine {
+        match why {
+            LineFault::Refused(error) => NoLine::Refused(error),
+            LineFault::Memory => NoLine::Memory,
+        }
+    }
+}
+
+impl fmt::Display for NoLine {
+    ghost output = { said_of };
+
+    fn fmt<W: fmt::Write>(&self, f: &mut fmt::Formatter<W>) -> fmt::Result {
+        match self {
+            NoLine::Refused(error) => write!(f, "{error}"),
+            NoLine::NotText => write!(f, "error: an argument is not UTF-8\n"),
+            NoLine::Memory => write!(f, "{}", RunFault::Memory.line()),
+        }
+    }
+}
+
+impl error::Error for NoLine {}
+
+/// How a run ends after this end of its stream: its last answer was the refusal for a fault of the machine, or it was
+/// served or refused as its requests had it.
+pub fn end_of(ended: Result<Served, StreamFault>) -> Result<(), RunFault>
+    ensures { result ≡ end_of ended }
+{
+    match ended {
+        Ok(served) => end_by(served.ended),
+        Err(StreamFault::Read { .. }) => Err(RunFault::Read),
+        Err(StreamFault::Write { .. }) => Err(RunFault::Write),
+    }
+}
+
+/// How a run ends whose stream was served to this end.
+fn end_by(ended: Ended) -> Result<(), RunFault>
+    ensures { result ≡ end_by ended }
+{
+    match ended {
+        Ended::Refused(Refusal::Memory) => Err(RunFault::Memory),
+        Ended::Refused(Refusal::Storage) => Err(RunFault::Storage),
+        _ => Ok(()),
+    }
+}
+
+/// Says a fault in its line, and gives the exit status. A write that fails here changes nothing about it.
+pub fn tell<E: Write>(end: Result<(), RunFault>, errors: &mut CountingIo<E>) -> u8
+    ensures line { IsTold E.contents errors.old errors.new end }
+    ensures status { result ≡ status_of end }
+{
+    match end {
+        Ok(()) => 0,
+        Err(fault) => {
+            write_whole(errors, fault.line().as_bytes());
+            1
+        }
+    }
+}

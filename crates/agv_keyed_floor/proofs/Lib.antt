@@ -1,0 +1,4 @@
+pub mod Asked
+pub mod InTurn
+mod Kept
+mod ReportLists

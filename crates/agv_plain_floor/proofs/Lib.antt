@@ -1,0 +1,3 @@
+mod HeldBy
+mod Holding
+mod NoStorage

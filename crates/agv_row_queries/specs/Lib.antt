@@ -1,0 +1,4 @@
+pub mod FirstRow
+pub mod OpenFault
+pub mod ReadTables
+pub mod WorldAnswers

@@ -1,0 +1,2 @@
+pub mod CountingIo
+pub mod Bytes

@@ -1,5 +1,0 @@
-use Rattle.agv_track.proofs.FirstHeld.{none_is_open}
-use Rattle.agv_track.proofs.hold_laws.refuses_nothing_open.Goals as goal
-
-pub returns : goal.returns
-returns c = none_is_open
