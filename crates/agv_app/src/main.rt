@@ -5,11 +5,15 @@
 //! `--help`, with the text on standard error.
 #![tactic(auto)]
 
+ghost use Rattle.std.specs.Prelude.{◌≡◌, drop, IfErr};
+ghost use Rattle.agv_program.specs.Runs.{IsWithoutWords};
+
 use agv_command_line::line_of;
-use agv_host::{NoLine, words_of};
-use agv_program::run_line;
-use agv_stream_io::CountingIo;
-use std::io;
+use agv_face::CountingIo;
+use agv_program::{NoLine, run_line};
+use std::alloc::Global;
+use std::env::{self, Env};
+use std::io::{self, ErrorKind};
 use std::process::ExitCode;
 
 fn main(rt: HostRuntime) -> ExitCode {
@@ -23,6 +27,31 @@ fn main(rt: HostRuntime) -> ExitCode {
             let _ = rt.eprint(&why);
             ExitCode::from(why.status())
         }
+    }
+}
+
+/// The arguments of the program.
+fn words_of(rt: &(impl Env + Alloc<A = Global>)) -> Result<Vec<String>, NoLine>
+    ensures { IfErr result IsWithoutWords }
+{
+    let all = match env::args(rt) {
+        Ok(all) => all,
+        Err(error) if error.kind() == ErrorKind::InvalidData => return Err(NoLine::NotText),
+        Err(_) => return Err(NoLine::Memory),
+    };
+    let Ok(mut words) = all.collect::<Vec<String>>(rt.alloc()) else {
+        return Err(NoLine::Memory);
+    };
+    drop_first(&mut words);
+    Ok(words)
+}
+
+/// Drops the first argument, which is the program's name.
+fn drop_first(words: &mut Vec<String>)
+    ensures { words.new.items ≡ drop 1 words.old.items }
+{
+    if !words.is_empty() {
+        words.remove(0);
     }
 }
 

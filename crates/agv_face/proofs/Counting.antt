@@ -12,10 +12,10 @@ use Rattle.agv_http.specs.StreamEnds.{HasCallNext, HasMachineFault, IsOfMachine}
 use Rattle.agv_keyed_floor.specs.Floors.{Keyed}
 use Rattle.agv_face.specs.StreamCalls.{AreDone, AreDoneOrCut, AreDoneOrNext}
 use Rattle.agv_face.specs.StreamEnd.{IsCounted}
-use Rattle.agv_stream_io.specs.CountingIo.{inner_of}
-use Rattle.agv_stream_io.specs.declared.stream_end.Ended.TheVariants as ended_by
-use Rattle.agv_stream_io.specs.declared.stream_end.StreamFault.TheVariants as fault
-use Rattle.agv_stream_io.specs.declared.counting_io.CountingIo.{CountingIo}
+use Rattle.agv_face.specs.CountingIo.{inner_of}
+use Rattle.agv_face.specs.declared.stream_end.Ended.TheVariants as ended_by
+use Rattle.agv_face.specs.declared.stream_end.StreamFault.TheVariants as fault
+use Rattle.agv_face.specs.declared.counting_io.CountingIo.{CountingIo}
 use Rattle.agv_face.proofs.HasServed.{HasServed, begins, follows, input, is_input, more, parts}
 
 module _ {S R W : Type 0} (g : Ghosts S) (remaining : R → Option (List ℕ)) (contents : W → Option (List ℕ)) (at : ℕ) (desk : Keyed S) (reader : CountingIo R) (writer : CountingIo W)

@@ -14,7 +14,7 @@ use Rattle.agv_keyed_floor.specs.Floors.{Keyed, Knows, world_at}
 use Rattle.agv_schema.specs.Connections.{IsClean, IsOpen}
 use Rattle.agv_world.specs.declared.fault.Fault.{Fault}
 use Rattle.agv_world.specs.declared.fault.Fault.TheVariants as machine
-use Rattle.agv_stream_io.specs.Bytes.{IsCut, IsPutWhole, IsRead}
+use Rattle.agv_face.specs.Bytes.{IsCut, IsPutWhole, IsRead}
 use Rattle.agv_face.specs.StreamEnd.{IsCounted, IsStreamEnd, failed_at_end, most_reads}
 use Rattle.sqlite.specs.Held.{state}
 use Rattle.sqlite.specs.State.{Survives}
@@ -24,21 +24,21 @@ use Rattle.agv_face.specs.Nexts.{IsNext, IsNextFault, LeavesNext}
 use Rattle.agv_face.specs.StreamCalls.{AreDone, AreDoneOrNext}
 use Rattle.agv_face.specs.Refusals.{IsRefused, refusal_for}
 use Rattle.agv_face.specs.Replies.{IsLaterDesk}
-use Rattle.agv_stream_io.specs.CountingIo.{inner_of, RanOut}
+use Rattle.agv_face.specs.CountingIo.{inner_of, RanOut}
 use Rattle.agv_face.specs.declared.next.Next.{Next}
 use Rattle.agv_face.specs.declared.next.Next.TheVariants as next
-use Rattle.agv_stream_io.specs.declared.stream_end.Ended.TheVariants as ended_by
-use Rattle.agv_stream_io.specs.declared.stream_end.Served.{Served}
-use Rattle.agv_stream_io.specs.declared.stream_end.StreamFault.{StreamFault}
-use Rattle.agv_stream_io.specs.declared.stream_end.StreamFault.TheVariants as fault
-use Rattle.agv_stream_io.specs.declared.counting_io.CountingIo.{CountingIo}
+use Rattle.agv_face.specs.declared.stream_end.Ended.TheVariants as ended_by
+use Rattle.agv_face.specs.declared.stream_end.Served.{Served}
+use Rattle.agv_face.specs.declared.stream_end.StreamFault.{StreamFault}
+use Rattle.agv_face.specs.declared.stream_end.StreamFault.TheVariants as fault
+use Rattle.agv_face.specs.declared.counting_io.CountingIo.{CountingIo}
 use Rattle.agv_face.proofs.Counting.{counts_at_end, counts_closed, counts_cut, counts_faulty, counts_refused, counts_unread}
 use Rattle.agv_face.proofs.StaysKnown.{FindsKnown, StaysKnown, are_done, are_done_or_next, known_on}
 use Rattle.agv_face.proofs.Serving.{later_still, survives_still}
 use Rattle.agv_face.proofs.InTurn.{AnswersInTurn, CallsInTurn, GoesOnBehind, WorldsInTurn}
 use Rattle.agv_face.proofs.HasServed.{HasServed, follows, has_call, has_request, input, machine_fault, more, none_served, none_yet, parts, reads_on}
 use Rattle.agv_face.proofs.Streams.{cut_answer, cut_faulty, cut_refused, ends_at_end, ends_closed, ends_faulty, ends_refused, ends_unread, no_call_asked, serves_on, world_then}
-use Rattle.agv_stream_io.proofs.Writing.{failed_then}
+use Rattle.agv_face.proofs.Writing.{failed_then}
 
 -- ---- a fault of HTTP is none of the machine
 

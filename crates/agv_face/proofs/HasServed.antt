@@ -16,11 +16,11 @@ use Rattle.agv_keyed_floor.specs.Floors.{Keyed, world_at}
 use Rattle.agv_schema.specs.SchemaNumbers.{desk_seats}
 use Rattle.agv_schema.specs.Connections.{IsClean}
 use Rattle.agv_world.specs.Worlds.{World}
-use Rattle.agv_stream_io.specs.Bytes.{IsRead}
+use Rattle.agv_face.specs.Bytes.{IsRead}
 use Rattle.agv_face.specs.StreamEnd.{IsInput}
 use Rattle.agv_face.specs.Replies.{IsLaterDesk, call_of_lent}
-use Rattle.agv_stream_io.specs.CountingIo.{inner_of, FailedNever}
-use Rattle.agv_stream_io.specs.declared.counting_io.CountingIo.{CountingIo}
+use Rattle.agv_face.specs.CountingIo.{inner_of, FailedNever}
+use Rattle.agv_face.specs.declared.counting_io.CountingIo.{CountingIo}
 use Rattle.agv_face.proofs.Serving.{later_still}
 use Rattle.agv_face.proofs.StaysKnown.{StaysKnown, known_none}
 use Rattle.agv_face.proofs.InTurn.{is_call, no_answer, no_calls, no_change, whole}

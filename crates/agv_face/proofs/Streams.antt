@@ -17,12 +17,12 @@ use Rattle.agv_keyed_floor.specs.Floors.{Keyed, Knows, world_at}
 use Rattle.agv_schema.specs.SchemaNumbers.{desk_seats}
 use Rattle.agv_schema.specs.Connections.{IsClean, IsOpen}
 use Rattle.agv_world.specs.Worlds.{World}
-use Rattle.agv_stream_io.specs.Bytes.{IsCut}
+use Rattle.agv_face.specs.Bytes.{IsCut}
 use Rattle.agv_face.specs.StreamEnd.{HaveCome, IsEnd, IsInput, Leaves}
 use Rattle.agv_face.specs.Replies.{IsAnswered, IsLaterDesk, call_of_lent, text_for}
-use Rattle.agv_stream_io.specs.CountingIo.{inner_of, FailedNever}
-use Rattle.agv_stream_io.specs.declared.stream_end.Ended.TheVariants as ended_by
-use Rattle.agv_stream_io.specs.declared.counting_io.CountingIo.{CountingIo}
+use Rattle.agv_face.specs.CountingIo.{inner_of, FailedNever}
+use Rattle.agv_face.specs.declared.stream_end.Ended.TheVariants as ended_by
+use Rattle.agv_face.specs.declared.counting_io.CountingIo.{CountingIo}
 use Rattle.agv_face.proofs.HasServed.{HasServed}
 use Rattle.agv_face.proofs.HasServed as served
 use Rattle.agv_face.proofs.Serving.{later_then}

@@ -6,13 +6,13 @@ use Rattle.agv_header.specs.declared.refusal.Refusal.TheVariants as refusal
 use Rattle.agv_http.specs.Output.{refusal_text}
 use Rattle.agv_world.specs.declared.fault.Fault.{Fault}
 use Rattle.agv_world.specs.declared.fault.Fault.TheVariants as machine
-use Rattle.agv_stream_io.specs.Bytes.{IsCut}
-use Rattle.agv_stream_io.specs.CountingIo.{inner_of, FailedOnce, FailedNever}
-use Rattle.agv_stream_io.specs.declared.stream_end.Ended.TheVariants as ended
-use Rattle.agv_stream_io.specs.declared.stream_end.Served.{Served}
-use Rattle.agv_stream_io.specs.declared.stream_end.StreamFault.{StreamFault}
-use Rattle.agv_stream_io.specs.declared.stream_end.StreamFault.TheVariants as fault
-use Rattle.agv_stream_io.specs.declared.counting_io.CountingIo.{CountingIo}
+use Rattle.agv_face.specs.Bytes.{IsCut}
+use Rattle.agv_face.specs.CountingIo.{inner_of, FailedOnce, FailedNever}
+use Rattle.agv_face.specs.declared.stream_end.Ended.TheVariants as ended
+use Rattle.agv_face.specs.declared.stream_end.Served.{Served}
+use Rattle.agv_face.specs.declared.stream_end.StreamFault.{StreamFault}
+use Rattle.agv_face.specs.declared.stream_end.StreamFault.TheVariants as fault
+use Rattle.agv_face.specs.declared.counting_io.CountingIo.{CountingIo}
 
 -- the refusal
 abbrev pub refusal_for : Fault → Refusal

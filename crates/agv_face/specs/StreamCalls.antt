@@ -16,8 +16,8 @@ use Rattle.agv_keyed_floor.specs.Floors.{Keyed, Knows, world_at}
 use Rattle.agv_store.specs.Running.{HasDatabase}
 use Rattle.agv_store.specs.Serving.{FoundIn}
 use Rattle.agv_world.specs.Worlds.{World}
-use Rattle.agv_stream_io.specs.declared.stream_end.Ended.{Ended}
-use Rattle.agv_stream_io.specs.declared.stream_end.Ended.TheVariants as ended
+use Rattle.agv_face.specs.declared.stream_end.Ended.{Ended}
+use Rattle.agv_face.specs.declared.stream_end.Ended.TheVariants as ended
 
 -- the desk before and after
 module _ {S : Type 0} (g : Ghosts S) (at : ℕ) (desk desk_then : Keyed S) where

@@ -12,14 +12,14 @@ use Rattle.agv_keyed_floor.specs.Floors.{Keyed, Knows, world_at}
 use Rattle.agv_schema.specs.SchemaNumbers.{desk_seats}
 use Rattle.agv_schema.specs.Connections.{IsClean, IsOpen}
 use Rattle.agv_world.specs.Worlds.{World}
-use Rattle.agv_stream_io.specs.CountingIo.{inner_of, FailedOnce, FailedNever, RanOut}
+use Rattle.agv_face.specs.CountingIo.{inner_of, FailedOnce, FailedNever, RanOut}
 use Rattle.agv_face.specs.StreamCalls.{AreDone, AreDoneBy, AreDoneOrCut}
-use Rattle.agv_stream_io.specs.declared.stream_end.Ended.{Ended}
-use Rattle.agv_stream_io.specs.declared.stream_end.Ended.TheVariants as ended
-use Rattle.agv_stream_io.specs.declared.stream_end.Served.{Served}
-use Rattle.agv_stream_io.specs.declared.stream_end.StreamFault.{StreamFault}
-use Rattle.agv_stream_io.specs.declared.stream_end.StreamFault.TheVariants as fault
-use Rattle.agv_stream_io.specs.declared.counting_io.CountingIo.{CountingIo}
+use Rattle.agv_face.specs.declared.stream_end.Ended.{Ended}
+use Rattle.agv_face.specs.declared.stream_end.Ended.TheVariants as ended
+use Rattle.agv_face.specs.declared.stream_end.Served.{Served}
+use Rattle.agv_face.specs.declared.stream_end.StreamFault.{StreamFault}
+use Rattle.agv_face.specs.declared.stream_end.StreamFault.TheVariants as fault
+use Rattle.agv_face.specs.declared.counting_io.CountingIo.{CountingIo}
 
 -- the most reads that a stream can have: 2^52 - 1
 abbrev pub reads_at_all : ℕ

@@ -13,22 +13,26 @@
 //!   calls, so that what `agv_desk` says of these holds of streams.
 //! - `specs/StreamCalls.antt` says what the calls of a stream make of the desk, and what a crash leaves of its tables;
 //!   [`laws`] joins a stream to what `agv_desk` says of lists of calls.
-//! - `specs/Replies.antt` says what one request comes to, `specs/Nexts.antt` the next one of a buffer, and
-//!   `specs/Refusals.antt` the refusal for a fault of the machine. What became of bytes that are read or written, and the
-//!   words on failures, are those of `agv_stream_io` (its `Bytes` and `CountingIo`).
+//! - `specs/Replies.antt` says what one request comes to, `specs/Nexts.antt` the next one of a buffer, `specs/Bytes.antt`
+//!   bytes that are read or written, `specs/Refusals.antt` the refusal for a fault of the machine, and
+//!   `specs/CountingIo.antt` has the words on failures.
 //! - The readers and writers of one request and its answer are those of `agv_http`, and stand here too: [`read_request`],
-//!   [`Routes`], [`call_of`], [`answer_bytes`], [`put_answer`]. So do [`CountingIo`], [`write_whole`], and how a stream ends
-//!   ([`Ended`], [`Served`], [`StreamFault`]), which are those of `agv_stream_io`.
+//!   [`Routes`], [`call_of`], [`answer_bytes`], [`put_answer`].
 //! - One request is followed from `stream` to `next` (what the buffer begins with), `reply` (its answer) and `call` (which
 //!   call it is).
 #![tactic(auto)]
 
+mod bytes;
 mod call;
+mod counting_io;
 pub mod laws;
 mod next;
 mod reply;
 mod stream;
+mod stream_end;
 
 pub use agv_http::{Heard, Route, Routes, answer_bytes, call_of, put_answer, read_request};
-pub use agv_stream_io::{CountingIo, Ended, Served, StreamFault, write_whole};
+pub use bytes::write_whole;
+pub use counting_io::CountingIo;
 pub use stream::{serve_stream, serve_stream_within};
+pub use stream_end::{Ended, Served, StreamFault};

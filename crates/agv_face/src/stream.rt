@@ -3,19 +3,18 @@ ghost use Rattle.std.specs.Prelude.{◌≡◌, ◌<◌, ◌≤◌, [], IfOk, vec
 ghost use Rattle.agv_face.specs.StreamEnd.{EndsFailed, IsCounted, IsStreamEnd, most_reads};
 ghost use Rattle.agv_face.specs.Refusals.{IsRefused};
 ghost use Rattle.agv_face.specs.Replies.{IsLaterDesk};
-ghost use Rattle.agv_stream_io.specs.CountingIo.{HadCallsAtMost};
+ghost use Rattle.agv_face.specs.CountingIo.{HadCallsAtMost};
 ghost use Rattle.agv_http.specs.answers.Sizes.{most_answer};
 
+use crate::bytes::{LONGEST_REQUEST, behind, drop_front, read_some, write_whole};
+use crate::counting_io::CountingIo;
 use crate::next::{Next, serve_request};
+use crate::stream_end::{Ended, Served, StreamFault};
 use agv_header::{Memory, Moment, Refusal};
 use agv_http::laws::streams::{answers_in_turn, hears_how_it_goes_on};
 use agv_http::{Routes, memory_answer, storage_answer};
 use agv_store::Desk;
 use agv_store::laws::crashes_leave_before_or_after;
-use agv_stream_io::{
-    CountingIo, Ended, LONGEST_REQUEST, Served, StreamFault, behind, drop_front, read_some,
-    write_whole,
-};
 use agv_world::Fault;
 use sqlite::Alter;
 use std::alloc::{AllocError, Global};
@@ -145,8 +144,6 @@ fn serve_requests<S: Alter + Drop, R: Read, W: Write>(
     hears_how_it_goes_on();
     answers_in_turn();
     crashes_leave_before_or_after::<S>();
-    // (for its clause alone: the number of calls is below 2^64)
-    let _calls = reader.calls();
     let most = max_reads.min(READS_AT_ALL);
     let mut ended = false;
     let mut reads = 0;

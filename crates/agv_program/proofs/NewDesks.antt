@@ -16,9 +16,8 @@ use Rattle.agv_keyed_floor.specs.Floors.{Keyed, world_at}
 use Rattle.agv_store.specs.Opening.{Adopts, CanBeMade, IsDamaged, Makes}
 use Rattle.agv_row_queries.specs.declared.open_fault.OpenFault.{OpenFault}
 use Rattle.agv_row_queries.specs.declared.open_fault.OpenFault.TheVariants as opening
-use Rattle.agv_program.specs.Runs.{IsNewDatabase, KnowsNothing}
-use Rattle.agv_host.specs.RunEnds.{opening_fault}
-use Rattle.agv_host.specs.declared.outcome.RunFault.TheVariants as fault
+use Rattle.agv_program.specs.Runs.{IsNewDatabase, KnowsNothing, opening_fault}
+use Rattle.agv_program.specs.declared.outcome.RunFault.TheVariants as fault
 
 -- where there is no table the desk's can be made
 can_be_made : (schema : Schema) → schema ≡ record { tables = []; indexes = []; views = [] } → CanBeMade schema

@@ -3,14 +3,15 @@ ghost use Rattle.std.specs.Prelude.{IfOk};
 ghost use Rattle.sqlite.specs.Held.{IsNew};
 
 use crate::desks::desk_of;
+use crate::outcome::RunFault;
 use agv_face::{CountingIo, Served, StreamFault, serve_stream};
 use agv_header::Moment;
-use agv_host::{RunFault, limit_waits, listener_at, moment_now};
 use agv_store::Desk;
 use sqlite::{Alter, Connection, Error};
 use std::alloc::Global;
-use std::io::Write;
-use std::net::{TcpListener, TcpStream};
+use std::io::{self, Write};
+use std::net::{Ipv4Addr, SocketAddr, SocketAddrV4, TcpListener, TcpStream};
+use std::time::{Duration, SystemTime, UNIX_EPOCH};
 
 /// Why no connection was served.
 #[derive(Clone, Copy, Debug, PartialEq, Eq, thiserror::Error)]
@@ -22,6 +23,9 @@ pub enum NextFault {
     #[error("the clock is not between 1970 and 2099")]
     Clock,
 }
+
+/// How long a read or a write of a connection may wait for its client, in seconds.
+pub const MAX_WAIT_SECONDS: u64 = 10;
 
 /// Listens on the port of this machine, says on which, and serves connections by the desk of this database.
 pub(crate) fn serve<S: Alter + Drop, W: Write>(
@@ -37,6 +41,26 @@ pub(crate) fn serve<S: Alter + Drop, W: Write>(
     let mut desk = desk_of(alloc, opened)?;
     let mut listener = listener_at(rt, port, writer)?;
     serve_connections(rt, alloc, &mut desk, &mut listener, connections)
+}
+
+/// Listens on the port of this machine, and says on which.
+fn listener_at<W: Write>(
+    rt: &HostRuntime,
+    port: u16,
+    writer: &mut CountingIo<W>,
+) -> Result<TcpListener, RunFault> {
+    let local = SocketAddr::V4(SocketAddrV4::new(Ipv4Addr::LOCALHOST, port));
+    let Ok(listener) = TcpListener::bind(rt, local) else {
+        return Err(RunFault::Net);
+    };
+    let Ok(bound) = listener.local_addr() else {
+        return Err(RunFault::Net);
+    };
+    let said = writeln!(writer, "listening on 127.0.0.1:{}", bound.port());
+    if said.is_err() || writer.flush().is_err() {
+        return Err(RunFault::Write);
+    }
+    Ok(listener)
 }
 
 /// Serves this many connections, one after another. A fault of a connection ends that connection; one of the store ends the
@@ -91,4 +115,25 @@ fn serve_connection<S: Alter + Drop>(
     let mut reader = CountingIo::new(stream);
     let mut writer = CountingIo::new(stream);
     serve_stream(alloc, desk, at, &mut reader, &mut writer)
+}
+
+/// Limits how long a read and a write of the connection may wait.
+fn limit_waits(stream: &TcpStream) -> io::Result<()> {
+    let most = Some(Duration::from_secs(MAX_WAIT_SECONDS));
+    stream.set_read_timeout(most)?;
+    stream.set_write_timeout(most)
+}
+
+/// The moment now, by the clock.
+fn moment_now(rt: &HostRuntime) -> Option<Moment> {
+    let Ok(now) = SystemTime::now(rt) else {
+        return None;
+    };
+    let Ok(since) = now.duration_since(UNIX_EPOCH) else {
+        return None;
+    };
+    match i64::try_from(since.as_millis()) {
+        Ok(ms) => Moment::of(ms),
+        Err(_) => None,
+    }
 }

@@ -2,16 +2,18 @@
 //! stream is served, or a report printed; or a file of the first schema is migrated to the second.
 ghost use Rattle.std.specs.Prelude.{◌≡◌, ◌⊎◌, ◌≤◌, ◌<◌, IfErr, IfOk};
 ghost use Rattle.sqlite.specs.Held.{IsNew};
+ghost use Rattle.agv_command_line.specs.CommandLine.{last_moment};
 ghost use Rattle.agv_program.specs.Runs.{IsNewDatabase, IsReplayed, IsReplayedAnew, KnowsNothing};
-ghost use Rattle.agv_host.specs.declared.outcome.RunFault.TheVariants as fault;
+ghost use Rattle.agv_program.specs.declared.outcome.RunFault.TheVariants as fault;
 
+use crate::outcome::{RunFault, end_of};
 use agv_command_line::ReportKind;
 use agv_desk::Answer;
 use agv_face::{CountingIo, serve_stream, write_whole};
-use agv_host::{RunFault, end_of, moment_of};
+use agv_header::Moment;
 use agv_store::Desk;
-use agv_table_reading::world_laws::a_database_tells_its_world;
 use agv_world::Fault;
+use agv_table_reading::world_laws::a_database_tells_its_world;
 use sqlite::{Alter, Connection, Error, ErrorCode};
 use std::alloc::Global;
 use std::io::{Read, Write};
@@ -74,6 +76,20 @@ fn replay_on<S: Alter + Drop, R: Read, W: Write>(
     let at = moment_of(at)?;
     let mut desk = desk;
     end_of(serve_stream(alloc, &mut desk, at, reader, writer))
+}
+
+/// The moment this many milliseconds since 1970, up to 2099.
+fn moment_of(ms: u64) -> Result<Moment, RunFault>
+    ensures moment { IfOk result (λ at. (at ≡ ms) × (ms ≤ last_moment)) }
+    ensures none { IfErr result (λ why. (why ≡ fault.Clock) × (last_moment < ms)) }
+{
+    let Ok(ms) = i64::try_from(ms) else {
+        return Err(RunFault::Clock);
+    };
+    match Moment::of(ms) {
+        Some(at) => Ok(at),
+        None => Err(RunFault::Clock),
+    }
 }
 
 /// Prints a report.

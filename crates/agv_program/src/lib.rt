@@ -7,14 +7,14 @@
 //! - `desks` has what is done over any store: a desk is opened in it, and the requests of a stream are answered, a report
 //!   is printed, or a file of the first schema is migrated to the second.
 //! - `connections` listens on a port and serves one connection after another ([`serve_next`]).
-//! - `agv_host` says how a run ends ([`RunFault`], [`end_of`]), and what is said where there is no line to carry out
-//!   ([`NoLine`]); these stand here too.
+//! - `outcome` says how a run ends ([`RunFault`]), and what is said where there is no line to carry out ([`NoLine`]).
 #![tactic(auto)]
 
 mod connections;
 mod desks;
+mod outcome;
 mod run;
 
-pub use agv_host::{MAX_WAIT_SECONDS, NoLine, RunFault, end_of};
-pub use connections::{NextFault, serve_next};
+pub use connections::{MAX_WAIT_SECONDS, NextFault, serve_next};
+pub use outcome::{NoLine, RunFault, end_of};
 pub use run::run_line;

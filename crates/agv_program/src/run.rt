@@ -1,15 +1,15 @@
 //! A line is carried out: the file that it names is opened, or a database in memory, and its connection handed on.
 ghost use Rattle.std.specs.Prelude.{◌≡◌, IfOk, codes};
 ghost use Rattle.sqlite.specs.Held.{IsNew};
-ghost use Rattle.agv_program.specs.Runs.{IsCarriedOut, IsReplayedInMemory, IsRun};
+ghost use Rattle.agv_program.specs.Runs.{IsCarriedOut, IsReplayedInMemory, IsRun, IsTold, status_of};
 
 use crate::connections::serve;
 use crate::desks::{migrate, replay, report};
+use crate::outcome::RunFault;
 use agv_command_line::Line;
 use agv_database::laws::stores_in_memory_are_clean;
 use agv_database::{open_file, open_in_memory};
-use agv_face::CountingIo;
-use agv_host::{RunFault, tell};
+use agv_face::{CountingIo, write_whole};
 use sqlite::{Alter, Connection, Error};
 use std::alloc::Global;
 use std::io::{Read, Write};
@@ -115,4 +115,18 @@ fn replay_in_memory<R: Read, W: Write>(
 {
     stores_in_memory_are_clean();
     replay(alloc, open_in_memory(alloc), at, reader, writer)
+}
+
+/// Says a fault in its line, and gives the exit status. A write that fails here changes nothing about it.
+fn tell<E: Write>(end: Result<(), RunFault>, errors: &mut CountingIo<E>) -> u8
+    ensures line { IsTold E.contents errors.old errors.new end }
+    ensures status { result ≡ status_of end }
+{
+    match end {
+        Ok(()) => 0,
+        Err(fault) => {
+            write_whole(errors, fault.line().as_bytes());
+            1
+        }
+    }
 }

@@ -2,14 +2,14 @@ use Rattle.std.proofs.Common.{◌≡◌, ◌≤◌, ◌<◌, ◌+◌, ◌-◌, �
 use Rattle.std.proofs.Math.ListN.{length-drop}
 use Rattle.std.proofs.lemmas.List.{drop-drop}
 use Rattle.std.proofs.KnownBytes.{Keeps-refl}
-use Rattle.agv_stream_io.specs.Bytes.{IsRead}
+use Rattle.agv_face.specs.Bytes.{IsRead}
 use Rattle.agv_face.specs.StreamEnd.{most_reads}
-use Rattle.agv_stream_io.specs.CountingIo.{calls_of, counted}
+use Rattle.agv_face.specs.CountingIo.{calls_of, counted}
 use Rattle.agv_face.specs.declared.next.Next.TheVariants as next
 use Rattle.agv_face.proofs.Serving.{later_then}
 use Rattle.agv_face.proofs.HasServed.{HasServed, none_served}
 use Rattle.agv_face.proofs.Exits.{answer_cut, answer_cut_counted, answered_on, cut_counted, end_counted, end_found, failed_still, fault_cut, fault_told, last_answered, last_counted, machine_counted, machine_failed, none_come, none_counted, some_bytes, some_come, told_counted}
-use Rattle.agv_stream_io.proofs.Writing.{failed_then}
+use Rattle.agv_face.proofs.Writing.{failed_then}
 use Rattle.agv_face.proofs.stream.serve_requests.Goals as goal
 
 -- each answer took a byte at least of what the reads gave
@@ -25,8 +25,8 @@ loop-reads-init g c =
       omega arith,
       c.min-most.ensures,
       omega (arith, c.args.buffers.now.input.ok.0, ap length c.requires.none),
-      omega (arith, c.calls-calls.ensures),
-      omega (arith, c.calls-calls.ensures),
+      omega arith,
+      omega arith,
     )
 
 -- the input is at its end

@@ -1,7 +1,7 @@
 use Rattle.std.proofs.Common.{◌≡◌, ◌≤◌, ◌+◌, ◌-◌, ◌*◌, drop, vec_len, vec_capacity}
 use Rattle.agv_http.specs.answers.Sizes.{most_answer}
 use Rattle.agv_face.specs.StreamEnd.{most_reads}
-use Rattle.agv_stream_io.specs.CountingIo.{calls_of, counted}
+use Rattle.agv_face.specs.CountingIo.{calls_of, counted}
 use Rattle.agv_face.proofs.HasServed.{HasServed}
 use Rattle.agv_face.proofs.stream.serve_requests.Given as goal
 

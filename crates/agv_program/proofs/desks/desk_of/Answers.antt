@@ -1,5 +1,5 @@
 use Rattle.std.proofs.Common.{◌≡◌, ◌⊎◌, sym, subst}
-use Rattle.agv_host.specs.declared.outcome.RunFault.TheVariants as fault
+use Rattle.agv_program.specs.declared.outcome.RunFault.TheVariants as fault
 use Rattle.agv_program.proofs.NewDesks.{new_desk, new_fault}
 use Rattle.agv_program.proofs.desks.desk_of.Goals as goal
 

@@ -1,21 +1,21 @@
 //! Bytes that come from a reader, and bytes that go to a writer.
 ghost use Rattle.std.specs.Prelude.{◌≡◌, ◌≤◌, ◌<◌, ◌+◌, ◌++◌, drop, length, vec_len, vec_capacity, IfOk, OnOk, OnErr};
 ghost use Rattle.std.specs.Io.KnownBytes.{Keeps};
-ghost use Rattle.agv_stream_io.specs.Bytes.{IsPutWhole, IsRead};
-ghost use Rattle.agv_stream_io.specs.CountingIo.{FailedOnce, HadCall, inner_of};
+ghost use Rattle.agv_face.specs.Bytes.{IsPutWhole, IsRead};
+ghost use Rattle.agv_face.specs.CountingIo.{FailedOnce, HadCall, inner_of};
 
 use crate::counting_io::CountingIo;
 use std::io::{Read, Write};
 
 /// The longest request, its head and its body together, in bytes: no more are ever buffered.
-pub const LONGEST_REQUEST: usize = 73_728;
+pub(crate) const LONGEST_REQUEST: usize = 73_728;
 
 /// The most bytes that one read requests.
 const ONE_READ: usize = 4096;
 
 /// The reader failed.
 #[derive(Clone, Copy)]
-pub struct NotRead;
+pub(crate) struct NotRead;
 
 /// Writes all the bytes, and returns whether they were written. A write that takes none is a fault, and so is any error.
 pub fn write_whole<W: Write>(writer: &mut CountingIo<W>, bytes: &[u8]) -> bool
@@ -33,7 +33,7 @@ pub fn write_whole<W: Write>(writer: &mut CountingIo<W>, bytes: &[u8]) -> bool
 }
 
 /// The bytes after the first `n`.
-pub fn behind(buf: &Vec<u8>, n: usize) -> &[u8]
+pub(crate) fn behind(buf: &Vec<u8>, n: usize) -> &[u8]
     requires { n ≤ vec_len buf.now }
     ensures { result.now ≡ drop n buf.now.items }
 {
@@ -41,7 +41,7 @@ pub fn behind(buf: &Vec<u8>, n: usize) -> &[u8]
 }
 
 /// Drops the first bytes.
-pub fn drop_front(buf: &mut Vec<u8>, n: usize)
+pub(crate) fn drop_front(buf: &mut Vec<u8>, n: usize)
     requires { n ≤ vec_len buf.old }
     ensures items { buf.new.items ≡ drop n buf.old.items }
     ensures capacity { vec_capacity buf.new ≡ vec_capacity buf.old }
@@ -52,7 +52,10 @@ pub fn drop_front(buf: &mut Vec<u8>, n: usize)
 
 /// One read, whose bytes go to the end of a buffer that has memory for some more of a request: `false` at the end of the
 /// input.
-pub fn read_some<R: Read>(reader: &mut CountingIo<R>, buf: &mut Vec<u8>) -> Result<bool, NotRead>
+pub(crate) fn read_some<R: Read>(
+    reader: &mut CountingIo<R>,
+    buf: &mut Vec<u8>,
+) -> Result<bool, NotRead>
     requires some { vec_len buf.old < 73728 }
     requires capacity { 73728 ≤ vec_capacity buf.old }
     ensures read { IfOk result (IsRead R.remaining reader.old reader.new buf.old.items buf.new.items) }

@@ -1,6 +1,6 @@
 -- What a clause reads of a reader or writer whose calls are counted.
 use Rattle.std.specs.Prelude.{◌≡◌, ℕ, ◌≤◌, ◌⊎◌, ◌+◌, ◌-◌, ◌^◌, min}
-use Rattle.agv_stream_io.specs.declared.counting_io.CountingIo.{CountingIo}
+use Rattle.agv_face.specs.declared.counting_io.CountingIo.{CountingIo}
 
 -- the reader or the writer
 abbrev pub inner_of : {T : Type 0} → CountingIo T → T

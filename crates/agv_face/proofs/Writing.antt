@@ -3,9 +3,9 @@ use Rattle.std.proofs.Common.{◌≡◌, ◌<◌, ◌-◌, ℕ, List, [], length
 use Rattle.std.specs.Io.KnownBytes.{Appends, Keeps}
 use Rattle.std.proofs.KnownBytes.{Appends-kept}
 use Rattle.std.proofs.Math.ListN.{length-drop}
-use Rattle.agv_stream_io.specs.Bytes.{IsCut}
-use Rattle.agv_stream_io.specs.CountingIo.{counted, FailedOnce, FailedNever}
-use Rattle.agv_stream_io.specs.declared.counting_io.CountingIo.{CountingIo}
+use Rattle.agv_face.specs.Bytes.{IsCut}
+use Rattle.agv_face.specs.CountingIo.{counted, FailedOnce, FailedNever}
+use Rattle.agv_face.specs.declared.counting_io.CountingIo.{CountingIo}
 
 -- so many were written, and then no more
 pub cut_at : (old now new : Option (List ℕ)) (bytes : List ℕ) (done : ℕ) → Appends old now (take done bytes) → Keeps now new → done < length bytes → IsCut old new bytes

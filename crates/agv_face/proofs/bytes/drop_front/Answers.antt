@@ -1,7 +1,7 @@
 use Rattle.std.proofs.Common.{◌≡◌, ◌-◌, ◌∙◌, ap₂, arith, length, take, drop}
 use Rattle.std.proofs.Math.ListN.{length-drop}
 use Rattle.std.proofs.Math.Seq.{take-append_seam}
-use Rattle.agv_stream_io.proofs.bytes.drop_front.Goals as goal
+use Rattle.agv_face.proofs.bytes.drop_front.Goals as goal
 
 -- what stands behind the first bytes stays
 pub returns-clause-items : goal.returns-clause-items

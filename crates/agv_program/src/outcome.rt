@@ -1,13 +1,12 @@
 //! How a run of the program ends, and what it prints if the arguments are not accepted.
 ghost use Rattle.std.specs.Prelude.{◌≡◌};
-ghost use Rattle.agv_host.specs.RunEnds.{IsTold, end_by, end_of, fault_line, opening_fault, said_of, status_of, status_without};
+ghost use Rattle.agv_program.specs.Runs.{end_by, end_of, fault_line, opening_fault, said_of, status_without};
 
 use agv_command_line::LineFault;
+use agv_face::{Ended, Served, StreamFault};
 use agv_header::Refusal;
 use agv_row_queries::OpenFault;
-use agv_stream_io::{CountingIo, Ended, Served, StreamFault, write_whole};
 use clap::Error;
-use std::io::Write;
 use std::{error, fmt};
 
 /// Why a run failed, as the program prints it.
@@ -38,7 +37,7 @@ pub enum RunFault {
 
 impl RunFault {
     ghost use Rattle.std.specs.Prelude.{◌≡◌};
-    ghost use Rattle.agv_host.specs.RunEnds.{fault_line};
+    ghost use Rattle.agv_program.specs.Runs.{fault_line};
 
     /// The line that says it, with its line end: `fault: ` and its name.
     pub fn line(self) -> &'static str
@@ -57,7 +56,7 @@ impl RunFault {
 }
 
 impl From<OpenFault> for RunFault {
-    ghost use Rattle.agv_host.specs.RunEnds.{opening_fault};
+    ghost use Rattle.agv_program.specs.Runs.{opening_fault};
 
     ghost from_gives = { λ why fault. fault ≡ opening_fault why };
 
@@ -94,7 +93,7 @@ impl NoLine {
 }
 
 impl From<LineFault> for NoLine {
-    ghost use Rattle.agv_host.specs.RunEnds.{without_line};
+    ghost use Rattle.agv_program.specs.Runs.{without_line};
 
     ghost from_gives = { λ why without. without ≡ without_line why };
 
@@ -140,19 +139,5 @@ fn end_by(ended: Ended) -> Result<(), RunFault>
         Ended::Refused(Refusal::Memory) => Err(RunFault::Memory),
         Ended::Refused(Refusal::Storage) => Err(RunFault::Storage),
         _ => Ok(()),
-    }
-}
-
-/// Says a fault in its line, and gives the exit status. A write that fails here changes nothing about it.
-pub fn tell<E: Write>(end: Result<(), RunFault>, errors: &mut CountingIo<E>) -> u8
-    ensures line { IsTold E.contents errors.old errors.new end }
-    ensures status { result ≡ status_of end }
-{
-    match end {
-        Ok(()) => 0,
-        Err(fault) => {
-            write_whole(errors, fault.line().as_bytes());
-            1
-        }
     }
 }

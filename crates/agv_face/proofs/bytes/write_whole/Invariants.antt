@@ -1,7 +1,7 @@
 use Rattle.std.proofs.Common.{length, ◌-◌, ◌≤◌, take}
 use Rattle.std.specs.Io.KnownBytes.{Appends}
-use Rattle.agv_stream_io.specs.CountingIo.{FailedNever}
-use Rattle.agv_stream_io.proofs.bytes.write_whole.Given as goal
+use Rattle.agv_face.specs.CountingIo.{FailedNever}
+use Rattle.agv_face.proofs.bytes.write_whole.Given as goal
 
 abbrev pub invariant-loop-done : goal.invariant-loop-done
 invariant-loop-done g l = (l.done ≤ length l.bytes) × Appends (g.W.Write.contents l.initial.writer.inner) (g.W.Write.contents l.writer.inner) (take l.done l.bytes) × FailedNever l.initial.writer l.writer

@@ -2,7 +2,7 @@
 ghost use Rattle.std.specs.Prelude.{◌≡◌, ◌==◌, ◌&&◌, ◌<◌, ◌⊎◌, not, length, IfOk, OnOk, OnErr, if◌then◌else◌};
 ghost use Rattle.std.specs.Io.{ReadsAtMost, WritesAtMost};
 ghost use Rattle.std.specs.Io.KnownBytes.{Keeps, ReadConsumes, WriteAppends};
-ghost use Rattle.agv_stream_io.specs.CountingIo.{counted};
+ghost use Rattle.agv_face.specs.CountingIo.{counted};
 
 use std::io::{self, Read, Write};
 
@@ -19,7 +19,7 @@ pub struct CountingIo<T> {
 }
 
 impl<T> CountingIo<T> {
-    ghost use Rattle.agv_stream_io.specs.CountingIo.{inner_of, calls_of, failures_of};
+    ghost use Rattle.agv_face.specs.CountingIo.{inner_of, calls_of, failures_of};
 
     /// The reader or the writer, before its first call.
     pub fn new(inner: T) -> CountingIo<T>
@@ -69,7 +69,7 @@ impl<T> CountingIo<T> {
 }
 
 impl<R: Read> Read for CountingIo<R> {
-    ghost use Rattle.agv_stream_io.specs.CountingIo.{inner_of, HadCall, FailedOnce, FailedNever};
+    ghost use Rattle.agv_face.specs.CountingIo.{inner_of, HadCall, FailedOnce, FailedNever};
 
     ghost remaining = { λ counting. R.remaining (inner_of counting) };
 
@@ -87,7 +87,7 @@ impl<R: Read> Read for CountingIo<R> {
 }
 
 impl<W: Write> Write for CountingIo<W> {
-    ghost use Rattle.agv_stream_io.specs.CountingIo.{inner_of, HadCall, FailedOnce, FailedNever};
+    ghost use Rattle.agv_face.specs.CountingIo.{inner_of, HadCall, FailedOnce, FailedNever};
 
     ghost contents = { λ counting. W.contents (inner_of counting) };
 

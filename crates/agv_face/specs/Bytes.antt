@@ -1,8 +1,8 @@
 -- What became of bytes that were read or written.
 use Rattle.std.specs.Prelude.{◌≡◌, ℕ, ◌<◌, ◌≤◌, ◌++◌, Bool, true, false, List, [], length, Option}
 use Rattle.std.specs.Io.KnownBytes.{Appends, Consumes, IsAtEnd}
-use Rattle.agv_stream_io.specs.declared.counting_io.CountingIo.{CountingIo}
-use Rattle.agv_stream_io.specs.CountingIo.{inner_of, FailedOnce, FailedNever}
+use Rattle.agv_face.specs.declared.counting_io.CountingIo.{CountingIo}
+use Rattle.agv_face.specs.CountingIo.{inner_of, FailedOnce, FailedNever}
 
 -- one read, whose bytes went to the end of the buffer; none at the end of the input
 pub record IsRead {R : Type 0} (remaining : R → Option (List ℕ)) (reader reader_then : CountingIo R) (buf buf_then : List ℕ) (more : Bool) : Type 0 where

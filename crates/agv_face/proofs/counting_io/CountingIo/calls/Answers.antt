@@ -1,5 +1,5 @@
 use Rattle.std.proofs.Common.{refl}
-use Rattle.agv_stream_io.proofs.counting_io.CountingIo.failures.Goals as goal
+use Rattle.agv_face.proofs.counting_io.CountingIo.calls.Goals as goal
 
 pub returns : goal.returns
 returns g c = refl

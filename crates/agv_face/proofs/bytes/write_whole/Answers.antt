@@ -4,8 +4,8 @@ use Rattle.std.proofs.Math.ListN.{length-drop}
 use Rattle.std.proofs.Math.Seq.{take-add}
 use Rattle.std.proofs.KnownBytes.{Appends-trans}
 use Rattle.std.specs.Io.KnownBytes.{Appends}
-use Rattle.agv_stream_io.proofs.Writing.{cut_at, keeps-nil, failed_then}
-use Rattle.agv_stream_io.proofs.bytes.write_whole.Goals as goal
+use Rattle.agv_face.proofs.Writing.{cut_at, keeps-nil, failed_then}
+use Rattle.agv_face.proofs.bytes.write_whole.Goals as goal
 
 pub loop-done-preserved : goal.loop-done-preserved
 loop-done-preserved g c =

@@ -1,2 +1,0 @@
-pub mod CountingIo
-pub mod Bytes
