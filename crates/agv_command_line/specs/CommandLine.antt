@@ -1,7 +1,9 @@
 -- The command line: what `clap` is told of it, and what a line asks for.
-use Rattle.std.specs.Prelude.{◌≡◌, ◌≤◌, ◌⊎◌, ⊤, ℕ, ℤ, pos, true, false, List, [], ◌∷◌, map, codes, Some}
+use Rattle.std.specs.Prelude.{◌≡◌, ◌≤◌, ◌⊎◌, ⊤, ℕ, ℤ, pos, true, false, List, [], ◌∷◌, map, codes, Some, Result, Ok}
 use Rattle.std.specs.Borrow.{Bor}
+use Rattle.std.specs.declared.alloc.AllocError.{AllocError}
 use Rattle.std.specs.Str.Parse.{IsNumeral, without_leading_plus, digits_value}
+use Rattle.clap.specs.Built.{AddsSubcommand}
 use Rattle.clap.specs.Facts.{parser_of_value}
 use Rattle.clap.specs.Values.{Accepts, unsigned_up_to}
 use Rattle.clap.specs.Words.{App, IsAmong, Row, Rule, Shape, Text, app_of, fault_of, first_of, kind_of, new_app, new_rule, one_of, subcommand_of, with_rule, with_subcommand}
@@ -102,6 +104,10 @@ desk kinds = with_subcommand (reporting kinds) migrate.top
 -- the command is told so, and none of its arguments is one of its subcommands' too
 abbrev pub IsApp : App → Command → Type 0
 IsApp app command = (app_of command ≡ app) × ((out-Command command).has_globals ≡ false)
+
+-- there are the command and the subcommand, and this is the one with the other
+abbrev pub IsJoined : Result Command AllocError → Result Command AllocError → Command → Type 0
+IsJoined command sub new = (old : Command) × (added : Command) × (command ≡ Ok old) × (sub ≡ Ok added) × AddsSubcommand old added new
 
 -- ---- what the words give
 

@@ -1,9 +1,9 @@
 //! The command line: `replay --db FILE|memory --at MILLIS`, `serve --db FILE --port P
 //! --connections N`, `report --db FILE stock|holds`, and `migrate --db FILE`.
 ghost use Rattle.std.specs.Prelude.{◌≡◌, IfOk, IfErr, IfSome, IsSome, false, map, string_bytes, codes};
-ghost use Rattle.clap.specs.Words.{found_of, new_app, rows_of, rule_of, with_rule};
+ghost use Rattle.clap.specs.Words.{App, found_of, new_app, rows_of, rule_of, with_rule};
 ghost use Rattle.clap.specs.declared.builder.command.Command.TheViews.{out-Command};
-ghost use Rattle.agv_command_line.specs.CommandLine.{AreKinds, Choice, Gives, HasValues, IsApp, IsLine, IsLineFault, IsOneOf, answering, db, desk, desk_top, kind_word, migrate, name_of, number, positional, replay, replaying, report, report_kind, reporting, required_option, serve};
+ghost use Rattle.agv_command_line.specs.CommandLine.{AreKinds, Choice, Gives, HasValues, IsApp, IsJoined, IsLine, IsLineFault, IsOneOf, answering, db, desk, desk_top, kind_word, migrate, name_of, number, positional, replay, replaying, report, report_kind, reporting, required_option, serve};
 ghost use Rattle.agv_command_line.specs.declared.line.ReportKind.{ReportKind};
 
 use clap::error::ErrorKind;
@@ -98,24 +98,37 @@ pub fn line_of<'a>(alloc: Global, words: &'a [String]) -> Result<Line<'a>, LineF
 fn desk_command<'a>(alloc: Global) -> Result<Command<'a>, AllocError>
     ensures { IfOk result (λ command. (kinds : Choice) × AreKinds kinds × IsApp (desk kinds) command) }
 {
-    let desk = reporting_command(alloc)?;
-    desk.subcommand(migrate_command(alloc)?)
+    with_command(reporting_command(alloc), migrate_command(alloc))
 }
 
 /// The command, with the subcommands that answer requests and `report`.
 fn reporting_command<'a>(alloc: Global) -> Result<Command<'a>, AllocError>
     ensures { IfOk result (λ command. (kinds : Choice) × AreKinds kinds × IsApp (reporting kinds) command) }
 {
-    let desk = answering_command(alloc)?;
-    desk.subcommand(report_command(alloc)?)
+    with_command(answering_command(alloc), report_command(alloc))
 }
 
 /// The command, with the two subcommands that answer requests.
 fn answering_command<'a>(alloc: Global) -> Result<Command<'a>, AllocError>
     ensures { IfOk result (IsApp answering) }
 {
-    let desk = replaying_command(alloc)?;
-    desk.subcommand(serve_command(alloc)?)
+    with_command(replaying_command(alloc), serve_command(alloc))
+}
+
+/// The command with one more subcommand, if there are both. (Its proof is of what is dropped if one is missing.)
+fn with_command<'a>(
+    command: Result<Command<'a>, AllocError>,
+    sub: Result<Command<'a>, AllocError>,
+) -> Result<Command<'a>, AllocError>
+    ensures { IfOk result (IsJoined command.entry sub.entry) }
+{
+    let Ok(command) = command else {
+        return Err(AllocError);
+    };
+    let Ok(sub) = sub else {
+        return Err(AllocError);
+    };
+    command.subcommand(sub)
 }
 
 /// The command, with the subcommand `replay`.
@@ -151,20 +164,39 @@ fn replay_command<'a>(alloc: Global) -> Result<Command<'a>, AllocError>
 {
     let about = "Reads requests from standard input and writes the answers to standard output";
     let example = "Example: desk replay --db memory --at 1700000000000 < requests.txt";
-    named_command(alloc, "replay", about, example)
-        .arg(required_arg(
+    let replay = with_arg(
+        Ok(named_command(alloc, "replay", about, example)),
+        required_arg(
             alloc,
             "db",
             "FILE|memory",
             "The file that keeps the records; `memory` keeps them for this run only",
-        ))?
-        .arg(number_arg(
+        ),
+    );
+    with_arg(
+        replay,
+        number_arg(
             alloc,
             "at",
             "MILLIS",
             4_102_444_799_999,
             "The moment of all requests, in milliseconds since the start of 1970 (UTC)",
-        ))
+        ),
+    )
+}
+
+/// The command with one more argument, if there is the command.
+fn with_arg<'a>(
+    command: Result<Command<'a>, AllocError>,
+    arg: Arg<'a>,
+) -> Result<Command<'a>, AllocError>
+    requires { arg.global ≡ false }
+    ensures { (app : App) → IfOk command.entry (IsApp app) → IfOk result (IsApp (with_rule app (rule_of arg.entry))) }
+{
+    let Ok(command) = command else {
+        return Err(AllocError);
+    };
+    command.arg(arg)
 }
 
 /// `--db FILE`.
@@ -221,21 +253,26 @@ fn serve_command<'a>(alloc: Global) -> Result<Command<'a>, AllocError>
 {
     let about = "Answers requests over the network, to programs on this machine (127.0.0.1)";
     let example = "Example: desk serve --db desk.db --port 8080 --connections 100";
-    file_command(alloc, "serve", about, example)?
-        .arg(number_arg(
+    let serve = with_arg(
+        file_command(alloc, "serve", about, example),
+        number_arg(
             alloc,
             "port",
             "P",
             65_535,
             "The port on this machine, 0 to 65535; 0 picks a free one and prints it",
-        ))?
-        .arg(number_arg(
+        ),
+    );
+    with_arg(
+        serve,
+        number_arg(
             alloc,
             "connections",
             "N",
             4_294_967_295,
             "How many connections are served, one after another, before the program ends",
-        ))
+        ),
+    )
 }
 
 /// The subcommand `report`.
@@ -244,7 +281,10 @@ fn report_command<'a>(alloc: Global) -> Result<Command<'a>, AllocError>
 {
     let about = "Prints a report of the records: where the loads are, or what the vehicles hold";
     let example = "Example: desk report --db desk.db stock";
-    file_command(alloc, "report", about, example)?.arg(kind_arg(alloc))
+    with_arg(
+        file_command(alloc, "report", about, example),
+        kind_arg(alloc),
+    )
 }
 
 /// The name of a report, a positional argument.

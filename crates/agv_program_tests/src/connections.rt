@@ -1,10 +1,10 @@
-//! A connection over the network is served, by a desk in the kit's store in memory (docs/GATE.md).
+//! A connection over the network is served.
 
+use crate::ways::{Way, in_memory};
 use agv_face::{Ended, Served};
 use agv_program::serve_next;
 use agv_store::Desk;
-use sqlite::{Alter, Connection};
-use std::alloc::{AllocError, Global};
+use sqlite::Alter;
 use std::io::{self, Write};
 use std::net::{TcpListener, TcpStream};
 use std::process::Abort;
@@ -18,20 +18,6 @@ const ANSWER: &str = concat!(
     "Connection: close\r\n\r\n{\"name\":\"NoLoad\",\"refusal\":23}",
 );
 
-/// The desk of this database, which is empty.
-fn desk_in<S: Alter + Drop>(
-    ends: &impl Abort,
-    alloc: Global,
-    opened: Result<Connection<S>, AllocError>,
-) -> Desk<S> {
-    let conn = opened.expect(ends, "a database");
-    assert!(ends; conn.is_autocommit(), "idle");
-    match Desk::open(alloc, conn) {
-        Ok(desk) => desk,
-        Err(_) => panic!(ends; "a desk is made"),
-    }
-}
-
 /// A client that has connected and sent its request.
 fn client_of(rt: &HostRuntime, ends: &impl Abort, listener: &TcpListener) -> TcpStream {
     let addr = listener.local_addr().expect(ends, "its address");
@@ -43,30 +29,18 @@ fn client_of(rt: &HostRuntime, ends: &impl Abort, listener: &TcpListener) -> Tcp
 }
 
 /// This desk serves a connection on a free port.
-fn serve_one<S: Alter + Drop>(rt: &HostRuntime, ends: &impl Abort, desk: &mut Desk<S>) {
+pub(crate) fn serve_one<S: Alter + Drop>(rt: &HostRuntime, ends: &impl Abort, desk: &mut Desk<S>) {
     let mut listener = TcpListener::bind(rt, "127.0.0.1:0").expect(ends, "a port");
     let client = client_of(rt, ends, &listener);
     let served = serve_next(rt, rt.alloc(), desk, &mut listener);
-    let wanted = Served {
-        answers: 1,
-        ended: Ended::Close,
-    };
+    let ended = Ended::Close;
+    let wanted = Served { answers: 1, ended };
     assert!(ends; served == Ok(Ok(wanted)), "the end of the connection");
     let answer = io::read_to_string(rt.alloc(), client).expect(ends, "an answer");
     assert!(ends; answer.as_str() == ANSWER, "the answer");
 }
 
-/// The desk of this database serves a connection.
-fn serve_one_in<S: Alter + Drop>(
-    rt: &HostRuntime,
-    ends: &impl Abort,
-    opened: Result<Connection<S>, AllocError>,
-) {
-    let mut desk = desk_in(ends, rt.alloc(), opened);
-    serve_one(rt, ends, &mut desk);
-}
-
 #[test]
 fn a_connection_is_served(rt: HostRuntime) {
-    serve_one_in(&rt, &rt, Connection::open_in_memory(rt.alloc()));
+    in_memory(&rt, rt.alloc(), &Way::Connection(&rt));
 }

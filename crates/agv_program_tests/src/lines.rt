@@ -1,23 +1,11 @@
 //! Which words ask for what, and a line that is carried out.
 
+use crate::texts::{ASKS, DONE, KNOWN, REGISTERS, joined};
 use agv_command_line::{Line, LineFault, ReportKind, line_of};
 use agv_face::CountingIo;
 use agv_program::run_line;
 use std::alloc::Global;
 use std::process::Abort;
-
-/// The load L1 is registered and asked for.
-const REQUESTS: &str = concat!(
-    "POST /loads HTTP/1.1\r\nContent-Length: 13\r\n\r\n{\"load\":\"L1\"}",
-    "GET /loads/L1 HTTP/1.1\r\n\r\n",
-);
-
-/// It is done, and L1 stands at the checking place.
-const ANSWERS: &str = concat!(
-    "HTTP/1.1 200 OK\r\nContent-Length: 2\r\nContent-Type: application/json\r\n\r\n{}",
-    "HTTP/1.1 200 OK\r\nContent-Length: 43\r\nContent-Type: application/json\r\n\r\n",
-    "{\"job\":null,\"load\":\"L1\",\"place\":\"checking\"}",
-);
 
 /// The words of a line.
 fn words_of(ends: &impl Abort, alloc: Global, line: &str) -> Vec<String> {
@@ -59,7 +47,9 @@ fn requests_are_answered_in_memory(rt: HostRuntime) {
         db: "memory",
         at: 1_700_000_000_000,
     };
-    let mut reader = CountingIo::new(REQUESTS.as_bytes());
+    let requests = joined(&rt, rt.alloc(), &[REGISTERS, ASKS]);
+    let answers = joined(&rt, rt.alloc(), &[DONE, KNOWN]);
+    let mut reader = CountingIo::new(requests.as_str().as_bytes());
     let mut writer = CountingIo::new(Vec::new(rt.alloc()));
     let mut faults = CountingIo::new(Vec::new(rt.alloc()));
     let status = run_line(
@@ -72,7 +62,7 @@ fn requests_are_answered_in_memory(rt: HostRuntime) {
     );
     assert!(rt; status == 0, "the status");
     assert!(rt;
-        writer.inner().as_slice() == ANSWERS.as_bytes(),
+        writer.inner().as_slice() == answers.as_str().as_bytes(),
         "the answers"
     );
     assert!(rt; faults.inner().is_empty(), "no fault");

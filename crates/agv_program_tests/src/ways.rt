@@ -1,5 +1,6 @@
 //! What is tried by a desk in a new database, which is the kit's store in memory.
 
+use crate::connections::serve_one;
 use crate::cuts::{Cut, serve_cut};
 use crate::desks::desk_in;
 use crate::reads::read_ten_times;
@@ -18,6 +19,8 @@ pub(crate) enum Way<'t> {
     InTurn,
     /// A stream that may have ten reads.
     TenReads,
+    /// A connection on a free port of this machine.
+    Connection(&'t HostRuntime),
 }
 
 impl Way<'_> {
@@ -27,6 +30,7 @@ impl Way<'_> {
             Way::Cut(cut) => serve_cut(ends, alloc, desk, cut),
             Way::InTurn => answer_in_turn(ends, alloc, desk),
             Way::TenReads => read_ten_times(ends, alloc, desk),
+            Way::Connection(rt) => serve_one(rt, ends, desk),
         }
     }
 
