@@ -20,13 +20,13 @@ agv_middle: agv_first
 agv_middle_tests: agv_app
 """
 
-# It notes the crate that it is in and its words. Where it is to be slow it waits until the crate was seen. For `lib` it wants each crate below
-# to be proved, in the folder that it is in, and proves its own; for `run` it makes a program. For `try` it leaves a small module and a larger
-# one, the program's, and goes on until it is ended.
+# It notes the folder that it is in and its words. For `ci` it wants a repository of crates without must-fail edits, in which each crate stands
+# behind those that it uses, and makes a program; where it is to be slow it waits at each crate until that was seen. For `try` it leaves a small
+# module and a larger one, the program's, and goes on until it is ended.
 RT = """#!/bin/sh
-crate=${PWD##*/}
-echo "$crate $*" >>"$NOTES/calls"
-[ ! -e "$NOTES/niceness" ] || awk '{ print $19 }' /proc/$$/stat >"$NOTES/niceness-$crate"
+folder=${PWD##*/}
+echo "${folder%-*} $*" >>"$NOTES/calls"
+echo $$ >"$NOTES/process"
 if [ "$1" = try ]; then
     if [ ! -e "$NOTES/no-module" ]; then
         mkdir -p "$TMPDIR/a/a" "$TMPDIR/a/b"
@@ -40,43 +40,38 @@ if [ "$1" = try ]; then
     [ ! -e "$NOTES/status" ] || exit "$(cat "$NOTES/status")"
     exit 0
 fi
-if [ -e "$NOTES/slow" ]; then
-    echo 'so far: 0 of 210 functions checked; the verdict comes last'
-    echo 'so far: 15 of 210 functions checked'
-    tries=0
-    until [ -e "$NOTES/seen-$crate" ]; do
-        tries=$((tries + 1))
-        [ "$tries" -lt 6000 ] || { echo 'nobody has seen it'; exit 1; }
-        sleep 0.1
+[ -d .git ] && [ -e HANDLES ] || { echo 'this is no top'; exit 1; }
+[ ! -e "$NOTES/says" ] || cat "$NOTES/says"
+WAIT='for try in 1 2 3 4 5 6 7 8 9; do for more in 1 2 3 4 5 6 7 8 9; do [ ! -e "$0" ] || exit 0; sleep 2; done; done; exit 1'
+before=' kit_crate '
+while IFS=: read -r crate uses; do
+    for used in $uses; do
+        case $before in *" $used "*) ;; *) echo "$used is not there"; exit 1 ;; esac
     done
-fi
-if [ -e "$NOTES/meets" ] && { [ "$crate" = agv_left ] || [ "$crate" = agv_right ]; }; then
-    touch "$NOTES/met-$crate"
-    tries=0
-    until [ -e "$NOTES/met-agv_left" ] && [ -e "$NOTES/met-agv_right" ]; do
-        tries=$((tries + 1))
-        [ "$tries" -lt 6000 ] || { echo 'the other one never began'; exit 1; }
-        sleep 0.1
+    before="$before$crate "
+    for part in src specs proofs; do
+        [ -d "crates/$crate/$part" ] || { echo "$crate has no $part"; exit 1; }
     done
-    [ "$crate" = agv_left ] || sleep "$(cat "$NOTES/meets")"
-fi
-if [ -e "$NOTES/fails" ] && [ "$crate" = "$(cat "$NOTES/fails")" ]; then
-    echo "fn $crate::one: not proved"
-    echo 'logic=not-proved'
-    exit 1
-fi
-if [ "$1" = lib ]; then
-    for below in $(sed -n 's/:.*//p' ../../crates.txt); do
-        [ "$below" = "$crate" ] || [ -e "../$below/out/rlib/proved" ] || { echo "$below is not there"; exit 1; }
-    done
-    mkdir -p out/rlib
-    touch out/rlib/proved
-fi
-touch "$NOTES/ended-$crate"
-echo 'logic=proved functions=1'
-[ "$1" = run ] || exit 0
-mkdir -p out
-cp "$NOTES/program" out/agv_app
+    [ ! -e "crates/$crate/must-fail" ] && [ ! -e "crates/$crate/out" ] || { echo "$crate has more than is read"; exit 1; }
+    [ ! -e "$NOTES/slow" ] || sh -c "$WAIT" "$NOTES/seen-$crate" --crate-name "$crate" || { echo 'nobody has seen it'; exit 1; }
+    echo "== $crate"
+    if [ -e "$NOTES/fails" ] && [ "$crate" = "$(cat "$NOTES/fails")" ]; then
+        echo "fn $crate::one: not proved"
+        echo 'logic=not-proved'
+        echo "rt: $crate NOT PROVED"
+        exec sleep 600
+    fi
+    if [ -e "$NOTES/kept" ]; then
+        echo "rt: $crate is kept: an earlier run proved it"
+        continue
+    fi
+    echo 'logic=proved functions=1'
+    echo "rt: $crate proved"
+done <crates.txt
+mkdir -p crates/agv_app/out
+cp "$NOTES/program" crates/agv_app/out/agv_app
+[ "$(cat crates/agv_app/stdin)" = text ] && [ ! -e "$NOTES/differs" ] || { echo 'agv_app: it wrote something else'; echo '2 passed, 1 failed'; exit 1; }
+echo '3 passed, 0 failed'
 """
 # It prints its words, and exits with 3.
 ECHO = """#!/bin/sh

@@ -66,7 +66,7 @@ class Built(Tree):
                     self.assertIn(why, said)
                     self.assertIn(file, said)
         self.assertEqual(sorted(os.listdir(self.work)), stands)
-        self.assertEqual(len(self.calls()), 3, 'nothing was built for these')
+        self.assertEqual(len(self.calls()), 1, 'nothing was built for these')
 
     def test_a_desks_file_is_reported(self) -> None:
         """Its tables may be in the file or still in the log beside it, as made by the desk or by another SQLite."""
@@ -208,7 +208,8 @@ class Check(Tree):
 
     @unittest.skipUnless(shutil.which('flock'), 'flock is not here')
     def test_it_removes_what_a_killed_build_has_left(self) -> None:
-        self.write('build/workspaces/agv_first/crates/agv_first/src/lib.rt', 'text')
+        for left in ('workspace-1', 'workspaces'):
+            self.write('build/%s/crates/agv_first/src/lib.rt' % left, 'text')
         self.check('check')
         self.assertEqual(os.listdir(os.path.join(self.top, 'build')), ['lock'])
 

@@ -7,7 +7,7 @@ use Rattle.clap.specs.Simple.{App, with_rule, with_subcommand}
 use Rattle.clap.specs.Words.{Rule, rule_of}
 use Rattle.clap.specs.declared.builder.arg.Arg.{Arg}
 use Rattle.clap.specs.declared.builder.command.Command.{Command}
-use Rattle.agv_command_line.specs.CommandLine.{IsApp, IsJoined}
+use Rattle.agv_command_line.specs.CommandLine.{IsApp, HasSubcommand}
 
 -- one more subcommand
 subcommand_added : (a s : App) (old sub new : Command) → AddsSubcommand old sub new → IsApp a old → IsApp s sub → IsApp (with_subcommand a s.top) new
@@ -16,9 +16,9 @@ subcommand_added a s old sub new added is_old is_sub = (
   added.globals ∙ ap₂ (λ x y. x || y) is_old.1 is_sub.1,
 )
 
--- and where it is joined
-pub subcommand_joined : (a s : App) (command sub : Result Command AllocError) (new : Command) → (joined : IsJoined command sub new) → IsApp a joined.0 → IsApp s joined.1 → IsApp (with_subcommand a s.top) new
-subcommand_joined a s command sub new joined is_old is_sub = subcommand_added a s joined.0 joined.1 new joined.4 is_old is_sub
+-- and where both were made
+pub subcommand_of_both : (a s : App) (command sub : Result Command AllocError) (new : Command) → (both : HasSubcommand command sub new) → IsApp a both.0 → IsApp s both.1 → IsApp (with_subcommand a s.top) new
+subcommand_of_both a s command sub new both is_old is_sub = subcommand_added a s both.0 both.1 new both.4 is_old is_sub
 
 -- one more argument
 pub arg_added : (a : App) (arg : Arg) (old new : Command) → AddsArg old arg new → IsApp a old → arg.global ≡ false → IsApp (with_rule a (rule_of arg)) new

@@ -105,9 +105,9 @@ desk kinds = with_subcommand (reporting kinds) migrate.top
 abbrev pub IsApp : App → Command → Type 0
 IsApp app command = (app_of command ≡ app) × ((out-Command command).has_globals ≡ false)
 
--- there are the command and the subcommand, and this is the one with the other
-abbrev pub IsJoined : Result Command AllocError → Result Command AllocError → Command → Type 0
-IsJoined command sub new = (old : Command) × (added : Command) × (command ≡ Ok old) × (sub ≡ Ok added) × AddsSubcommand old added new
+-- `new` is the command with this subcommand, where both were made
+abbrev pub HasSubcommand : Result Command AllocError → Result Command AllocError → Command → Type 0
+HasSubcommand command sub new = (old : Command) × (added : Command) × (command ≡ Ok old) × (sub ≡ Ok added) × AddsSubcommand old added new
 
 -- ---- what the words give
 

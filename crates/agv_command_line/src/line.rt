@@ -2,8 +2,7 @@
 //! --connections N`, `report --db FILE stock|holds`, and `migrate --db FILE`.
 ghost use Rattle.std.specs.Prelude.{◌≡◌, IfOk, IfErr, IfSome, IsSome, false, map, string_bytes, codes};
 ghost use Rattle.clap.specs.Words.{App, found_of, new_app, rows_of, rule_of, with_rule};
-ghost use Rattle.clap.specs.declared.builder.command.Command.TheViews.{out-Command};
-ghost use Rattle.agv_command_line.specs.CommandLine.{AreKinds, Choice, Gives, HasValues, IsApp, IsJoined, IsLine, IsLineFault, IsOneOf, answering, db, desk, desk_top, kind_word, migrate, name_of, number, positional, replay, replaying, report, report_kind, reporting, required_option, serve};
+ghost use Rattle.agv_command_line.specs.CommandLine.{AreKinds, Choice, Gives, HasSubcommand, HasValues, IsApp, IsLine, IsLineFault, IsOneOf, answering, db, desk, desk_top, kind_word, migrate, name_of, number, positional, replay, replaying, report, report_kind, reporting, required_option, serve};
 ghost use Rattle.agv_command_line.specs.declared.line.ReportKind.{ReportKind};
 
 use clap::error::ErrorKind;
@@ -98,36 +97,32 @@ pub fn line_of<'a>(alloc: Global, words: &'a [String]) -> Result<Line<'a>, LineF
 fn desk_command<'a>(alloc: Global) -> Result<Command<'a>, AllocError>
     ensures { IfOk result (λ command. (kinds : Choice) × AreKinds kinds × IsApp (desk kinds) command) }
 {
-    with_command(reporting_command(alloc), migrate_command(alloc))
+    with_subcommand(reporting_command(alloc), migrate_command(alloc))
 }
 
 /// The command, with the subcommands that answer requests and `report`.
 fn reporting_command<'a>(alloc: Global) -> Result<Command<'a>, AllocError>
     ensures { IfOk result (λ command. (kinds : Choice) × AreKinds kinds × IsApp (reporting kinds) command) }
 {
-    with_command(answering_command(alloc), report_command(alloc))
+    with_subcommand(answering_command(alloc), report_command(alloc))
 }
 
 /// The command, with the two subcommands that answer requests.
 fn answering_command<'a>(alloc: Global) -> Result<Command<'a>, AllocError>
     ensures { IfOk result (IsApp answering) }
 {
-    with_command(replaying_command(alloc), serve_command(alloc))
+    with_subcommand(replaying_command(alloc), serve_command(alloc))
 }
 
-/// The command with one more subcommand, if there are both. (Its proof is of what is dropped if one is missing.)
-fn with_command<'a>(
+/// The command with one more subcommand, if there are both. It takes results, so that a command is dropped early here alone.
+fn with_subcommand<'a>(
     command: Result<Command<'a>, AllocError>,
     sub: Result<Command<'a>, AllocError>,
 ) -> Result<Command<'a>, AllocError>
-    ensures { IfOk result (IsJoined command.entry sub.entry) }
+    ensures { IfOk result (HasSubcommand command.entry sub.entry) }
 {
-    let Ok(command) = command else {
-        return Err(AllocError);
-    };
-    let Ok(sub) = sub else {
-        return Err(AllocError);
-    };
+    let command = command?;
+    let sub = sub?;
     command.subcommand(sub)
 }
 
@@ -135,8 +130,7 @@ fn with_command<'a>(
 fn replaying_command<'a>(alloc: Global) -> Result<Command<'a>, AllocError>
     ensures { IfOk result (IsApp replaying) }
 {
-    let replay = replay_command(alloc)?;
-    top_command(alloc).subcommand(replay)
+    with_subcommand(Ok(top_command(alloc)), replay_command(alloc))
 }
 
 /// The command, before it has a subcommand.
@@ -185,7 +179,7 @@ fn replay_command<'a>(alloc: Global) -> Result<Command<'a>, AllocError>
     )
 }
 
-/// The command with one more argument, if there is the command.
+/// The command with one more argument, if there is the command. It takes a result as [`with_subcommand`] does.
 fn with_arg<'a>(
     command: Result<Command<'a>, AllocError>,
     arg: Arg<'a>,
@@ -193,9 +187,7 @@ fn with_arg<'a>(
     requires { arg.global ≡ false }
     ensures { (app : App) → IfOk command.entry (IsApp app) → IfOk result (IsApp (with_rule app (rule_of arg.entry))) }
 {
-    let Ok(command) = command else {
-        return Err(AllocError);
-    };
+    let command = command?;
     command.arg(arg)
 }
 

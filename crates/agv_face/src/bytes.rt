@@ -1,5 +1,5 @@
 //! Bytes that come from a reader, and bytes that go to a writer.
-ghost use Rattle.std.specs.Prelude.{◌≡◌, ◌≤◌, ◌<◌, ◌+◌, ◌++◌, drop, length, vec_len, vec_capacity, IfOk, OnOk, OnErr};
+ghost use Rattle.std.specs.Prelude.{◌≡◌, ◌≤◌, ◌<◌, ◌+◌, ◌++◌, drop, length, vec_len, vec_capacity, IfOk, OnErr};
 ghost use Rattle.std.specs.Io.KnownBytes.{Keeps};
 ghost use Rattle.agv_face.specs.Bytes.{IsPutWhole, IsRead};
 ghost use Rattle.agv_face.specs.CountingIo.{FailedOnce, HadCall, inner_of};

@@ -1,5 +1,5 @@
 //! The next request of a buffer is answered.
-ghost use Rattle.std.specs.Prelude.{◌≡◌, ◌≤◌, [], IfErr, IfOk, OnErr, OnOk, vec_capacity};
+ghost use Rattle.std.specs.Prelude.{◌≡◌, ◌≤◌, [], IfErr, IfOk, OnErr, vec_capacity};
 ghost use Rattle.agv_world.specs.Asks.{failed_by};
 ghost use Rattle.agv_http.specs.Output.{refusal_text};
 ghost use Rattle.agv_http.specs.answers.Sizes.{most_answer};

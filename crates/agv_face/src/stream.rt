@@ -17,7 +17,7 @@ use agv_store::Desk;
 use agv_store::laws::crashes_leave_before_or_after;
 use agv_world::Fault;
 use sqlite::Alter;
-use std::alloc::{AllocError, Global};
+use std::alloc::Global;
 use std::io::{Read, Write};
 
 /// The most reads of a stream, where its caller sets no other number.

@@ -12,7 +12,7 @@ use Rattle.agv_row_queries.specs.WorldAnswers.{HasNoWorld, HasWorld}
 use Rattle.agv_table_reading.specs.WorldIn.{world_in}
 use Rattle.agv_schema.specs.Connections.{IsClean}
 use Rattle.agv_schema.specs.DeskRows.{Placing}
-use Rattle.agv_keyed_floor.specs.Floors.{Keyed, world_at}
+use Rattle.agv_keyed_floor.specs.Floors.{Keyed}
 use Rattle.agv_store.specs.Opening.{Adopts, CanBeMade, IsDamaged, Makes}
 use Rattle.agv_row_queries.specs.declared.open_fault.OpenFault.{OpenFault}
 use Rattle.agv_row_queries.specs.declared.open_fault.OpenFault.TheVariants as opening

@@ -1,5 +1,5 @@
 -- How a run of the program ends: which fault it tells, its exit status, and what it says.
-use Rattle.std.specs.Prelude.{◌≡◌, ◌⊎◌, ◌<◌, ◌≤◌, ℕ, ◌++◌, Bool, List, [], Option, Some, None, Result, Ok, Err, IfOk, codes}
+use Rattle.std.specs.Prelude.{◌≡◌, ◌⊎◌, ◌<◌, ◌≤◌, ℕ, ◌++◌, Bool, List, Option, Some, None, Result, Ok, Err, IfOk, codes}
 use Rattle.sqlite_trees.specs.declared.store.Store.{Ghosts}
 use Rattle.sqlite.specs.Held.{Held, state}
 use Rattle.sqlite.specs.Steps.{IsEmpty}
@@ -14,7 +14,7 @@ use Rattle.agv_face.specs.declared.stream_end.Served.{Served}
 use Rattle.agv_face.specs.declared.stream_end.StreamFault.{StreamFault}
 use Rattle.agv_face.specs.declared.stream_end.StreamFault.TheVariants as stream
 use Rattle.agv_face.specs.declared.counting_io.CountingIo.{CountingIo}
-use Rattle.agv_database.specs.MemoryStores.{MemoryStore, over_memory_files}
+use Rattle.agv_database.specs.MemoryStores.{over_memory_files}
 use Rattle.agv_schema.specs.Connections.{IsClean}
 use Rattle.agv_keyed_floor.specs.Floors.{Keyed, world_at}
 use Rattle.agv_row_queries.specs.declared.open_fault.OpenFault.{OpenFault}

@@ -1,5 +1,5 @@
 -- A decision over a connection to the desk's tables.
-use Rattle.std.proofs.Common.{◌≡◌, ℕ, Bool, false, Result, Ok, Err, arith, ◌∙◌, ap, refl, sym, subst}
+use Rattle.std.proofs.Common.{◌≡◌, ℕ, Bool, false, Result, Err, arith, ◌∙◌, ap, refl, sym, subst}
 use Rattle.sqlite_trees.specs.declared.store.Store.{Ghosts}
 use Rattle.agv_header.specs.Moment.{IsMoment}
 use Rattle.agv_world.specs.Asks.{Answers, IsFaulted, IsStill, Kept, failed_after}

@@ -52,10 +52,7 @@ impl<S: Alter + Drop> Desk<S> {
 }
 
 // The report that the answer names; none where it names none.
-pub(crate) fn report<S: Alter + Drop>(
-    floor: &mut KeyedFloor<S>,
-    told: &Answer,
-) -> Result<Vec<u8>, Fault>
+fn report<S: Alter + Drop>(floor: &mut KeyedFloor<S>, told: &Answer) -> Result<Vec<u8>, Fault>
     ensures tells { IsClean S.Store floor.new.held → IfOk result (λ bytes. bytes.items ≡ report_of (world_at S.Store floor.old.held) told.now) }
     ensures knew { IsClean S.Store floor.new.held → OnOk result (names_report told.now ≡ true → Knows S.Store floor.old.held (world_at S.Store floor.old.held)) }
     ensures knows { IsClean S.Store floor.new.held → OnOk result (names_report told.now ≡ true → Knows S.Store floor.new.held (world_at S.Store floor.old.held)) }

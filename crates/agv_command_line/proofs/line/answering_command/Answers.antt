@@ -1,12 +1,12 @@
 use Rattle.std.proofs.lemmas.Result.{IfOk-at_ok, IfOk-weaker}
 use Rattle.agv_command_line.specs.CommandLine.{replaying, serve}
-use Rattle.agv_command_line.proofs.Commands.{subcommand_joined}
+use Rattle.agv_command_line.proofs.Commands.{subcommand_of_both}
 use Rattle.agv_command_line.proofs.line.answering_command.Goals as goal
 
 pub returns : goal.returns
 returns c =
-    IfOk-weaker c.with_command.result _ _
-    (λ command joined.
-    subcommand_joined replaying serve _ _ command joined
-    (IfOk-at_ok _ joined.2 c.replaying_command.ensures) (IfOk-at_ok _ joined.3 c.serve_command.ensures))
-    c.with_command.ensures
+    IfOk-weaker c.with_subcommand.result _ _
+    (λ command both.
+    subcommand_of_both replaying serve _ _ command both
+    (IfOk-at_ok _ both.2 c.replaying_command.ensures) (IfOk-at_ok _ both.3 c.serve_command.ensures))
+    c.with_subcommand.ensures
