@@ -84,6 +84,16 @@ class Links(unittest.TestCase):
         self.assertEqual(broken, [])
 
 
+class Crates(unittest.TestCase):
+    def test_crates_that_are_named(self) -> None:
+        """Each crate that a page names is one of crates.txt, and docs/ARCHITECTURE.md names each of these."""
+        with open(os.path.join(ROOT, 'crates.txt')) as file:
+            crates = {line.split(':')[0] for line in file if line.startswith('agv_')}
+        named = {page: set(re.findall(r'\bagv_[a-z_]+', text)) for page, text in PAGES.items()}
+        self.assertEqual({page: names - crates for page, names in named.items() if names - crates}, {})
+        self.assertEqual(crates - named[os.path.join('docs', 'ARCHITECTURE.md')], set())
+
+
 class Words(unittest.TestCase):
     def test_words(self) -> None:
         """No page has more words than a reader has time for, nor have all together."""
