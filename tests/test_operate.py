@@ -89,7 +89,7 @@ class Page(unittest.TestCase):
     def test_the_texts_of_the_help(self):
         """docs/HTTP.md has the text of the program and of each subcommand, in their order, as the source has them."""
         source = text_of('crates', 'agv_command_line', 'src', 'line.rt')
-        form = r'let about =\s*"([^"]*)";\s*let example =\s*"[^"]*";\s*(?:named|file)_command\(alloc, "(\w+)", about, example\)'
+        form = r'let about =\s*"([^"]*)";\s*let example =\s*"[^"]*";[^"]*\b(?:named|file)_command\(alloc, "(\w+)", about, example\)'
         found = re.findall(form, source)
         texts = [(name, about) for about, name in found]
         self.assertEqual([name for name, _ in texts], ['desk', 'replay', 'serve', 'report', 'migrate'])
