@@ -8,9 +8,9 @@ ghost use Rattle.agv_program.specs.declared.outcome.RunFault.TheVariants as faul
 
 use crate::outcome::{RunFault, end_of};
 use agv_command_line::ReportKind;
-use agv_desk::Answer;
 use agv_face::{CountingIo, serve_stream, write_whole};
 use agv_header::Moment;
+use agv_reports::Report;
 use agv_store::Desk;
 use agv_table_reading::world_laws::a_database_tells_its_world;
 use agv_world::Fault;
@@ -102,11 +102,11 @@ pub(crate) fn report<S: Alter + Drop, W: Write>(
     requires { IfOk opened IsNew }
 {
     let mut desk = desk_of(alloc, opened)?;
-    let named = match kind {
-        ReportKind::Stock => Answer::StockReport,
-        ReportKind::Holds => Answer::HoldReport,
+    let report = match kind {
+        ReportKind::Stock => Report::Stock,
+        ReportKind::Holds => Report::Holds,
     };
-    match desk.report(&named) {
+    match desk.report_bytes(report) {
         Ok(bytes) if write_whole(writer, &bytes) => Ok(()),
         Ok(_) => Err(RunFault::Write),
         Err(Fault::Memory) => Err(RunFault::Memory),

@@ -35,6 +35,6 @@ module _ {S : Type 0} (g : Ghosts S) {A : Type 0} (says : World → A → Type 0
     pub leaves_all : (r : Result A Fault) → Told r → IsClean g new.held → IsOpen g new.held → LeavesAll g old.held new.held
     leaves_all r told = same_now g old.held new.held (through r told) knew
 
-    pub knew_before : (P : Type 0) (r : Result A Fault) → Told r → (IsClean g new.held → OnOk r (Knows g new.held (world_at g new.held))) → IsClean g new.held → OnOk r (P → Knows g old.held (world_at g old.held))
-    knew_before P (Ok a) told knows clean = λ _. knows_before g old.held new.held (through (Ok a) told) knew clean (knows clean).is_open
-    knew_before P (Err why) told knows clean = tt
+    pub knew_before : (r : Result A Fault) → Told r → (IsClean g new.held → OnOk r (Knows g new.held (world_at g new.held))) → IsClean g new.held → OnOk r (Knows g old.held (world_at g old.held))
+    knew_before (Ok a) told knows clean = knows_before g old.held new.held (through (Ok a) told) knew clean (knows clean).is_open
+    knew_before (Err why) told knows clean = tt

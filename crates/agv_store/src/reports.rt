@@ -47,28 +47,53 @@ impl<S: Alter + Drop> Desk<S> {
         ensures fails { self.old.failed ≡ true → self.new.failed ≡ true }
         ensures stopped { names_report told.now ≡ true → self.old.failed ≡ true → (result ≡ Err fault.Storage) × (self.new ≡ self.old) }
     {
-        report(&mut self.floor, told)
+        match report_named(told) {
+            None => Ok(Vec::new(self.floor.alloc)),
+            Some(report) => self.report_bytes(report),
+        }
+    }
+
+    /// The bytes of this report, of the desk's world as it is now: exactly those that it has in the world whose rows the
+    /// tables have (`tells`).
+    ///
+    /// It asks questions and writes nothing, as [`report`](Desk::report) does: the same clauses say so.
+    ///
+    /// # Errors
+    /// `Memory` when out of memory. `Storage` where the store failed or had failed before: exactly where
+    /// [`failed`](Desk::failed) is `true` as it ends (`ends`). A desk that had failed before asks nothing, and stays as it
+    /// is (`stopped`).
+    pub fn report_bytes(&mut self, report: Report) -> Result<Vec<u8>, Fault>
+        ensures tells { IsClean S.Store self.new.held → IfOk result (λ bytes. bytes.items ≡ report_text (world_at S.Store self.old.held) report) }
+        ensures knew { IsClean S.Store self.new.held → OnOk result (Knows S.Store self.old.held (world_at S.Store self.old.held)) }
+        ensures knows { IsClean S.Store self.new.held → OnOk result (Knows S.Store self.new.held (world_at S.Store self.old.held)) }
+        ensures unchanged { IsClean S.Store self.new.held → IsOpen S.Store self.new.held → LeavesAll S.Store self.old.held self.new.held }
+        ensures was_open { IsClean S.Store self.new.held → IsOpen S.Store self.new.held → IsOpen S.Store self.old.held }
+        ensures crash { Survives (state S.Store self.old.held) (state S.Store self.new.held) (λ _. ⊥) }
+        ensures ends { EndsAs result self.new.failed }
+        ensures fails { self.old.failed ≡ true → self.new.failed ≡ true }
+        ensures stopped { self.old.failed ≡ true → (result ≡ Err fault.Storage) × (self.new ≡ self.old) }
+    {
+        report_bytes(&mut self.floor, report)
     }
 }
 
-// The report that the answer names; none where it names none.
-fn report<S: Alter + Drop>(floor: &mut KeyedFloor<S>, told: &Answer) -> Result<Vec<u8>, Fault>
-    ensures tells { IsClean S.Store floor.new.held → IfOk result (λ bytes. bytes.items ≡ report_of (world_at S.Store floor.old.held) told.now) }
-    ensures knew { IsClean S.Store floor.new.held → OnOk result (names_report told.now ≡ true → Knows S.Store floor.old.held (world_at S.Store floor.old.held)) }
-    ensures knows { IsClean S.Store floor.new.held → OnOk result (names_report told.now ≡ true → Knows S.Store floor.new.held (world_at S.Store floor.old.held)) }
+// The bytes of the report.
+fn report_bytes<S: Alter + Drop>(
+    floor: &mut KeyedFloor<S>,
+    report: Report,
+) -> Result<Vec<u8>, Fault>
+    ensures tells { IsClean S.Store floor.new.held → IfOk result (λ bytes. bytes.items ≡ report_text (world_at S.Store floor.old.held) report) }
+    ensures knew { IsClean S.Store floor.new.held → OnOk result (Knows S.Store floor.old.held (world_at S.Store floor.old.held)) }
+    ensures knows { IsClean S.Store floor.new.held → OnOk result (Knows S.Store floor.new.held (world_at S.Store floor.old.held)) }
     ensures unchanged { IsClean S.Store floor.new.held → IsOpen S.Store floor.new.held → LeavesAll S.Store floor.old.held floor.new.held }
     ensures was_open { IsClean S.Store floor.new.held → IsOpen S.Store floor.new.held → IsOpen S.Store floor.old.held }
     ensures crash { Survives (state S.Store floor.old.held) (state S.Store floor.new.held) (λ _. ⊥) }
-    ensures silent { names_report told.now ≡ false → IsOkAnd result (λ bytes. bytes.items ≡ []) × (floor.new ≡ floor.old) }
-    ensures ends { names_report told.now ≡ true → EndsAs result floor.new.failed }
+    ensures ends { EndsAs result floor.new.failed }
     ensures fails { floor.old.failed ≡ true → floor.new.failed ≡ true }
-    ensures stopped { names_report told.now ≡ true → floor.old.failed ≡ true → (result ≡ Err fault.Storage) × (floor.new ≡ floor.old) }
+    ensures stopped { floor.old.failed ≡ true → (result ≡ Err fault.Storage) × (floor.new ≡ floor.old) }
 {
     floor.knows();
-    match report_named(told) {
-        None => Ok(Vec::new(floor.alloc)),
-        Some(report) => reported(floor, report),
-    }
+    reported(floor, report)
 }
 
 // The report, by a store that was open before it and is after it.
@@ -84,7 +109,7 @@ fn reported<S: Alter + Drop>(floor: &mut KeyedFloor<S>, report: Report) -> Resul
     Ok(bytes)
 }
 
-// The bytes of the report.
+// Its bytes, by a store that is open.
 fn bytes_of<S: Alter + Drop>(floor: &mut KeyedFloor<S>, report: Report) -> Result<Vec<u8>, Fault>
     ensures { Asks (facts_of S.Store) floor.old floor.new result (λ world bytes. IsLawful desk_seats world → bytes.items ≡ report_text world report) }
 {
