@@ -11,7 +11,7 @@ from programs import until
 HERE = os.path.dirname(os.path.abspath(__file__))
 TOP = os.path.join(HERE, '..')
 TOOLS = ('awk', 'cat', 'chmod', 'dirname', 'env', 'find', 'flock', 'grep', 'head', 'kill', 'mkdir', 'rm', 'sed', 'sh', 'sleep', 'sort', 'touch')
-SCRIPTS = ('desk', 'tools/build-desk', 'tools/build-unproved')
+SCRIPTS = ('desk', 'tools/build-desk', 'tools/build-unproved', 'tools/ci-with-jobs')
 
 CRATES = """# a comment
 agv_app: agv_middle kit_crate agv_first
@@ -24,6 +24,7 @@ agv_middle_tests: agv_app
 # behind those that it uses, and makes a program; where it is to be slow it waits at each crate until that was seen. For `try` it leaves a small
 # module and a larger one, the program's, and goes on until it is ended.
 RT = """#!/bin/sh
+[ "$1" != version ] || exec echo 'a kit'
 folder=${PWD##*/}
 echo "${folder%-*} $*" >>"$NOTES/calls"
 echo $$ >"$NOTES/process"

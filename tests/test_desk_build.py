@@ -172,6 +172,7 @@ class Building(Tree):
         told = [process.communicate(timeout=600) for process in both]
         self.assertEqual([process.returncode for process in both], [3, 3])
         self.assertEqual([out for out, _ in told], ['a|', 'b|'])
+        self.assertEqual(sum('desk: waiting for another ./desk here' in said for _, said in told), 1)
         self.assertEqual(self.calls(), BUILD)
 
 
@@ -182,8 +183,8 @@ class Unproved(Tree):
         self.assertTrue(said.endswith(NOT_PROVED), said)
         self.assertIn('desk: built without proofs in ', said)
         self.assertEqual(self.calls(), ['agv_app try -- replay --db memory --at 0'])
-        self.assertEqual(sorted(os.listdir(os.path.join(self.top, 'build'))), ['lock', 'unproved'])
-        self.assertEqual(sorted(os.listdir(os.path.join(self.top, 'build', 'unproved'))), ['crates.made', 'desk', 'log'])
+        self.assertEqual(os.listdir(os.path.join(self.top, 'build')), ['unproved'])
+        self.assertEqual(sorted(os.listdir(os.path.join(self.top, 'build', 'unproved'))), ['crates.made', 'desk', 'lock', 'log'])
         self.assertEqual(self.run_desk('--unproved', 'replay'), (3, 'replay|', NOT_PROVED))
         self.assertEqual(len(self.calls()), 1)
 
@@ -235,7 +236,7 @@ class Unproved(Tree):
         process.terminate()
         process.communicate(timeout=300)
         self.assertEqual(process.returncode, -signal.SIGTERM)
-        self.assertEqual(sorted(os.listdir(os.path.join(self.top, 'build', 'unproved'))), ['crates.new', 'log'])
+        self.assertEqual(sorted(os.listdir(os.path.join(self.top, 'build', 'unproved'))), ['crates.new', 'lock', 'log'])
 
 
 if __name__ == '__main__':

@@ -54,14 +54,16 @@ impl<S: Alter + Drop> Desk<S> {
     }
 
     /// The bytes of this report, of the desk's world as it is now: exactly those that it has in the world whose rows the
-    /// tables have (`tells`).
+    /// tables have (`tells`), before the call and after it (`knew`, `knows`). Their definition is `report_text` of
+    /// `agv_reports`.
     ///
-    /// It asks questions and writes nothing, as [`report`](Desk::report) does: the same clauses say so.
+    /// It asks questions and writes nothing. Where the store is open afterwards, it was open before, and all that the
+    /// database has is as it was (`unchanged`, `was_open`); a crash leaves what it could leave before (`crash`).
     ///
     /// # Errors
     /// `Memory` when out of memory. `Storage` where the store failed or had failed before: exactly where
     /// [`failed`](Desk::failed) is `true` as it ends (`ends`). A desk that had failed before asks nothing, and stays as it
-    /// is (`stopped`).
+    /// is (`fails`, `stopped`).
     pub fn report_bytes(&mut self, report: Report) -> Result<Vec<u8>, Fault>
         ensures tells { IsClean S.Store self.new.held → IfOk result (λ bytes. bytes.items ≡ report_text (world_at S.Store self.old.held) report) }
         ensures knew { IsClean S.Store self.new.held → OnOk result (Knows S.Store self.old.held (world_at S.Store self.old.held)) }

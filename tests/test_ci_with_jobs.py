@@ -1,0 +1,143 @@
+"""The order in which tools/ci-with-jobs runs the tasks of `rt ci`, with how many jobs, and with which kit."""
+import importlib.machinery
+import importlib.util
+import os
+import subprocess
+import sys
+import tempfile
+import threading
+import types
+import unittest
+from typing import Any
+
+PROGRAM = os.path.join(os.path.dirname(os.path.abspath(__file__)), '..', 'tools', 'ci-with-jobs')
+GB = 10 ** 9
+
+# A kit's `rt`: it says which kit it is, and where it runs as it is; its main gives what its tasks gave. (It is read as a module, too.)
+RT = """#!%s
+import sys
+
+
+def processors():
+    return 4
+
+
+def free():
+    return 100e9
+
+
+def in_lanes(tasks):
+    raise SystemExit('these are the lanes of the kit')
+
+
+def main(words):
+    given = in_lanes({(name, kind): ([], lines, 1, lambda given, jobs: jobs) for name, kind, lines in (('a', 'proof', 5), ('a', 'tests', 0))})
+    print(words, given)
+    return 3
+
+
+if __name__ == '__main__':
+    print('%s logic' if sys.argv[1:] == ['version'] else 'as it is: %%s' %% sys.argv[1:])
+"""
+
+
+def load() -> types.ModuleType:
+    loader = importlib.machinery.SourceFileLoader('ci_with_jobs', PROGRAM)
+    spec = importlib.util.spec_from_loader('ci_with_jobs', loader)
+    assert spec
+    module = importlib.util.module_from_spec(spec)
+    sys.dont_write_bytecode, before = True, sys.dont_write_bytecode
+    loader.exec_module(module)
+    sys.dont_write_bytecode = before
+    return module
+
+
+CI = load()
+
+
+class Tasks(unittest.TestCase):
+    """A task waits until those that are to run beside it have begun, and gives how many jobs it has."""
+
+    def run_tasks(self, waits: dict[str, list[str]], beside: dict[str, list[str]] = {}, cores: int = 4, memory: float = 100 * GB,
+                  lines: dict[str, int] = {}) -> tuple[dict[str, int], int]:
+        """What the tasks gave, and how many ran at a time at most."""
+        begun = {it: threading.Event() for it in waits}
+        lock, at_work, most = threading.Lock(), set(), []
+        self.order: list[str] = []
+
+        def call(name: str) -> Any:
+            def work(given: dict[str, int], jobs: int) -> int:
+                with lock:
+                    self.assertLessEqual({*waits[name]}, {*given}, name)
+                    at_work.add(name)
+                    most.append(len(at_work))
+                    self.order.append(name)
+                begun[name].set()
+                for it in beside.get(name, []):
+                    self.assertTrue(begun[it].wait(60), '%s did not begin beside %s' % (it, name))
+                with lock:
+                    at_work.remove(name)
+                return jobs
+            return work
+
+        return CI.run_tasks(cores, memory, {it: (waits[it], lines.get(it, 1), 0, call(it)) for it in waits}), max(most)
+
+    def test_each_begins_once_those_below_it_have_ended(self) -> None:
+        given, _ = self.run_tasks({'top': ['left', 'right'], 'left': ['low'], 'right': ['low'], 'low': []}, {'left': ['right'], 'right': ['left']})
+        self.assertEqual(given, dict.fromkeys(('top', 'left', 'right', 'low'), 4))
+
+    def test_the_longest_chain_begins_first(self) -> None:
+        waits: dict[str, list[str]] = {'short': [], 'long': [], 'low': [], 'high': ['low']}
+        self.run_tasks(waits, {}, 4, 1 * GB, {'short': 1, 'long': 4, 'low': 2, 'high': 3})
+        self.assertEqual(self.order, ['low', 'long', 'high', 'short'])
+
+    def test_jobs_are_shared(self) -> None:
+        """Three for a core at most, four for a task, and as many as memory holds; one task at a time runs in however little."""
+        names = ['a', 'b', 'c', 'd']
+        together = {it: [one for one in names[:3]] for it in names[:3]}
+        for cores, memory, wanted, most in (
+                (4, 100 * GB, [4, 4, 4, 4], 3), (4, 18 * GB, [4, 4, 4, 4], 3), (8, 100 * GB, [4, 4, 4, 4], 4), (2, 100 * GB, [2, 2, 2, 2], 3)):
+            with self.subTest(cores=cores, memory=memory):
+                given, at_once = self.run_tasks({it: [] for it in names}, together, cores, memory)
+                self.assertEqual([given[it] for it in names], wanted)
+                self.assertLessEqual(at_once, most)
+        self.assertEqual(self.run_tasks({it: [] for it in 'ab'}, {}, 4, 6 * GB), ({'a': 4, 'b': 4}, 1))
+        self.assertEqual(self.run_tasks({it: [] for it in 'ab'}, {}, 4, 1 * GB), ({'a': 1, 'b': 1}, 1))
+        self.assertEqual(self.run_tasks({it: [] for it in 'ab'}, {'a': ['b'], 'b': ['a']}, 4, 9 * GB), ({'a': 4, 'b': 1}, 2))
+
+    def test_what_proves_nothing_takes_nothing(self) -> None:
+        """It begins beside a task that has all the memory."""
+        given, _ = self.run_tasks({'proof': [], 'tests': []}, {'proof': ['tests'], 'tests': ['proof']}, 4, 3 * GB, {'tests': 0})
+        self.assertEqual(given['proof'], 1)
+
+    def test_a_fault_of_a_task_is_handed_on(self) -> None:
+        def fails(given: dict[str, int], jobs: int) -> int:
+            raise OSError('no room')
+
+        with self.assertRaisesRegex(OSError, 'no room'):
+            CI.run_tasks(4, GB, {'a': ([], 1, 0, fails)})
+        self.assertEqual(CI.run_tasks(4, GB, {}), {})
+
+
+class Kits(unittest.TestCase):
+    def run_with(self, kit: str, **more: str) -> tuple[int, str]:
+        with tempfile.TemporaryDirectory() as folder:
+            rt = os.path.join(folder, 'rt')
+            with open(rt, 'w') as file:
+                file.write(RT % (sys.executable, kit))
+            os.chmod(rt, 0o755)
+            env = {'PATH': '%s:%s' % (folder, os.environ['PATH']), **more}
+            done = subprocess.run([PROGRAM], env=env, stdout=subprocess.PIPE, text=True)
+            self.assertEqual(os.listdir(folder), ['rt'])
+            return done.returncode, done.stdout
+
+    def test_the_kit_whose_function_is_replaced(self) -> None:
+        self.assertEqual(self.run_with(CI.KIT), (3, "['ci'] {('a', 'proof'): 4, ('a', 'tests'): 1}\n"))
+
+    def test_others_run_as_they_are(self) -> None:
+        for kit, more in (('rattle-kit-13b', {}), ('another', {}), (CI.KIT, {'RT_JOBS': '2'})):
+            self.assertEqual(self.run_with(kit, **more), (0, "as it is: ['ci']\n"))
+
+
+if __name__ == '__main__':
+    unittest.main()
