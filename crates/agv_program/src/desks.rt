@@ -106,7 +106,15 @@ pub(crate) fn report<S: Alter + Drop, W: Write>(
         ReportKind::Stock => Report::Stock,
         ReportKind::Holds => Report::Holds,
     };
-    match desk.report_bytes(report) {
+    print(writer, desk.report_bytes(report))
+}
+
+/// Prints the bytes of a report.
+fn print<W: Write>(
+    writer: &mut CountingIo<W>,
+    bytes: Result<Vec<u8>, Fault>,
+) -> Result<(), RunFault> {
+    match bytes {
         Ok(bytes) if write_whole(writer, &bytes) => Ok(()),
         Ok(_) => Err(RunFault::Write),
         Err(Fault::Memory) => Err(RunFault::Memory),

@@ -1,4 +1,5 @@
-//! What the program does, as a library: it runs a line of `agv_command_line`.
+//! What the program does, as a library: [`run_program`] reads the arguments, and runs the line of `agv_command_line` that
+//! they are over the standard streams.
 //!
 //! [`run_line`] carries a line out over a reader of its input, a writer of its output and one of its faults, and gives the
 //! exit status. What comes of a replay in memory, and of any line's end, is `specs/Runs.antt`.
@@ -13,8 +14,10 @@
 mod connections;
 mod desks;
 mod outcome;
+mod program;
 mod run;
 
 pub use connections::{MAX_WAIT_SECONDS, NextFault, serve_next};
 pub use outcome::{NoLine, RunFault, end_of};
+pub use program::run_program;
 pub use run::run_line;
