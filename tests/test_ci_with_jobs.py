@@ -120,23 +120,26 @@ class Tasks(unittest.TestCase):
 
 
 class Kits(unittest.TestCase):
-    def run_with(self, kit: str, **more: str) -> tuple[int, str]:
+    def run_with(self, kit: str, *crates: str, **more: str) -> tuple[int, str]:
         with tempfile.TemporaryDirectory() as folder:
             rt = os.path.join(folder, 'rt')
             with open(rt, 'w') as file:
                 file.write(RT % (sys.executable, kit))
             os.chmod(rt, 0o755)
             env = {'PATH': '%s:%s' % (folder, os.environ['PATH']), **more}
-            done = subprocess.run([PROGRAM], env=env, stdout=subprocess.PIPE, text=True)
+            done = subprocess.run([PROGRAM, *crates], env=env, stdout=subprocess.PIPE, text=True)
             self.assertEqual(os.listdir(folder), ['rt'])
             return done.returncode, done.stdout
 
     def test_the_kit_whose_function_is_replaced(self) -> None:
-        self.assertEqual(self.run_with(CI.KIT), (3, "['ci'] {('a', 'proof'): 4, ('a', 'tests'): 1}\n"))
+        given = "{('a', 'proof'): 4, ('a', 'tests'): 1}"
+        self.assertEqual(self.run_with(CI.KIT), (3, "['ci'] %s\n" % given))
+        self.assertEqual(self.run_with(CI.KIT, 'agv_a', 'agv_b'), (3, "['ci', 'agv_a', 'agv_b'] %s\n" % given))
 
     def test_others_run_as_they_are(self) -> None:
         for kit, more in (('rattle-kit-13b', {}), ('another', {}), (CI.KIT, {'RT_JOBS': '2'})):
             self.assertEqual(self.run_with(kit, **more), (0, "as it is: ['ci']\n"))
+            self.assertEqual(self.run_with(kit, 'agv_a', **more), (0, "as it is: ['ci', 'agv_a']\n"))
 
 
 if __name__ == '__main__':
