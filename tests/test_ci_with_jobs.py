@@ -1,16 +1,15 @@
 """The order in which tools/ci-with-jobs runs the tasks of `rt ci`, with how many jobs, and with which kit."""
-import importlib.machinery
-import importlib.util
 import os
 import subprocess
 import sys
 import tempfile
 import threading
-import types
 import unittest
 from typing import Any
 
-PROGRAM = os.path.join(os.path.dirname(os.path.abspath(__file__)), '..', 'tools', 'ci-with-jobs')
+from programs import TOOLS, module
+
+PROGRAM = os.path.join(TOOLS, 'ci-with-jobs')
 GB = 10 ** 9
 
 # A kit's `rt`: it says which kit it is, and where it runs as it is; its main gives what its tasks gave. (It is read as a module, too.)
@@ -41,18 +40,7 @@ if __name__ == '__main__':
 """
 
 
-def load() -> types.ModuleType:
-    loader = importlib.machinery.SourceFileLoader('ci_with_jobs', PROGRAM)
-    spec = importlib.util.spec_from_loader('ci_with_jobs', loader)
-    assert spec
-    module = importlib.util.module_from_spec(spec)
-    sys.dont_write_bytecode, before = True, sys.dont_write_bytecode
-    loader.exec_module(module)
-    sys.dont_write_bytecode = before
-    return module
-
-
-CI = load()
+CI = module('ci-with-jobs')
 
 
 class Tasks(unittest.TestCase):
