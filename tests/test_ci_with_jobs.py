@@ -12,9 +12,21 @@ from programs import TOOLS, module
 PROGRAM = os.path.join(TOOLS, 'ci-with-jobs')
 GB = 10 ** 9
 
-# A kit's `rt`: it says which kit it is, and where it runs as it is; its main gives what its tasks gave. (It is read as a module, too.)
+# A kit's `rt`: it says which kit it is, and where it runs as it is; its main gives what its tasks gave, and what the compilers did, of which each
+# waits for the other to begin. (It is read as a module, too.)
 RT = """#!%s
 import sys
+import threading
+
+BACKENDS = {'llvm': threading.Event(), 'rattle': threading.Event()}
+
+
+class Crate:
+    name = 'a'
+
+    def compile_by(self, backend, words, to):
+        BACKENDS[backend].set()
+        return backend, all(it.wait(60) for it in BACKENDS.values()), words, to
 
 
 def processors():
@@ -31,7 +43,9 @@ def in_lanes(tasks):
 
 def main(words):
     given = in_lanes({(name, kind): ([], lines, 1, lambda given, jobs: jobs) for name, kind, lines in (('a', 'proof', 5), ('a', 'tests', 0))})
-    print(words, given)
+    print(words, dict(sorted(given.items())))
+    for backend in BACKENDS:
+        print(*Crate().compile_by(backend, ['words'], 'to'))
     return 3
 
 
@@ -98,6 +112,27 @@ class Tasks(unittest.TestCase):
         given, _ = self.run_tasks({'proof': [], 'tests': []}, {'proof': ['tests'], 'tests': ['proof']}, 4, 3 * GB, {'tests': 0})
         self.assertEqual(given['proof'], 1)
 
+    def test_compilers_run_anew_for_each_program(self) -> None:
+        """What one gave is given once, to the call for it, and a fault of it is handed on."""
+        calls: list[tuple[str, str]] = []
+
+        class Crate:
+            name = 'a'
+
+            def compile_by(self, backend: str, words: list[str], to: str) -> int:
+                calls.append((backend, to))
+                if to == 'no room':
+                    raise OSError(to)
+                return len(calls) if backend == 'rattle' else 0
+
+        compile_by = CI.side_by_side(Crate.compile_by, ['llvm', 'rattle'])
+        for to in 'first', 'second':
+            self.assertEqual(compile_by(Crate(), 'llvm', [], to), 0)
+            self.assertGreater(compile_by(Crate(), 'rattle', [], to), 0)
+        self.assertEqual(sorted(calls), sorted((it, to) for to in ('first', 'second') for it in ('llvm', 'rattle')))
+        with self.assertRaisesRegex(OSError, 'no room'):
+            compile_by(Crate(), 'llvm', [], 'no room')
+
     def test_a_fault_of_a_task_is_handed_on(self) -> None:
         def fails(given: dict[str, int], jobs: int) -> int:
             raise OSError('no room')
@@ -120,9 +155,9 @@ class Kits(unittest.TestCase):
             return done.returncode, done.stdout
 
     def test_the_kit_whose_function_is_replaced(self) -> None:
-        given = "{('a', 'proof'): 4, ('a', 'tests'): 1}"
-        self.assertEqual(self.run_with(CI.KIT), (3, "['ci'] %s\n" % given))
-        self.assertEqual(self.run_with(CI.KIT, 'agv_a', 'agv_b'), (3, "['ci', 'agv_a', 'agv_b'] %s\n" % given))
+        given = "{('a', 'proof'): 4, ('a', 'tests'): 1}\nllvm True ['words'] to\nrattle True ['words'] to\n"
+        self.assertEqual(self.run_with(CI.KIT), (3, "['ci'] " + given))
+        self.assertEqual(self.run_with(CI.KIT, 'agv_a', 'agv_b'), (3, "['ci', 'agv_a', 'agv_b'] " + given))
 
     def test_others_run_as_they_are(self) -> None:
         for kit, more in (('rattle-kit-13b', {}), ('another', {}), (CI.KIT, {'RT_JOBS': '2'})):
