@@ -1,5 +1,5 @@
 -- The command line: what `clap` is told of it, and what a line asks for.
-use Rattle.std.specs.Prelude.{◌≡◌, ◌≤◌, ◌⊎◌, ⊤, ℕ, ℤ, pos, true, false, List, [], ◌∷◌, map, codes, Some, Result, Ok}
+use Rattle.std.specs.Prelude.{◌≡◌, ◌≤◌, ◌⊎◌, ⊤, ℕ, ℤ, pos, true, false, List, [], ◌∷◌, map, codes, Option, None, Some, Result, Ok}
 use Rattle.std.specs.Borrow.{Bor}
 use Rattle.std.specs.declared.alloc.AllocError.{AllocError}
 use Rattle.std.specs.Str.Parse.{IsNumeral, without_leading_plus, digits_value}
@@ -13,8 +13,8 @@ use Rattle.clap.specs.declared.builder.command.Command.TheViews.{out-Command}
 use Rattle.clap.specs.declared.builder.value_parser.ValueParser.TheVariants.{Names}
 use Rattle.agv_command_line.specs.declared.line.Line.{Line}
 use Rattle.agv_command_line.specs.declared.line.Line.TheVariants as line
-use Rattle.agv_command_line.specs.declared.line.LineFault.{LineFault}
-use Rattle.agv_command_line.specs.declared.line.LineFault.TheVariants as fault
+use Rattle.agv_command_line.specs.declared.line_fault.LineFault.{LineFault}
+use Rattle.agv_command_line.specs.declared.line_fault.LineFault.TheVariants as fault
 use Rattle.agv_command_line.specs.declared.line.ReportKind.{ReportKind}
 use Rattle.agv_command_line.specs.declared.line.ReportKind.TheVariants as kind
 
@@ -153,7 +153,26 @@ abbrev pub IsLine : List Text → Line → Type 0
 IsLine words line = (kinds : Choice) × AreKinds kinds × (fault_of (desk kinds) words ≡ [])
     × ((rows : List Row) × (subcommand_of (desk kinds) words ≡ Some (name_of line, rows)) × Gives rows line)
 
--- a refused line has a fault that `clap` finds, of the kind that its error tells; asking for help is one
+-- a refused line has a fault that `clap` finds, of the kind that its error tells; asking for help is one. Words that are there are texts
 abbrev pub IsLineFault : List Text → LineFault → Type 0
 IsLineFault words (fault.Refused error) = (kinds : Choice) × AreKinds kinds × IsAmong (kind_of error) (fault_of (desk kinds) words)
+IsLineFault words fault.NotText = ⊥
 IsLineFault words fault.Memory = ⊤
+
+-- ---- words that give no line
+
+-- the exit status then
+abbrev pub status_without : LineFault → ℕ
+status_without (fault.Refused error) = 2
+status_without fault.NotText = 2
+status_without fault.Memory = 1
+
+-- what is said then; of a refused line that is the text of `clap`, of which no clause says anything
+abbrev pub said_of : LineFault → Option (List ℕ)
+said_of (fault.Refused error) = None
+said_of fault.NotText = Some (codes "error: an argument is not UTF-8\n")
+said_of fault.Memory = Some (codes "fault: Memory\n")
+
+-- the arguments couldn't be read
+abbrev pub IsWithoutWords : LineFault → Type 0
+IsWithoutWords why = (why ≡ fault.NotText) ⊎ (why ≡ fault.Memory)

@@ -5,8 +5,9 @@ ghost use Rattle.clap.specs.Words.{App, found_of, new_app, rows_of, rule_of, wit
 ghost use Rattle.agv_command_line.specs.CommandLine.{AreKinds, Choice, Gives, HasSubcommand, HasValues, IsApp, IsLine, IsLineFault, IsOneOf, answering, db, desk, desk_top, kind_word, migrate, name_of, number, positional, replay, replaying, report, report_kind, reporting, required_option, serve};
 ghost use Rattle.agv_command_line.specs.declared.line.ReportKind.{ReportKind};
 
+use crate::LineFault;
 use clap::error::ErrorKind;
-use clap::{Arg, ArgAction, ArgMatches, Command, Error, value_parser};
+use clap::{Arg, ArgAction, ArgMatches, Command, value_parser};
 use std::alloc::{AllocError, Global};
 
 /// A report of the desk.
@@ -50,27 +51,6 @@ pub enum Line<'a> {
         /// The file of the records.
         db: &'a str,
     },
-}
-
-/// Why the arguments are not accepted.
-#[derive(Debug, Drop, thiserror::Error)]
-pub enum LineFault {
-    /// The arguments are wrong, or ask for help; the error is the text to print.
-    #[error("{0}")]
-    Refused(Error),
-    /// Out of memory.
-    #[error("out of memory")]
-    Memory,
-}
-
-impl From<AllocError> for LineFault {
-    ghost use Rattle.agv_command_line.specs.declared.line.LineFault.TheVariants as LineFault;
-
-    ghost from_gives = { λ _ fault. fault ≡ LineFault.Memory };
-
-    fn from(_: AllocError) -> LineFault {
-        LineFault::Memory
-    }
 }
 
 /// The names of the reports.

@@ -22,10 +22,6 @@ use Rattle.agv_row_queries.specs.declared.open_fault.OpenFault.TheVariants as op
 use Rattle.agv_command_line.specs.CommandLine.{last_moment}
 use Rattle.agv_command_line.specs.declared.line.Line.{Line}
 use Rattle.agv_command_line.specs.declared.line.Line.TheVariants as line
-use Rattle.agv_command_line.specs.declared.line.LineFault.{LineFault}
-use Rattle.agv_command_line.specs.declared.line.LineFault.TheVariants as words
-use Rattle.agv_program.specs.declared.outcome.NoLine.{NoLine}
-use Rattle.agv_program.specs.declared.outcome.NoLine.TheVariants as without
 use Rattle.agv_program.specs.declared.outcome.RunFault.{RunFault}
 use Rattle.agv_program.specs.declared.outcome.RunFault.TheVariants as fault
 
@@ -137,26 +133,3 @@ pub record IsRun {R W E : Type 0} (remaining : R → Option (List ℕ)) (content
   pub carried_out : IsCarriedOut remaining contents reader reader_then writer writer_then asked end
   pub told : IsTold contents_of_errors errors errors_then end
   pub status_is : status ≡ status_of end
-
--- ---- words that give no line
-
--- why there is none
-abbrev pub without_line : LineFault → NoLine
-without_line (words.Refused error) = without.Refused error
-without_line words.Memory = without.Memory
-
--- the exit status then
-abbrev pub status_without : NoLine → ℕ
-status_without (without.Refused error) = 2
-status_without without.NotText = 2
-status_without without.Memory = 1
-
--- what is said then; of a refused line that is the text of `clap`, of which no clause says anything
-abbrev pub said_of : NoLine → Option (List ℕ)
-said_of (without.Refused error) = None
-said_of without.NotText = Some (codes "error: an argument is not UTF-8\n")
-said_of without.Memory = Some (fault_line fault.Memory)
-
--- the arguments couldn't be read
-abbrev pub IsWithoutWords : NoLine → Type 0
-IsWithoutWords why = (why ≡ without.NotText) ⊎ (why ≡ without.Memory)

@@ -1,13 +1,10 @@
 //! Connections over the network are served, one after another.
-ghost use Rattle.std.specs.Prelude.{IfOk};
-ghost use Rattle.sqlite.specs.Held.{IsNew};
 
-use crate::desks::desk_of;
 use crate::outcome::RunFault;
 use agv_face::{CountingIo, Served, StreamFault, serve_stream};
 use agv_header::Moment;
 use agv_store::Desk;
-use sqlite::{Alter, Connection, Error};
+use sqlite::Alter;
 use std::alloc::Global;
 use std::io::{self, Write};
 use std::net::{Ipv4Addr, SocketAddr, SocketAddrV4, TcpListener, TcpStream};
@@ -27,20 +24,17 @@ pub enum NextFault {
 /// How long a read or a write of a connection may wait for its client, in seconds.
 pub const MAX_WAIT_SECONDS: u64 = 10;
 
-/// Listens on the port of this machine, says on which, and serves connections by the desk of this database.
+/// Listens on the port of this machine, says on which, and serves connections by this desk.
 pub(crate) fn serve<S: Alter + Drop, W: Write>(
     rt: &HostRuntime,
     alloc: Global,
-    opened: Result<Connection<S>, Error>,
+    desk: &mut Desk<S>,
     port: u16,
     connections: u32,
     writer: &mut CountingIo<W>,
-) -> Result<(), RunFault>
-    requires { IfOk opened IsNew }
-{
-    let mut desk = desk_of(alloc, opened)?;
+) -> Result<(), RunFault> {
     let mut listener = listener_at(rt, port, writer)?;
-    serve_connections(rt, alloc, &mut desk, &mut listener, connections)
+    serve_connections(rt, alloc, desk, &mut listener, connections)
 }
 
 /// Listens on the port of this machine, and says on which.

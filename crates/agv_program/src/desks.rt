@@ -1,5 +1,5 @@
-//! What is done over any store, whose connection is handed over, or the error of its opening: a desk is opened in it, and a
-//! stream is served, or a report printed; or a file of the first schema is migrated to the second.
+//! What is done over any store, whose connection is handed over, or the error of its opening: a desk is opened in it, and
+//! serves a stream or prints a report; or a file of the first schema is migrated to the second.
 ghost use Rattle.std.specs.Prelude.{◌≡◌, ◌⊎◌, ◌≤◌, ◌<◌, IfErr, IfOk};
 ghost use Rattle.sqlite.specs.Held.{IsNew};
 ghost use Rattle.agv_command_line.specs.CommandLine.{last_moment};
@@ -29,8 +29,8 @@ pub(crate) fn replay<S: Alter + Drop, R: Read, W: Write>(
     requires { IfOk opened IsNew }
     ensures { IsNewDatabase S.Store opened → IsReplayedAnew R.remaining W.contents reader.old reader.new writer.old writer.new S.Store at result }
 {
-    let desk = desk_of(alloc, opened)?;
-    replay_on(alloc, desk, at, reader, writer)
+    let mut desk = desk_of(alloc, opened)?;
+    replay_on(alloc, &mut desk, at, reader, writer)
 }
 
 /// The desk of this database; a new one where it has none of a desk's tables.
@@ -66,16 +66,15 @@ fn fault_of(error: Error) -> RunFault
 /// Serves the reader's requests by this desk, all at this moment.
 fn replay_on<S: Alter + Drop, R: Read, W: Write>(
     alloc: Global,
-    desk: Desk<S>,
+    desk: &mut Desk<S>,
     at: u64,
     reader: &mut CountingIo<R>,
     writer: &mut CountingIo<W>,
 ) -> Result<(), RunFault>
-    ensures { IsReplayed R.remaining W.contents reader.old reader.new writer.old writer.new S.Store at desk result }
+    ensures { IsReplayed R.remaining W.contents reader.old reader.new writer.old writer.new S.Store at desk.old result }
 {
     let at = moment_of(at)?;
-    let mut desk = desk;
-    end_of(serve_stream(alloc, &mut desk, at, reader, writer))
+    end_of(serve_stream(alloc, desk, at, reader, writer))
 }
 
 /// The moment this many milliseconds since 1970, up to 2099.
@@ -92,16 +91,12 @@ fn moment_of(ms: u64) -> Result<Moment, RunFault>
     }
 }
 
-/// Prints a report.
+/// Prints a report of this desk.
 pub(crate) fn report<S: Alter + Drop, W: Write>(
-    alloc: Global,
-    opened: Result<Connection<S>, Error>,
+    desk: &mut Desk<S>,
     kind: ReportKind,
     writer: &mut CountingIo<W>,
-) -> Result<(), RunFault>
-    requires { IfOk opened IsNew }
-{
-    let mut desk = desk_of(alloc, opened)?;
+) -> Result<(), RunFault> {
     let report = match kind {
         ReportKind::Stock => Report::Stock,
         ReportKind::Holds => Report::Holds,

@@ -8,7 +8,7 @@
 //! - `desks` has what is done over any store: a desk is opened in it, and the requests of a stream are answered, a report
 //!   is printed, or a file of the first schema is migrated to the second.
 //! - `connections` listens on a port and serves one connection after another ([`serve_next`]).
-//! - `outcome` says how a run ends ([`RunFault`]), and what is said where there is no line to carry out ([`NoLine`]).
+//! - `outcome` says how a run ends ([`RunFault`]).
 #![tactic(auto)]
 
 mod connections;
@@ -18,6 +18,6 @@ mod program;
 mod run;
 
 pub use connections::{MAX_WAIT_SECONDS, NextFault, serve_next};
-pub use outcome::{NoLine, RunFault, end_of};
+pub use outcome::{RunFault, end_of};
 pub use program::run_program;
 pub use run::run_line;

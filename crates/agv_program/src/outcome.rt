@@ -1,13 +1,10 @@
-//! How a run of the program ends, and what it prints if the arguments are not accepted.
+//! How a run of the program ends.
 ghost use Rattle.std.specs.Prelude.{◌≡◌};
-ghost use Rattle.agv_program.specs.Runs.{end_by, end_of, fault_line, opening_fault, said_of, status_without};
+ghost use Rattle.agv_program.specs.Runs.{end_by, end_of, fault_line, opening_fault};
 
-use agv_command_line::LineFault;
 use agv_face::{Ended, Served, StreamFault};
 use agv_header::Refusal;
 use agv_row_queries::OpenFault;
-use clap::Error;
-use std::{error, fmt};
 
 /// Why a run failed, as the program prints it.
 #[derive(Clone, Copy, Debug, PartialEq, Eq, thiserror::Error)]
@@ -68,56 +65,6 @@ impl From<OpenFault> for RunFault {
         }
     }
 }
-
-/// Why the arguments are not accepted, as the text that is printed to standard error.
-#[derive(Debug, Drop)]
-pub enum NoLine {
-    /// The arguments are wrong, or ask for help; the error is the text.
-    Refused(Error),
-    /// An argument is not UTF-8.
-    NotText,
-    /// Out of memory.
-    Memory,
-}
-
-impl NoLine {
-    /// The exit status: 2 if the arguments are wrong, 1 if out of memory.
-    pub fn status(&self) -> u8
-        ensures { result ≡ status_without self.now }
-    {
-        match self {
-            NoLine::Memory => 1,
-            _ => 2,
-        }
-    }
-}
-
-impl From<LineFault> for NoLine {
-    ghost use Rattle.agv_program.specs.Runs.{without_line};
-
-    ghost from_gives = { λ why without. without ≡ without_line why };
-
-    fn from(why: LineFault) -> NoLine {
-        match why {
-            LineFault::Refused(error) => NoLine::Refused(error),
-            LineFault::Memory => NoLine::Memory,
-        }
-    }
-}
-
-impl fmt::Display for NoLine {
-    ghost output = { said_of };
-
-    fn fmt<W: fmt::Write>(&self, f: &mut fmt::Formatter<W>) -> fmt::Result {
-        match self {
-            NoLine::Refused(error) => write!(f, "{error}"),
-            NoLine::NotText => write!(f, "error: an argument is not UTF-8\n"),
-            NoLine::Memory => write!(f, "{}", RunFault::Memory.line()),
-        }
-    }
-}
-
-impl error::Error for NoLine {}
 
 /// How a run ends after this end of its stream: its last answer was the refusal for a fault of the machine, or it was
 /// served or refused as its requests had it.

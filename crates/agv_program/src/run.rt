@@ -4,7 +4,7 @@ ghost use Rattle.sqlite.specs.Held.{IsNew};
 ghost use Rattle.agv_program.specs.Runs.{IsCarriedOut, IsReplayedInMemory, IsRun, IsTold, status_of};
 
 use crate::connections::serve;
-use crate::desks::{migrate, replay, report};
+use crate::desks::{desk_of, migrate, replay, report};
 use crate::outcome::RunFault;
 use agv_command_line::Line;
 use agv_database::laws::stores_in_memory_are_clean;
@@ -98,8 +98,14 @@ fn carry_out_in<S: Alter + Drop, R: Read, W: Write>(
             port,
             connections,
             ..
-        } => serve(rt, alloc, opened, port, connections, writer),
-        Line::Report { kind, .. } => report(alloc, opened, kind, writer),
+        } => {
+            let mut desk = desk_of(alloc, opened)?;
+            serve(rt, alloc, &mut desk, port, connections, writer)
+        }
+        Line::Report { kind, .. } => {
+            let mut desk = desk_of(alloc, opened)?;
+            report(&mut desk, kind, writer)
+        }
         Line::Migrate { .. } => migrate(alloc, opened, writer),
     }
 }

@@ -29,7 +29,7 @@ fn asked(ends: &impl Abort, alloc: Global, line: &str) -> &'static str {
         ) => "the stock report of f",
         Ok(_) => "another line",
         Err(LineFault::Refused(_)) => "refused",
-        Err(LineFault::Memory) => "no memory",
+        Err(_) => "another fault",
     }
 }
 
