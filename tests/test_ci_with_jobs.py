@@ -113,8 +113,9 @@ class Tasks(unittest.TestCase):
         self.assertEqual(given['proof'], 1)
 
     def test_compilers_run_anew_for_each_program(self) -> None:
-        """What one gave is given once, to the call for it, and a fault of it is handed on."""
+        """What one gave is given once, to the call for it, and a fault of it is handed on. One that failed is run again with the other."""
         calls: list[tuple[str, str]] = []
+        status = {'llvm': 0}
 
         class Crate:
             name = 'a'
@@ -123,15 +124,34 @@ class Tasks(unittest.TestCase):
                 calls.append((backend, to))
                 if to == 'no room':
                     raise OSError(to)
-                return len(calls) if backend == 'rattle' else 0
+                return status.get(backend, int(to))
 
-        compile_by = CI.side_by_side(Crate.compile_by, ['llvm', 'rattle'])
-        for to in 'first', 'second':
+        compile_by = CI.side_by_side(Crate.compile_by, ['llvm', 'rattle'], lambda: True)
+        for to in '1', '2':
             self.assertEqual(compile_by(Crate(), 'llvm', [], to), 0)
-            self.assertGreater(compile_by(Crate(), 'rattle', [], to), 0)
-        self.assertEqual(sorted(calls), sorted((it, to) for to in ('first', 'second') for it in ('llvm', 'rattle')))
+            self.assertEqual(compile_by(Crate(), 'rattle', [], to), int(to))
+        status['llvm'] = -9
+        self.assertEqual(compile_by(Crate(), 'llvm', [], '3'), -9)
+        status['llvm'] = 0
+        self.assertEqual(compile_by(Crate(), 'llvm', [], '4'), 0)
+        self.assertEqual(compile_by(Crate(), 'rattle', [], '4'), 4)
+        self.assertEqual(sorted(calls), sorted((it, to) for to in '1234' for it in ('llvm', 'rattle')))
         with self.assertRaisesRegex(OSError, 'no room'):
             compile_by(Crate(), 'llvm', [], 'no room')
+
+    def test_compilers_run_one_after_the_other_in_little_memory(self) -> None:
+        calls: list[str] = []
+
+        class Crate:
+            name = 'a'
+
+            def compile_by(self, backend: str) -> int:
+                calls.append(backend)
+                return len(calls)
+
+        compile_by = CI.side_by_side(lambda crate, backend, words, to: crate.compile_by(backend), ['llvm', 'rattle'], lambda: False)
+        self.assertEqual([compile_by(Crate(), it, [], 'to') for it in ('llvm', 'rattle')], [1, 2])
+        self.assertEqual(calls, ['llvm', 'rattle'])
 
     def test_a_fault_of_a_task_is_handed_on(self) -> None:
         def fails(given: dict[str, int], jobs: int) -> int:

@@ -59,7 +59,7 @@ class Page(unittest.TestCase):
     def test_the_faults(self):
         """The faults are those of the program, each once."""
         told = re.findall(r'^- \*\*`fault: (\w+)`\*\*', section('docs/OPERATE.md', 'Each fault line'), re.M)
-        source = text_of('crates', 'agv_program', 'src', 'outcome.rt')
+        source = text_of('crates', 'agv_program', 'src', 'outcome.rt') + text_of('crates', 'agv_command_line', 'src', 'line_fault.rt')
         self.assertEqual(sorted(told), sorted(set(re.findall(r'"fault: (\w+)\\n"', source))))
 
     def test_the_refusals(self):

@@ -1,4 +1,4 @@
--- The command line: what `clap` is told of it, and what a line asks for.
+-- The command line: what `clap` is told of it, what a line asks for, and what is said where there is none.
 use Rattle.std.specs.Prelude.{◌≡◌, ◌≤◌, ◌⊎◌, ⊤, ℕ, ℤ, pos, true, false, List, [], ◌∷◌, map, codes, Option, None, Some, Result, Ok}
 use Rattle.std.specs.Borrow.{Bor}
 use Rattle.std.specs.declared.alloc.AllocError.{AllocError}
@@ -153,7 +153,7 @@ abbrev pub IsLine : List Text → Line → Type 0
 IsLine words line = (kinds : Choice) × AreKinds kinds × (fault_of (desk kinds) words ≡ [])
     × ((rows : List Row) × (subcommand_of (desk kinds) words ≡ Some (name_of line, rows)) × Gives rows line)
 
--- a refused line has a fault that `clap` finds, of the kind that its error tells; asking for help is one. Words that are there are texts
+-- a refused line has a fault that `clap` finds, of the kind that its error tells; asking for help is one. `NotText` is no fault of words, which are text
 abbrev pub IsLineFault : List Text → LineFault → Type 0
 IsLineFault words (fault.Refused error) = (kinds : Choice) × AreKinds kinds × IsAmong (kind_of error) (fault_of (desk kinds) words)
 IsLineFault words fault.NotText = ⊥

@@ -1,5 +1,5 @@
-//! What is done over any store, whose connection is handed over, or the error of its opening: a desk is opened in it, and
-//! serves a stream or prints a report; or a file of the first schema is migrated to the second.
+//! What is done over any store: a desk is opened in it, serves a stream or prints a report, or a file of the first schema is
+//! migrated to the second. Where a store is opened, its connection is handed over, or the error of its opening.
 ghost use Rattle.std.specs.Prelude.{◌≡◌, ◌⊎◌, ◌≤◌, ◌<◌, IfErr, IfOk};
 ghost use Rattle.sqlite.specs.Held.{IsNew};
 ghost use Rattle.agv_command_line.specs.CommandLine.{last_moment};

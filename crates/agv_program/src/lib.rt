@@ -4,7 +4,7 @@
 //! [`run_line`] carries a line out over a reader of its input, a writer of its output and one of its faults, and gives the
 //! exit status. What comes of a replay in memory, and of any line's end, is `specs/Runs.antt`.
 //!
-//! - `run` opens the file or the database in memory that a line names, and passes the connection on.
+//! - `run` opens the file or the database in memory that a line names, and passes the connection on, or lends a desk in it.
 //! - `desks` has what is done over any store: a desk is opened in it, and the requests of a stream are answered, a report
 //!   is printed, or a file of the first schema is migrated to the second.
 //! - `connections` listens on a port and serves one connection after another ([`serve_next`]).

@@ -10,7 +10,7 @@ use std::process::ExitCode;
 /// It gives 0; 1 after a line `fault: ..` on standard error; and 2 if the arguments are wrong, and for `--help`, with the
 /// text on standard error.
 pub fn run_program(rt: &HostRuntime) -> ExitCode {
-    match run_words(rt) {
+    match run_arguments(rt) {
         Ok(status) => ExitCode::from(status),
         Err(why) => {
             let _ = rt.eprint(&why);
@@ -19,8 +19,8 @@ pub fn run_program(rt: &HostRuntime) -> ExitCode {
     }
 }
 
-/// Parses the arguments, runs them over the standard streams, and returns the exit status.
-fn run_words(rt: &HostRuntime) -> Result<u8, LineFault> {
+/// Reads and parses the arguments, carries their line out over the standard streams, and returns the exit status.
+fn run_arguments(rt: &HostRuntime) -> Result<u8, LineFault> {
     let words = words_of(rt)?;
     let line = line_of(rt.alloc(), &words)?;
     let mut reader = CountingIo::new(rt.reader());

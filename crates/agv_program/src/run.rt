@@ -1,4 +1,5 @@
-//! A line is carried out: the file that it names is opened, or a database in memory, and its connection handed on.
+//! A line is carried out: the file that it names is opened, or a database in memory, and its connection handed on, or a
+//! desk in it lent.
 ghost use Rattle.std.specs.Prelude.{◌≡◌, IfOk, codes};
 ghost use Rattle.sqlite.specs.Held.{IsNew};
 ghost use Rattle.agv_program.specs.Runs.{IsCarriedOut, IsReplayedInMemory, IsRun, IsTold, status_of};

@@ -8,7 +8,7 @@ use std::alloc::Global;
 use std::process::Abort;
 
 /// The words of a line.
-fn words_of(ends: &impl Abort, alloc: Global, line: &str) -> Vec<String> {
+fn split_words(ends: &impl Abort, alloc: Global, line: &str) -> Vec<String> {
     let mut words = Vec::new(alloc);
     for word in line.split_whitespace() {
         let word = String::from_str(alloc, word).expect(ends, line);
@@ -19,7 +19,7 @@ fn words_of(ends: &impl Abort, alloc: Global, line: &str) -> Vec<String> {
 
 /// What the words of a line ask for.
 fn asked(ends: &impl Abort, alloc: Global, line: &str) -> &'static str {
-    let words = words_of(ends, alloc, line);
+    let words = split_words(ends, alloc, line);
     match line_of(alloc, &words) {
         Ok(
             Line::Report {
