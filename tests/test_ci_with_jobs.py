@@ -1,10 +1,13 @@
 """The order in which tools/ci-with-jobs runs the tasks of `rt ci`, with how many jobs, and with which kit."""
 import os
+import re
+import shutil
 import subprocess
 import sys
 import tempfile
 import threading
 import unittest
+import uuid
 from typing import Any
 
 from programs import TOOLS, module
@@ -183,6 +186,39 @@ class Kits(unittest.TestCase):
         for kit, more in (('rattle-kit-13b', {}), ('another', {}), (CI.KIT, {'RT_JOBS': '2'})):
             self.assertEqual(self.run_with(kit, **more), (0, "as it is: ['ci']\n"))
             self.assertEqual(self.run_with(kit, 'agv_a', **more), (0, "as it is: ['ci', 'agv_a']\n"))
+
+
+PROGRAM_SOURCE = """//! Says a word, %s.
+#![tactic(auto)]
+
+use std::io;
+
+fn main(rt: HostRuntime) -> io::Result<()> {
+    println!(rt; "a word")
+}
+"""
+
+
+class ThisKit(unittest.TestCase):
+    def test_a_program_is_proved_and_built_by_both_compilers(self) -> None:
+        if 'RT_JOBS' in os.environ or not shutil.which('rt') or CI.KIT not in subprocess.run(['rt', 'version'], stdout=subprocess.PIPE, text=True).stdout:
+            self.skipTest('the kit is another')
+        with tempfile.TemporaryDirectory() as folder:
+            crate = os.path.join(folder, 'crates', 'agv_word')
+            os.makedirs(os.path.join(crate, 'src'))
+            os.mkdir(os.path.join(folder, '.git'))
+            # (a source that no earlier run has proved)
+            for path, text in (('crates.txt', 'agv_word:\n'), ('HANDLES', 'Handles allowed: none.\n'), ('crates/agv_word/stdout', 'a word\n'),
+                               ('crates/agv_word/src/main.rt', PROGRAM_SOURCE % uuid.uuid4())):
+                with open(os.path.join(folder, path), 'w') as file:
+                    file.write(text)
+            done = subprocess.run([PROGRAM], cwd=folder, stdout=subprocess.PIPE, stderr=subprocess.STDOUT, text=True)
+            self.assertEqual(done.returncode, 0, done.stdout)
+            for wanted in ('linked .* files=out/agv_word.o,', 'linked .* files=out/agv_word.by-rattle.o,', 'rt: agv_word ran, and wrote',
+                           "rt: agv_word ran \\(built by Rattle's own compiler\\), and wrote", '1 passed, 0 failed$'):
+                self.assertRegex(done.stdout, re.compile('^' + wanted, re.M))
+            for name in 'agv_word', 'agv_word.by-rattle':
+                self.assertEqual(subprocess.run([os.path.join(crate, 'out', name)], stdout=subprocess.PIPE).stdout, b'a word\n')
 
 
 if __name__ == '__main__':
