@@ -1,9 +1,10 @@
 -- The command line: what `clap` is told of it, what a line asks for, and what is said where there is none.
-use Rattle.std.specs.Prelude.{◌≡◌, ◌≤◌, ◌⊎◌, ⊤, ℕ, ℤ, pos, true, false, List, [], ◌∷◌, map, codes, Option, None, Some, Result, Ok}
+use Rattle.std.specs.Prelude.{◌≡◌, ◌≤◌, ◌⊎◌, ⊤, ℕ, ℤ, pos, true, false, List, [], ◌∷◌, ◌++◌, map, codes, Option, None, Some, Result, Ok}
 use Rattle.std.specs.Borrow.{Bor}
 use Rattle.std.specs.declared.alloc.AllocError.{AllocError}
+use Rattle.std.specs.declared.alloc.Global.{Global}
+use Rattle.std.specs.declared.vec.Vec.{Vec}
 use Rattle.std.specs.Str.Parse.{IsNumeral, without_leading_plus, digits_value}
-use Rattle.clap.specs.Built.{AddsSubcommand}
 use Rattle.clap.specs.Facts.{parser_of_value}
 use Rattle.clap.specs.Values.{Accepts, unsigned_up_to}
 use Rattle.clap.specs.Words.{App, IsAmong, Row, Rule, Shape, Text, app_of, fault_of, first_of, kind_of, new_app, new_rule, one_of, subcommand_of, with_rule, with_subcommand}
@@ -105,9 +106,16 @@ desk kinds = with_subcommand (reporting kinds) migrate.top
 abbrev pub IsApp : App → Command → Type 0
 IsApp app command = (app_of command ≡ app) × ((out-Command command).has_globals ≡ false)
 
--- `new` is the command with this subcommand, where both were made
-abbrev pub HasSubcommand : Result Command AllocError → Result Command AllocError → Command → Type 0
-HasSubcommand command sub new = (old : Command) × (added : Command) × (command ≡ Ok old) × (sub ≡ Ok added) × AddsSubcommand old added new
+-- the commands are told so, one after another
+abbrev pub AreApps : List App → List Command → Type 0
+AreApps [] [] = ⊤
+AreApps (a ∷ apps) (c ∷ commands) = IsApp a c × AreApps apps commands
+AreApps [] (c ∷ commands) = ⊥
+AreApps (a ∷ apps) [] = ⊥
+
+-- `new` is the list with this value behind the others, where both were made
+abbrev pub HasOneMore : {T : Type 0} → Result (Vec T Global) AllocError → Result T AllocError → Vec T Global → Type 0
+HasOneMore {T} list value new = (old : Vec T Global) × (last : T) × (list ≡ Ok old) × (value ≡ Ok last) × (new.items ≡ old.items ++ last ∷ [])
 
 -- ---- what the words give
 

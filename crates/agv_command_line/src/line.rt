@@ -1,8 +1,8 @@
 //! The command line: `replay --db FILE|memory --at MILLIS`, `serve --db FILE --port P
 //! --connections N`, `report --db FILE stock|holds`, and `migrate --db FILE`.
-ghost use Rattle.std.specs.Prelude.{◌≡◌, IfOk, IfErr, IfSome, IsSome, false, map, string_bytes, codes};
-ghost use Rattle.clap.specs.Words.{App, found_of, new_app, rows_of, rule_of, with_rule};
-ghost use Rattle.agv_command_line.specs.CommandLine.{AreKinds, Choice, Gives, HasSubcommand, HasValues, IsApp, IsLine, IsLineFault, IsOneOf, answering, db, desk, desk_top, kind_word, migrate, name_of, number, positional, replay, replaying, report, report_kind, reporting, required_option, serve};
+ghost use Rattle.std.specs.Prelude.{◌≡◌, [], ◌∷◌, IfOk, IfErr, IfSome, IsSome, false, map, string_bytes, codes};
+ghost use Rattle.clap.specs.Words.{found_of, new_app, rows_of, rule_of, with_rule};
+ghost use Rattle.agv_command_line.specs.CommandLine.{AreApps, AreKinds, Choice, Gives, HasOneMore, HasValues, IsApp, IsLine, IsLineFault, IsOneOf, db, desk, desk_top, kind_word, migrate, name_of, number, positional, replay, report, report_kind, required_option, serve};
 ghost use Rattle.agv_command_line.specs.declared.line.ReportKind.{ReportKind};
 
 use crate::LineFault;
@@ -77,40 +77,30 @@ pub fn line_of<'a>(alloc: Global, words: &'a [String]) -> Result<Line<'a>, LineF
 fn desk_command<'a>(alloc: Global) -> Result<Command<'a>, AllocError>
     ensures { IfOk result (λ command. (kinds : Choice) × AreKinds kinds × IsApp (desk kinds) command) }
 {
-    with_subcommand(reporting_command(alloc), migrate_command(alloc))
+    let subs = desk_subcommands(alloc)?;
+    top_command(alloc).subcommands(subs)
 }
 
-/// The command, with the subcommands that answer requests and `report`.
-fn reporting_command<'a>(alloc: Global) -> Result<Command<'a>, AllocError>
-    ensures { IfOk result (λ command. (kinds : Choice) × AreKinds kinds × IsApp (reporting kinds) command) }
+/// The four subcommands.
+fn desk_subcommands<'a>(alloc: Global) -> Result<Vec<Command<'a>>, AllocError>
+    ensures { IfOk result (λ subs. (kinds : Choice) × AreKinds kinds × AreApps (replay ∷ serve ∷ report kinds ∷ migrate ∷ []) subs.items) }
 {
-    with_subcommand(answering_command(alloc), report_command(alloc))
+    let replay = with_one_more(Ok(Vec::new(alloc)), replay_command(alloc));
+    let serve = with_one_more(replay, serve_command(alloc));
+    let report = with_one_more(serve, report_command(alloc));
+    with_one_more(report, migrate_command(alloc))
 }
 
-/// The command, with the two subcommands that answer requests.
-fn answering_command<'a>(alloc: Global) -> Result<Command<'a>, AllocError>
-    ensures { IfOk result (IsApp answering) }
+/// The list with one more value, if there are both. It is generic and takes results, so that a value is dropped early here alone.
+fn with_one_more<T: Drop>(
+    list: Result<Vec<T>, AllocError>,
+    value: Result<T, AllocError>,
+) -> Result<Vec<T>, AllocError>
+    ensures { IfOk result (HasOneMore list value) }
 {
-    with_subcommand(replaying_command(alloc), serve_command(alloc))
-}
-
-/// The command with one more subcommand, if there are both. It takes results, so that a command is dropped early here alone.
-fn with_subcommand<'a>(
-    command: Result<Command<'a>, AllocError>,
-    sub: Result<Command<'a>, AllocError>,
-) -> Result<Command<'a>, AllocError>
-    ensures { IfOk result (HasSubcommand command.entry sub.entry) }
-{
-    let command = command?;
-    let sub = sub?;
-    command.subcommand(sub)
-}
-
-/// The command, with the subcommand `replay`.
-fn replaying_command<'a>(alloc: Global) -> Result<Command<'a>, AllocError>
-    ensures { IfOk result (IsApp replaying) }
-{
-    with_subcommand(Ok(top_command(alloc)), replay_command(alloc))
+    let mut list = list?;
+    list.push(value?)?;
+    Ok(list)
 }
 
 /// The command, before it has a subcommand.
@@ -138,37 +128,20 @@ fn replay_command<'a>(alloc: Global) -> Result<Command<'a>, AllocError>
 {
     let about = "Reads requests from standard input and writes the answers to standard output";
     let example = "Example: desk replay --db memory --at 1700000000000 < requests.txt";
-    let replay = with_arg(
-        Ok(named_command(alloc, "replay", about, example)),
-        required_arg(
+    named_command(alloc, "replay", about, example)
+        .arg(required_arg(
             alloc,
             "db",
             "FILE|memory",
             "The file that keeps the records; `memory` keeps them for this run only",
-        ),
-    );
-    with_arg(
-        replay,
-        number_arg(
+        ))?
+        .arg(number_arg(
             alloc,
             "at",
             "MILLIS",
             4_102_444_799_999,
             "The moment of all requests, in milliseconds since the start of 1970 (UTC)",
-        ),
-    )
-}
-
-/// The command with one more argument, if there is the command. It takes a result as [`with_subcommand`] does.
-fn with_arg<'a>(
-    command: Result<Command<'a>, AllocError>,
-    arg: Arg<'a>,
-) -> Result<Command<'a>, AllocError>
-    requires { arg.global ≡ false }
-    ensures { (app : App) → IfOk command.entry (IsApp app) → IfOk result (IsApp (with_rule app (rule_of arg.entry))) }
-{
-    let command = command?;
-    command.arg(arg)
+        ))
 }
 
 /// `--db FILE`.
@@ -225,26 +198,21 @@ fn serve_command<'a>(alloc: Global) -> Result<Command<'a>, AllocError>
 {
     let about = "Answers requests over the network, to programs on this machine (127.0.0.1)";
     let example = "Example: desk serve --db desk.db --port 8080 --connections 100";
-    let serve = with_arg(
-        file_command(alloc, "serve", about, example),
-        number_arg(
+    file_command(alloc, "serve", about, example)?
+        .arg(number_arg(
             alloc,
             "port",
             "P",
             65_535,
             "The port on this machine, 0 to 65535; 0 picks a free one and prints it",
-        ),
-    );
-    with_arg(
-        serve,
-        number_arg(
+        ))?
+        .arg(number_arg(
             alloc,
             "connections",
             "N",
             4_294_967_295,
             "How many connections are served, one after another, before the program ends",
-        ),
-    )
+        ))
 }
 
 /// The subcommand `report`.
@@ -253,10 +221,7 @@ fn report_command<'a>(alloc: Global) -> Result<Command<'a>, AllocError>
 {
     let about = "Prints a report of the records: where the loads are, or what the vehicles hold";
     let example = "Example: desk report --db desk.db stock";
-    with_arg(
-        file_command(alloc, "report", about, example),
-        kind_arg(alloc),
-    )
+    file_command(alloc, "report", about, example)?.arg(kind_arg(alloc))
 }
 
 /// The name of a report, a positional argument.

@@ -1,11 +1,14 @@
-use Rattle.std.proofs.Common.{codes}
+use Rattle.std.proofs.Common.{codes, pos}
+use Rattle.std.proofs.lemmas.Result.{IfOk-weaker}
 use Rattle.clap.specs.Words.{new_app, with_rule}
-use Rattle.agv_command_line.specs.CommandLine.{db}
-use Rattle.agv_command_line.proofs.Commands.{ruled}
+use Rattle.agv_command_line.specs.CommandLine.{db, last_moment, number}
+use Rattle.agv_command_line.proofs.Commands.{arg_added}
 use Rattle.agv_command_line.proofs.line.replay_command.Goals as goal
 
 pub returns : goal.returns
 returns c =
     let named = new_app (codes "replay") in
-    let had_db = ruled _ named c.required_arg.ensures.rule (c.with_arg-replay.ensures named c.named_command.ensures) in
-    ruled _ (with_rule named db) c.number_arg.ensures.rule (c.with_arg.ensures (with_rule named db) had_db)
+    let has_db = arg_added named db _ _ _ c.in_ok-arg.ensures c.named_command.ensures c.required_arg.ensures.rule c.required_arg.ensures.local in
+    IfOk-weaker c.arg-2.result _ _
+    (λ command added. arg_added (with_rule named db) (number (codes "at") (pos last_moment)) _ _ command added has_db c.number_arg.ensures.rule c.number_arg.ensures.local)
+    c.arg-2.ensures
