@@ -1,8 +1,6 @@
 -- What the texts that count rows mean, wherever the desk's tables stand.
-use Rattle.std.proofs.Common.{◌≡◌, ℕ, true, List, [], ◌∷◌, length, Some, None, codes, refl, sym, subst, lit≤}
+use Rattle.std.proofs.Common.{◌≡◌, ℕ, true, List, [], ◌∷◌, length, Some, None, codes, refl, sym, subst}
 use Rattle.std.specs.List.{list_all}
-use Rattle.sqlite_ast.specs.declared.Core.{out-Core}
-use Rattle.sqlite_ast.specs.declared.Select.{out-Select}
 use Rattle.sqlite_value.specs.Order.{Row, column}
 use Rattle.sqlite_sql.specs.Term.{Term}
 use Rattle.sqlite_schema.specs.declared.schema.Kind.TheVariants as kind
@@ -13,12 +11,13 @@ use Rattle.agv_statements.specs.RowQueries.{FitsColumns, columns_at, equal_from}
 use Rattle.agv_schema.specs.declared.rows_counted.RowsCounted.{RowsCounted}
 use Rattle.agv_schema.specs.declared.rows_counted.RowsCounted.TheVariants as counted
 use Rattle.agv_schema.specs.declared.table_name.TableName.TheVariants as the
-use Rattle.agv_schema.proofs.OneTable.{counting, head_of, is_param, parsed, selection, their_count}
-use Rattle.agv_statements.proofs.sql.OneTableReads.{select_means_in}
+use Rattle.agv_schema.proofs.OneTable.{counting, is_param, their_count}
+use Rattle.agv_statements.proofs.sql.OneTableTexts.{read_means, read_whole}
 use Rattle.agv_statements.proofs.sql.QueryRows.{passes, reads_within}
 use Rattle.agv_statements.proofs.sql.ReadFailing.{IsTypedIn, IsWholeText, fits_at, text_compares}
-use Rattle.agv_statements.proofs.sql.Selecting.{IsSelectText}
+use Rattle.agv_statements.proofs.sql.Selecting.{IsSelectText, read_selects}
 use Rattle.agv_statements.proofs.QueryMeanings.{AsksIn}
+use Rattle.agv_statements.proofs.RowMeanings.{ReadsText, no_keys}
 
 -- the columns that are counted by equal the parameters
 abbrev pub count_terms : RowsCounted → List Term
@@ -44,30 +43,18 @@ count_no_rowid_column counted.StationLoads keys = refl
 count_no_rowid_column counted.VehicleLoads keys = refl
 count_no_rowid_column counted.TargetJobs keys = refl
 
+-- what SQL reads of the text
+count_reads : (query : RowsCounted) (keys : TableKeys) → ReadsText (Some counting) (table_counted query) keys (count_text query) (length (columns_at (table_counted query) (columns_counted query))) (count_terms query) their_count count_names (None ∷ [])
+unfolding everything
+count_reads counted.StationLoads keys tree = refl
+count_reads counted.VehicleLoads keys tree = refl
+count_reads counted.TargetJobs keys tree = refl
+
 -- SQL takes the text for a query of the table that shows how many rows pass
 pub count_asks : (query : RowsCounted) → AsksIn (Some counting) (table_counted query) (count_text query) (count_terms query) their_count count_names
-unfolding everything
-count_asks counted.StationLoads s at tree keys stands =
-    let p = parsed (count_text counted.StationLoads) in
-    let sel = selection p.statement tt in
-    select_means_in s (codes "load") (table_written the.Load tree keys) at stands (count_text counted.StationLoads) p refl refl sel refl
-    (record { with = refl; others = refl; order = refl; limit = refl; offset = refl })
-    (record { source = head_of (out-Core (out-Select sel).first).from tt; from = refl; origin = refl; alias = refl; on = refl; using = refl; inner = refl; group = refl; having = refl; repeats = refl })
-    (Some counting) (count_terms counted.StationLoads) their_count count_names (None ∷ []) refl refl refl refl refl
-count_asks counted.VehicleLoads s at tree keys stands =
-    let p = parsed (count_text counted.VehicleLoads) in
-    let sel = selection p.statement tt in
-    select_means_in s (codes "load") (table_written the.Load tree keys) at stands (count_text counted.VehicleLoads) p refl refl sel refl
-    (record { with = refl; others = refl; order = refl; limit = refl; offset = refl })
-    (record { source = head_of (out-Core (out-Select sel).first).from tt; from = refl; origin = refl; alias = refl; on = refl; using = refl; inner = refl; group = refl; having = refl; repeats = refl })
-    (Some counting) (count_terms counted.VehicleLoads) their_count count_names (None ∷ []) refl refl refl refl refl
-count_asks counted.TargetJobs s at tree keys stands =
-    let p = parsed (count_text counted.TargetJobs) in
-    let sel = selection p.statement tt in
-    select_means_in s (codes "job") (table_written the.Job tree keys) at stands (count_text counted.TargetJobs) p refl refl sel refl
-    (record { with = refl; others = refl; order = refl; limit = refl; offset = refl })
-    (record { source = head_of (out-Core (out-Select sel).first).from tt; from = refl; origin = refl; alias = refl; on = refl; using = refl; inner = refl; group = refl; having = refl; repeats = refl })
-    (Some counting) (count_terms counted.TargetJobs) their_count count_names (None ∷ []) refl refl refl refl refl
+count_asks query s at tree keys stands =
+    let name = table_counted query in
+    read_means s (table_written name tree keys) at stands (count_text query) (length (columns_at name (columns_counted query))) (Some counting) (count_terms query) their_count count_names (None ∷ []) (count_reads query keys tree)
 
 pub count_typed : (query : RowsCounted) (params : Row) → FitsColumns (table_counted query) (columns_counted query) params → IsTypedIn (Some counting) (table_counted query) (count_terms query) their_count params
 count_typed counted.StationLoads params h =
@@ -83,16 +70,7 @@ count_typed counted.TargetJobs params h =
     rw (text_compares (column params 0) k0, text_compares (column params 1) k1)
 
 pub count_whole : (query : RowsCounted) → IsWholeText (count_text query) (length (columns_at (table_counted query) (columns_counted query)))
-unfolding everything
-count_whole counted.StationLoads = (lit≤ tt, refl)
-count_whole counted.VehicleLoads = (lit≤ tt, refl)
-count_whole counted.TargetJobs = (lit≤ tt, refl)
-
-select_texts : (query : RowsCounted) → IsSelectText (count_text query)
-unfolding everything
-select_texts counted.StationLoads = tt
-select_texts counted.VehicleLoads = tt
-select_texts counted.TargetJobs = tt
+count_whole query = read_whole (table_written (table_counted query) 0 no_keys) (count_text query) _ _ (count_reads query no_keys 0)
 
 pub count_selects : (query : RowsCounted) (sql : List ℕ) → sql ≡ count_text query → IsSelectText sql
-count_selects query sql text = subst IsSelectText (sym text) (select_texts query)
+count_selects query sql text = subst IsSelectText (sym text) (read_selects (table_written (table_counted query) 0 no_keys) (count_text query) _ _ (count_reads query no_keys 0))

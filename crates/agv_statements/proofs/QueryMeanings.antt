@@ -1,9 +1,7 @@
 -- What the texts that ask for rows mean, wherever the desk's tables stand.
-use Rattle.std.proofs.Common.{◌≡◌, ℕ, zero, suc, Bool, true, List, [], ◌∷◌, Option, None, Some, codes, refl}
+use Rattle.std.proofs.Common.{◌≡◌, ℕ, zero, suc, Bool, true, List, [], ◌∷◌, length, drop, Option, None, Some, refl}
 use Rattle.std.specs.List.{list_all}
-use Rattle.sqlite_ast.specs.declared.Core.{out-Core}
-use Rattle.sqlite_ast.specs.declared.Select.{out-Select}
-use Rattle.sqlite_value.specs.declared.keys.Collation.TheVariants.{Binary}
+use Rattle.sqlite_value.specs.declared.keys.Collation.{Collation}
 use Rattle.sqlite_value.specs.Order.{Row}
 use Rattle.sqlite_sql.specs.Term.{Term, col}
 use Rattle.sqlite_draft.specs.declared.query.Grouping.{Grouping}
@@ -11,15 +9,15 @@ use Rattle.sqlite_schema.specs.declared.schema.Schema.{Schema}
 use Rattle.sqlite_schema.specs.declared.command.Command.TheVariants.{Select}
 use Rattle.sqlite_tied.specs.Compute.{everything}
 use Rattle.agv_schema.specs.DeskRows.{RowidColumn, TableKeys, rowid_column_of, table_for, table_written, width_of}
-use Rattle.agv_statements.specs.RowQueries.{table_asked, columns_asked, equal_from, query_text, all_rows_text}
+use Rattle.agv_statements.specs.RowQueries.{table_asked, columns_asked, columns_at, equal_from, query_text, all_rows_text}
 use Rattle.agv_schema.specs.declared.rows_by.RowsBy.{RowsBy}
 use Rattle.agv_schema.specs.declared.rows_by.RowsBy.TheVariants as by
 use Rattle.agv_schema.specs.declared.table_name.TableName.{TableName}
 use Rattle.agv_schema.specs.declared.table_name.TableName.TheVariants as the
-use Rattle.agv_schema.proofs.OneTable.{IsIn, Means, parsed, selection, head_of, is_param, query_by, query_in}
-use Rattle.agv_statements.proofs.sql.OneTableReads.{select_means}
+use Rattle.agv_schema.proofs.OneTable.{IsIn, Means, is_param, query_by, query_in}
+use Rattle.agv_statements.proofs.sql.OneTableTexts.{read_means}
 use Rattle.agv_statements.proofs.sql.QueryRows.{passes, reads_within}
-use Rattle.agv_statements.proofs.RowMeanings.{collations, column_names, column_terms, from_slot}
+use Rattle.agv_statements.proofs.RowMeanings.{ReadsRows, ReadsText, collations, column_names, column_terms, from_slot}
 
 -- SQL takes the text for a query of the table that shows these terms, under these names, of the rows that pass these tests, or of the groups of these rows
 abbrev pub AsksIn : Option Grouping → TableName → List ℕ → List Term → List Term → List (List ℕ) → Type 0
@@ -49,22 +47,16 @@ pub query_within : (query : RowsBy) → list_all (reads_within (width_of (table_
 query_within by.VehicleJourney = refl
 query_within _ = refl
 
-pub query_asks : (query : RowsBy) → Asks (table_asked query) (query_text query) (query_terms query)
+-- what SQL reads of the text
+pub query_reads : (query : RowsBy) (keys : TableKeys) → ReadsRows (table_asked query) keys (query_text query) (columns_asked query) (query_terms query)
 unfolding everything
-query_asks by.VehicleJourney s at tree keys stands =
-    let p = parsed (query_text by.VehicleJourney) in
-    let sel = selection p.statement tt in
-    select_means s (codes "journey") (table_written the.Journey tree keys) at stands (query_text by.VehicleJourney) p refl refl sel refl
-    (record { with = refl; others = refl; order = refl; limit = refl; offset = refl })
-    (record { source = head_of (out-Core (out-Select sel).first).from tt; from = refl; origin = refl; alias = refl; on = refl; using = refl; inner = refl; group = refl; having = refl; repeats = refl })
-    (query_terms by.VehicleJourney) (column_terms the.Journey) (column_names the.Journey) (collations the.Journey) refl refl refl refl refl
+query_reads by.VehicleJourney keys tree = refl
+query_reads _ keys tree = refl
+
+pub query_asks : (query : RowsBy) → Asks (table_asked query) (query_text query) (query_terms query)
 query_asks query s at tree keys stands =
-    let p = parsed (query_text query) in
-    let sel = selection p.statement tt in
-    select_means s (table_for (table_asked query)).name (table_written (table_asked query) tree keys) at stands (query_text query) p refl refl sel refl
-    (record { with = refl; others = refl; order = refl; limit = refl; offset = refl })
-    (record { source = head_of (out-Core (out-Select sel).first).from tt; from = refl; origin = refl; alias = refl; on = refl; using = refl; inner = refl; group = refl; having = refl; repeats = refl })
-    (query_terms query) (column_terms (table_asked query)) (column_names (table_asked query)) (collations (table_asked query)) refl refl refl refl refl
+    let name = table_asked query in
+    read_means s (table_written name tree keys) at stands (query_text query) (length (columns_at name (columns_asked query))) None (query_terms query) (column_terms name) (column_names name) (collations name) (query_reads query keys tree)
 
 pub query_no_rowid_column : (query : RowsBy) (keys : TableKeys) → rowid_column_of (table_asked query) keys ≡ None
 query_no_rowid_column by.VehicleJourney keys = refl
@@ -86,31 +78,26 @@ abbrev pub ShowsAll : TableName → TableKeys → Type 0
 ShowsAll name keys = (s : Schema) (at tree : ℕ) → IsIn s (table_for name).name (table_written name tree keys) at
     → Means s (all_rows_text name) (Select (record { lets = []; body = query_by tree [] (shown_terms name keys) }) (column_names name))
 
+-- how each column is compared, where the first of them is the rowid or is not
+abbrev shown_collations : Option RowidColumn → List (Option Collation) → List (Option Collation)
+shown_collations None all = all
+shown_collations (Some first) all = None ∷ drop 1 all
+
+-- what SQL reads of the text
+abbrev ReadsAll : TableName → TableKeys → Type 0
+ReadsAll name keys = ReadsText None name keys (all_rows_text name) 0 [] (shown_terms name keys) (column_names name) (shown_collations (rowid_column_of name keys) (collations name))
+
 -- `meta`, whether its first column is the rowid or not
-meta_asked : (primary : List ℕ) (indexed : List (List ℕ)) (rowid : Option RowidColumn) → ShowsAll the.Meta (record { primary = primary; indexed = indexed; rowid_column = rowid })
+meta_reads : (primary : List ℕ) (indexed : List (List ℕ)) (rowid : Option RowidColumn) → ReadsAll the.Meta (record { primary = primary; indexed = indexed; rowid_column = rowid })
 unfolding everything
-meta_asked primary indexed None s at tree stands =
-    let p = parsed (all_rows_text the.Meta) in
-    let sel = selection p.statement tt in
-    select_means s (codes "meta") (table_written the.Meta tree (record { primary = primary; indexed = indexed; rowid_column = None })) at stands (all_rows_text the.Meta) p refl refl sel refl
-    (record { with = refl; others = refl; order = refl; limit = refl; offset = refl })
-    (record { source = head_of (out-Core (out-Select sel).first).from tt; from = refl; origin = refl; alias = refl; on = refl; using = refl; inner = refl; group = refl; having = refl; repeats = refl })
-    ([]) (column_terms the.Meta) (column_names the.Meta) (collations the.Meta) refl refl refl refl refl
-meta_asked primary indexed (Some first) s at tree stands =
-    let p = parsed (all_rows_text the.Meta) in
-    let sel = selection p.statement tt in
-    select_means s (codes "meta") (table_written the.Meta tree (record { primary = primary; indexed = indexed; rowid_column = Some first })) at stands (all_rows_text the.Meta) p refl refl sel refl
-    (record { with = refl; others = refl; order = refl; limit = refl; offset = refl })
-    (record { source = head_of (out-Core (out-Select sel).first).from tt; from = refl; origin = refl; alias = refl; on = refl; using = refl; inner = refl; group = refl; having = refl; repeats = refl })
-    ([]) (terms_by (Some first) 2) (column_names the.Meta) (None ∷ Some Binary ∷ []) refl refl refl refl refl
+meta_reads primary indexed None tree = refl
+meta_reads primary indexed (Some first) tree = refl
+
+pub all_rows_read : (name : TableName) (keys : TableKeys) → ReadsAll name keys
+unfolding everything
+all_rows_read the.Meta keys tree = meta_reads keys.primary keys.indexed keys.rowid_column tree
+all_rows_read _ keys tree = refl
 
 pub all_rows_asked : (name : TableName) (keys : TableKeys) → ShowsAll name keys
-unfolding everything
-all_rows_asked the.Meta keys s at tree stands = meta_asked keys.primary keys.indexed keys.rowid_column s at tree stands
 all_rows_asked name keys s at tree stands =
-    let p = parsed (all_rows_text name) in
-    let sel = selection p.statement tt in
-    select_means s (table_for name).name (table_written name tree keys) at stands (all_rows_text name) p refl refl sel refl
-    (record { with = refl; others = refl; order = refl; limit = refl; offset = refl })
-    (record { source = head_of (out-Core (out-Select sel).first).from tt; from = refl; origin = refl; alias = refl; on = refl; using = refl; inner = refl; group = refl; having = refl; repeats = refl })
-    ([]) (column_terms name) (column_names name) (collations name) refl refl refl refl refl
+    read_means s (table_written name tree keys) at stands (all_rows_text name) 0 None [] (shown_terms name keys) (column_names name) (shown_collations (rowid_column_of name keys) (collations name)) (all_rows_read name keys tree)

@@ -1,22 +1,23 @@
 -- What the texts on one row mean, wherever the desk's tables stand.
-use Rattle.std.proofs.Common.{◌≡◌, [], ◌∷◌, ℕ, zero, suc, true, List, map, refl, Option, None, Some}
-use Rattle.sqlite_ast.specs.declared.Core.{out-Core}
-use Rattle.sqlite_ast.specs.declared.Select.{out-Select}
+use Rattle.std.proofs.Common.{◌≡◌, [], ◌∷◌, ℕ, zero, suc, true, List, length, map, refl, Option, None, Some}
 use Rattle.sqlite_value.specs.declared.value.Value.TheVariants.{Null}
 use Rattle.sqlite_value.specs.declared.keys.Collation.{Collation}
 use Rattle.sqlite_value.specs.declared.keys.Collation.TheVariants.{Binary}
 use Rattle.sqlite_sql.specs.Term.{Term, col, lit}
+use Rattle.sqlite_draft.specs.declared.join.Step.TheVariants.{Inner}
+use Rattle.sqlite_draft.specs.declared.query.Grouping.{Grouping}
 use Rattle.sqlite_schema.specs.declared.schema.Schema.{Schema}
 use Rattle.sqlite_schema.specs.declared.command.Source.TheVariants.{Values}
 use Rattle.sqlite_schema.specs.declared.command.Command.TheVariants.{Insert, Delete, Select}
+use Rattle.sqlite_resolve.specs.Write.{simple}
 use Rattle.sqlite_tied.specs.Compute.{everything}
 use Rattle.agv_schema.specs.DeskRows.{TableKeys, rowid_column_of, table_for, table_written, width_of}
 use Rattle.agv_schema.specs.RowTexts.{deletion_text, insertion_text, is_looked_up, is_written, look_up_text}
 use Rattle.agv_schema.specs.declared.table_name.TableName.{TableName}
 use Rattle.agv_schema.specs.declared.table_name.TableName.TheVariants as the
-use Rattle.agv_schema.proofs.OneTable.{IsIn, Means, parsed, deletion_test, insertion_columns, insertion_rows, selection, head_of, is_param, query_by}
-use Rattle.agv_statements.proofs.sql.OneTableWrites.{insert_means, delete_means}
-use Rattle.agv_statements.proofs.sql.OneTableReads.{select_means}
+use Rattle.agv_statements.specs.RowQueries.{columns_at}
+use Rattle.agv_schema.proofs.OneTable.{IsIn, Means, draft_in, is_param, query_by}
+use Rattle.agv_statements.proofs.sql.OneTableTexts.{IsReadAs, IsReadToAdd, IsReadToChange, addition_means, deletion_means, read_means}
 
 -- so many values of a slot, from a place on
 abbrev pub from_slot : ℕ → ℕ → ℕ → List Term
@@ -64,26 +65,37 @@ looked_up_no_rowid_column _ is keys = refl
 abbrev pub Inserts : TableName → Type 0
 Inserts name = (s : Schema) (at tree : ℕ) (keys : TableKeys) → IsIn s (table_for name).name (table_written name tree keys) at → Means s (insertion_text name) (Insert at (Values (row_terms name) (suc (width_of name))))
 
-pub inserts : (name : TableName) → is_written name ≡ true → Inserts name
+-- what SQL reads of the text, at every schema
+abbrev ReadsInsertion : TableName → Type 0
+ReadsInsertion name = (s : Schema) (tree : ℕ) (keys : TableKeys) → IsReadToAdd s (table_written name tree keys) (insertion_text name) (Values (row_terms name) (suc (width_of name)))
+
+insertion_reads : (name : TableName) → is_written name ≡ true → ReadsInsertion name
 unfolding everything
-inserts the.Meta is s at tree keys stands = absurd (cc is)
-inserts the.Trip is s at tree keys stands = absurd (cc is)
+insertion_reads the.Meta is s tree keys = absurd (cc is)
+insertion_reads the.Trip is s tree keys = absurd (cc is)
+insertion_reads _ is s tree keys = refl
+
+pub inserts : (name : TableName) → is_written name ≡ true → Inserts name
 inserts name is s at tree keys stands =
-    let p = parsed (insertion_text name) in
-    insert_means s (table_for name).name (table_written name tree keys) at stands (insertion_text name) p refl refl (insertion_columns p.statement) (insertion_rows p.statement) (row_terms name) (suc (width_of name)) refl refl refl
+    addition_means s (table_written name tree keys) at stands (insertion_text name) (row_terms name) (suc (width_of name)) (insertion_reads name is s tree keys)
 
 -- ---- the row of a key is taken out, or the acts of an order
 
 abbrev pub Deletes : TableName → Type 0
 Deletes name = (s : Schema) (at tree : ℕ) (keys : TableKeys) → IsIn s (table_for name).name (table_written name tree keys) at → Means s (deletion_text name) (Delete at (record { lets = []; body = query_by tree (deleted_terms name) (col 1 0 ∷ []) }))
 
-pub deletes : (name : TableName) → is_written name ≡ true → Deletes name
+abbrev ReadsDeletion : TableName → Type 0
+ReadsDeletion name = (tree : ℕ) (keys : TableKeys) → IsReadToChange true (table_written name tree keys) (deletion_text name) (simple (Inner tree ∷ []) (deleted_terms name) (col 1 0 ∷ []))
+
+deletion_reads : (name : TableName) → is_written name ≡ true → ReadsDeletion name
 unfolding everything
-deletes the.Meta is s at tree keys stands = absurd (cc is)
-deletes the.Trip is s at tree keys stands = absurd (cc is)
+deletion_reads the.Meta is tree keys = absurd (cc is)
+deletion_reads the.Trip is tree keys = absurd (cc is)
+deletion_reads _ is tree keys = refl
+
+pub deletes : (name : TableName) → is_written name ≡ true → Deletes name
 deletes name is s at tree keys stands =
-    let p = parsed (deletion_text name) in
-    delete_means s (table_for name).name (table_written name tree keys) at stands (deletion_text name) p refl refl (deletion_test p.statement) (deleted_terms name) refl refl refl refl
+    deletion_means s (table_written name tree keys) at stands (deletion_text name) (deleted_terms name) (col 1 0 ∷ []) (deletion_reads name is tree keys)
 
 -- ---- the row of a key is shown
 
@@ -94,20 +106,30 @@ column_names name = map (λ c. c.name) (table_for name).columns
 abbrev pub collations : TableName → List (Option Collation)
 collations name = map (λ _. Some Binary) (table_for name).columns
 
+-- SQL reads the text as a query of the table with so many parameters, that shows these terms, under these names, of the rows that pass these tests
+abbrev pub ReadsText : Option Grouping → TableName → TableKeys → List ℕ → ℕ → List Term → List Term → List (List ℕ) → List (Option Collation) → Type 0
+ReadsText group name keys sql n terms project names compares = (tree : ℕ) → IsReadAs (table_written name tree keys) sql n (draft_in group tree terms project, names, compares)
+
+-- the same of the rows themselves, that shows all columns
+abbrev pub ReadsRows : TableName → TableKeys → List ℕ → List ℕ → List Term → Type 0
+ReadsRows name keys sql columns terms = ReadsText None name keys sql (length (columns_at name columns)) terms (column_terms name) (column_names name) (collations name)
+
+-- keys, where any will do
+abbrev pub no_keys : TableKeys
+no_keys = record { primary = []; indexed = []; rowid_column = None }
+
+pub look_up_reads : (name : TableName) → is_looked_up name ≡ true → (keys : TableKeys) → ReadsRows name keys (look_up_text name) (table_for name).primary (key_terms name)
+unfolding everything
+look_up_reads the.Meta is keys tree = absurd (cc is)
+look_up_reads the.Trip is keys tree = absurd (cc is)
+look_up_reads the.Leg is keys tree = absurd (cc is)
+look_up_reads the.Journey is keys tree = absurd (cc is)
+look_up_reads the.Act is keys tree = absurd (cc is)
+look_up_reads _ is keys tree = refl
+
 abbrev pub LooksUp : TableName → Type 0
 LooksUp name = (s : Schema) (at tree : ℕ) (keys : TableKeys) → IsIn s (table_for name).name (table_written name tree keys) at → Means s (look_up_text name) (Select (record { lets = []; body = query_by tree (key_terms name) (column_terms name) }) (column_names name))
 
 pub looks_up : (name : TableName) → is_looked_up name ≡ true → LooksUp name
-unfolding everything
-looks_up the.Meta is s at tree keys stands = absurd (cc is)
-looks_up the.Trip is s at tree keys stands = absurd (cc is)
-looks_up the.Leg is s at tree keys stands = absurd (cc is)
-looks_up the.Journey is s at tree keys stands = absurd (cc is)
-looks_up the.Act is s at tree keys stands = absurd (cc is)
 looks_up name is s at tree keys stands =
-    let p = parsed (look_up_text name) in
-    let sel = selection p.statement tt in
-    select_means s (table_for name).name (table_written name tree keys) at stands (look_up_text name) p refl refl sel refl
-    (record { with = refl; others = refl; order = refl; limit = refl; offset = refl })
-    (record { source = head_of (out-Core (out-Select sel).first).from tt; from = refl; origin = refl; alias = refl; on = refl; using = refl; inner = refl; group = refl; having = refl; repeats = refl })
-    (key_terms name) (column_terms name) (column_names name) (collations name) refl refl refl refl refl
+    read_means s (table_written name tree keys) at stands (look_up_text name) (length (columns_at name (table_for name).primary)) None (key_terms name) (column_terms name) (column_names name) (collations name) (look_up_reads name is keys tree)

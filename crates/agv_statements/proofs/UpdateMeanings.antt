@@ -1,10 +1,12 @@
 -- What the texts that write a row over those of its key mean, wherever the desk's tables stand, and what they do.
-use Rattle.std.proofs.Common.{◌≡◌, ◌∙◌, ◌++◌, inl, inr, [], ◌∷◌, ℕ, zero, suc, not, true, Bool, List, None, Result, Ok, Err, OnOk, IfOk, filter, length, map, refl, sym, ap, subst}
+use Rattle.std.proofs.Common.{◌≡◌, ◌∙◌, ◌++◌, inl, inr, [], ◌∷◌, ℕ, zero, suc, not, false, true, Bool, List, None, Result, Ok, Err, OnOk, IfOk, filter, length, map, refl, sym, ap, subst}
 use Rattle.std.proofs.lemmas.Bool.{cases_Bool}
 use Rattle.std.proofs.lemmas.List.Elements.{filter-append}
 use Rattle.sqlite_value.specs.Order.{Row}
 use Rattle.sqlite_schema.specs.declared.schema.Schema.{Schema}
 use Rattle.sqlite_schema.specs.declared.command.Command.TheVariants.{Update}
+use Rattle.sqlite_draft.specs.declared.join.Step.TheVariants.{Inner}
+use Rattle.sqlite_resolve.specs.Write.{simple}
 use Rattle.sqlite_tied.specs.Compute.{everything}
 use Rattle.sqlite.specs.declared.error.Error.{Error}
 use Rattle.sqlite.specs.State.{State, Executes}
@@ -14,8 +16,8 @@ use Rattle.agv_schema.specs.declared.table_name.TableName.{TableName}
 use Rattle.agv_schema.specs.declared.table_name.TableName.TheVariants as the
 use Rattle.agv_schema.proofs.OnTables.{on_table-twice}
 use Rattle.agv_schema.proofs.DeskPlaces.{is_in}
-use Rattle.agv_schema.proofs.OneTable.{IsIn, Means, parsed, query_by, update_sets, update_test}
-use Rattle.agv_statements.proofs.sql.OneTableWrites.{update_means}
+use Rattle.agv_schema.proofs.OneTable.{IsIn, Means, query_by}
+use Rattle.agv_statements.proofs.sql.OneTableTexts.{IsReadToChange, changes_mean}
 use Rattle.agv_statements.proofs.DeskStatements.{RunsInside, key_passes, makes, makes_then, within}
 use Rattle.agv_statements.proofs.RowForms.{Lands, rows_updated}
 use Rattle.agv_statements.proofs.RowMeanings.{key_terms, over_terms}
@@ -25,20 +27,26 @@ use Rattle.agv_statements.proofs.RowMeanings.{key_terms, over_terms}
 abbrev Updates : TableName → Type 0
 Updates name = (s : Schema) (at tree : ℕ) (keys : TableKeys) → IsIn s (table_for name).name (table_written name tree keys) at → Means s (update_text name) (Update at (record { lets = []; body = query_by tree (key_terms name) (over_terms name) }))
 
-updates : (name : TableName) → is_updated name ≡ true → Updates name
+-- what SQL reads of the text
+abbrev ReadsUpdate : TableName → Type 0
+ReadsUpdate name = (tree : ℕ) (keys : TableKeys) → IsReadToChange false (table_written name tree keys) (update_text name) (simple (Inner tree ∷ []) (key_terms name) (over_terms name))
+
+update_reads : (name : TableName) → is_updated name ≡ true → ReadsUpdate name
 unfolding everything
-updates the.Meta is s at tree keys stands = absurd (cc is)
-updates the.Node is s at tree keys stands = absurd (cc is)
-updates the.Edge is s at tree keys stands = absurd (cc is)
-updates the.Station is s at tree keys stands = absurd (cc is)
-updates the.Trip is s at tree keys stands = absurd (cc is)
-updates the.Leg is s at tree keys stands = absurd (cc is)
-updates the.Hold is s at tree keys stands = absurd (cc is)
-updates the.Used is s at tree keys stands = absurd (cc is)
-updates the.Capacity is s at tree keys stands = absurd (cc is)
+update_reads the.Meta is tree keys = absurd (cc is)
+update_reads the.Node is tree keys = absurd (cc is)
+update_reads the.Edge is tree keys = absurd (cc is)
+update_reads the.Station is tree keys = absurd (cc is)
+update_reads the.Trip is tree keys = absurd (cc is)
+update_reads the.Leg is tree keys = absurd (cc is)
+update_reads the.Hold is tree keys = absurd (cc is)
+update_reads the.Used is tree keys = absurd (cc is)
+update_reads the.Capacity is tree keys = absurd (cc is)
+update_reads _ is tree keys = refl
+
+updates : (name : TableName) → is_updated name ≡ true → Updates name
 updates name is s at tree keys stands =
-    let p = parsed (update_text name) in
-    update_means s (table_for name).name (table_written name tree keys) at stands (update_text name) p refl refl (update_sets p.statement) (update_test p.statement) (key_terms name) (over_terms name) refl refl refl refl refl
+    changes_mean s (table_written name tree keys) at stands (update_text name) (key_terms name) (over_terms name) (update_reads name is tree keys)
 
 updated_no_rowid_column : (name : TableName) → is_updated name ≡ true → (keys : TableKeys) → rowid_column_of name keys ≡ None
 updated_no_rowid_column the.Meta is keys = absurd (cc is)

@@ -5,6 +5,7 @@ pub mod Failing
 pub mod NoReferences
 pub mod OneTableReads
 pub mod OneTableTerms
+pub mod OneTableTexts
 pub mod OneTableWrites
 pub mod QueryRows
 pub mod ReadFailing

@@ -1,5 +1,5 @@
 -- Why a look-up fails, where its error is a fault of the store.
-use Rattle.std.proofs.Common.{◌≡◌, ◌≤◌, ◌&&◌, ◌∙◌, inl, inr, ℕ, zero, suc, pos, slice_get, Bool, true, List, [], ◌∷◌, length, map, Option, None, Some, Ok, Err, Result, IfErr, option_map, option_and_then, Vec, Global, refl, sym, ap, subst, append-nil, lit≤}
+use Rattle.std.proofs.Common.{◌≡◌, ◌≤◌, ◌&&◌, ◌∙◌, inl, inr, ℕ, zero, suc, pos, slice_get, Bool, true, List, [], ◌∷◌, length, map, Option, None, Some, Ok, Err, Result, IfErr, option_map, option_and_then, Vec, Global, refl, sym, ap, subst, append-nil}
 use Rattle.sqlite_value.specs.Order.{Row, column}
 use Rattle.sqlite_value.specs.declared.value.Value.{Value}
 use Rattle.sqlite_value.specs.declared.value.Value.TheVariants.{Null, Int, Real, Text, Blob}
@@ -11,7 +11,6 @@ use Rattle.sqlite_value.specs.declared.keys.Collation.TheVariants.{Binary}
 use Rattle.sqlite_sql.specs.declared.ops.BinaryOp.TheVariants.{Compare}
 use Rattle.sqlite_sql.specs.declared.ops.CompareOp.TheVariants.{Eq}
 use Rattle.sqlite_schema.specs.declared.schema.Kind.TheVariants as kind
-use Rattle.sqlite_tied.specs.Compute.{everything}
 use Rattle.sqlite_typing.specs.Types.{class_in, class_of, column_class, binary_class, accepts_after, accepts_program, row_classes, is_count}
 use Rattle.sqlite_schema.specs.declared.schema.Column.{Column}
 use Rattle.sqlite_schema.specs.declared.command.Command.TheVariants.{Select}
@@ -21,19 +20,20 @@ use Rattle.sqlite.specs.Listing.{understood, reads_listing, IsSourceOf}
 use Rattle.sqlite.specs.State.{State, IsNotRun, FailsToQuery}
 use Rattle.sqlite.proofs.Callers.{IsPlain, command_of}
 use Rattle.std.proofs.lemmas.Bool.{and_parts}
-use Rattle.agv_schema.specs.DeskRows.{RowidColumn, TableKeys, columns_by, rowid_column_of, table_for, Placing, IsDesk, StandApart, is_of_kind, fits}
+use Rattle.agv_schema.specs.DeskRows.{RowidColumn, TableKeys, columns_by, rowid_column_of, table_for, table_written, Placing, IsDesk, StandApart, is_of_kind, fits}
 use Rattle.agv_schema.specs.Errors.{IsOfStore}
 use Rattle.agv_schema.specs.declared.table_name.TableName.{TableName}
 use Rattle.agv_schema.specs.declared.table_name.TableName.TheVariants as the
 use Rattle.agv_schema.proofs.OneTable.{Means, parsed, query_by, query_in, compiled_as}
 use Rattle.agv_schema.proofs.DeskPlaces.{is_in, is_in_alone, one_stands}
+use Rattle.agv_statements.proofs.sql.OneTableTexts.{read_whole}
 use Rattle.agv_statements.proofs.sql.Failing.{IsCaused, IsWhole, caused, is_statement}
 use Rattle.agv_schema.specs.RowTexts.{is_looked_up, look_up_text}
 use Rattle.agv_statements.specs.RowQueries.{table_asked, columns_asked, columns_at, FitsColumns, query_text, all_rows_text}
 use Rattle.agv_schema.specs.declared.rows_by.RowsBy.{RowsBy}
 use Rattle.agv_schema.specs.declared.rows_by.RowsBy.TheVariants as by
-use Rattle.agv_statements.proofs.QueryMeanings.{query_terms, query_asks, all_rows_asked, shown_terms, terms_by}
-use Rattle.agv_statements.proofs.RowMeanings.{key_terms, looks_up, column_terms, column_names}
+use Rattle.agv_statements.proofs.QueryMeanings.{query_terms, query_asks, query_reads, all_rows_asked, all_rows_read, shown_terms, terms_by}
+use Rattle.agv_statements.proofs.RowMeanings.{key_terms, look_up_reads, looks_up, no_keys, column_terms, column_names}
 
 -- ---- types
 
@@ -207,23 +207,13 @@ read_caused = read_caused_in None (λ all none. none)
 -- ---- the texts are one statement each
 
 key_whole : (name : TableName) → is_looked_up name ≡ true → IsWholeText (look_up_text name) (length (columns_at name (table_for name).primary))
-unfolding everything
-key_whole the.Meta is = absurd (cc is)
-key_whole the.Trip is = absurd (cc is)
-key_whole the.Leg is = absurd (cc is)
-key_whole the.Journey is = absurd (cc is)
-key_whole the.Act is = absurd (cc is)
-key_whole _ is = (lit≤ tt, refl)
+key_whole name is = read_whole (table_written name 0 no_keys) (look_up_text name) _ _ (look_up_reads name is no_keys 0)
 
 query_whole : (query : RowsBy) → IsWholeText (query_text query) (length (columns_at (table_asked query) (columns_asked query)))
-unfolding everything
-query_whole by.VehicleJourney = (lit≤ tt, refl)
-query_whole _ = (lit≤ tt, refl)
+query_whole query = read_whole (table_written (table_asked query) 0 no_keys) (query_text query) _ _ (query_reads query no_keys 0)
 
 all_whole : (name : TableName) → IsWholeText (all_rows_text name) 0
-unfolding everything
-all_whole the.Meta = (lit≤ tt, refl)
-all_whole _ = (lit≤ tt, refl)
+all_whole name = read_whole (table_written name 0 no_keys) (all_rows_text name) _ _ (all_rows_read name no_keys 0)
 
 -- ---- the look-ups
 

@@ -6,23 +6,26 @@ use Rattle.sqlite_ast.specs.declared.Statement.{Statement}
 use Rattle.sqlite_ast.specs.declared.Statement.TheVariants as written
 use Rattle.sqlite_syntax.specs.declared.statement.Parsed.{Parsed}
 use Rattle.sqlite_schema.specs.declared.schema.Schema.{Schema}
+use Rattle.sqlite_schema.specs.declared.schema.Table.{Table}
 use Rattle.sqlite_schema.specs.declared.command.Command.{Command}
 use Rattle.sqlite_schema.specs.declared.command.Returning.{Returning}
 use Rattle.sqlite_resolve.specs.Lowering.{Checked, and_then}
 use Rattle.sqlite_resolve.specs.Compile.{compiled, first, meaning, planned, returning, with_command}
 use Rattle.sqlite_resolve.specs.declared.compiled.Compiled.{Compiled}
 use Rattle.sqlite_resolve.specs.declared.error.CompileError.TheVariants.{NoSuchTable}
-use Rattle.sqlite_tied.specs.Compute.{everything}
+use Rattle.sqlite_resolve.specs.Program.{Shown as Made}
 use Rattle.sqlite.specs.declared.error.Error.{Error}
 use Rattle.sqlite.specs.Listing.{if_select, is_select, listing_schema, reads_listing, understood}
 use Rattle.sqlite.specs.State.{CommitsShowing, IsUnchanged, Shown, ShowsRows, State, Survives}
 use Rattle.sqlite.proofs.StateLemmas.{survives_weaker}
-use Rattle.agv_statements.specs.RowQueries.{all_rows_text, query_text}
+use Rattle.agv_schema.specs.DeskRows.{table_written}
+use Rattle.agv_statements.specs.RowQueries.{all_rows_text, query_text, table_asked}
 use Rattle.agv_schema.specs.RowTexts.{is_looked_up, look_up_text}
 use Rattle.agv_schema.specs.declared.rows_by.RowsBy.{RowsBy}
-use Rattle.agv_schema.specs.declared.rows_by.RowsBy.TheVariants as by
 use Rattle.agv_schema.specs.declared.table_name.TableName.{TableName}
-use Rattle.agv_schema.specs.declared.table_name.TableName.TheVariants as the
+use Rattle.agv_statements.proofs.QueryMeanings.{all_rows_read, query_reads}
+use Rattle.agv_statements.proofs.RowMeanings.{look_up_reads, no_keys}
+use Rattle.agv_statements.proofs.sql.OneTableTexts.{IsReadAs, selection_is}
 
 -- ---- at every schema
 
@@ -104,30 +107,15 @@ module _ (params : Row) (old new : State) (sql : List ℕ) (select : IsSelectTex
 
 -- ---- the texts
 
-look_ups : (name : TableName) → is_looked_up name ≡ true → IsSelectText (look_up_text name)
-unfolding everything
-look_ups the.Meta is = absurd (cc is)
-look_ups the.Trip is = absurd (cc is)
-look_ups the.Leg is = absurd (cc is)
-look_ups the.Journey is = absurd (cc is)
-look_ups the.Act is = absurd (cc is)
-look_ups _ is = tt
-
-queries : (query : RowsBy) → IsSelectText (query_text query)
-unfolding everything
-queries by.VehicleJourney = tt
-queries _ = tt
-
-whole_tables : (name : TableName) → IsSelectText (all_rows_text name)
-unfolding everything
-whole_tables the.Meta = tt
-whole_tables _ = tt
+-- a text that is read as a SELECT from a table
+pub read_selects : (t : Table) (sql : List ℕ) (n : ℕ) (made : Made) → IsReadAs t sql n made → IsSelectText sql
+read_selects t sql n made read = let it = selection_is t sql n made read in subst ReadsSelect (sym it.parses) (subst IsSelect (sym it.is) tt)
 
 pub look_up_selects : (name : TableName) → is_looked_up name ≡ true → (sql : List ℕ) → sql ≡ look_up_text name → IsSelectText sql
-look_up_selects name looked_up sql text = subst IsSelectText (sym text) (look_ups name looked_up)
+look_up_selects name looked_up sql text = subst IsSelectText (sym text) (read_selects (table_written name 0 no_keys) (look_up_text name) _ _ (look_up_reads name looked_up no_keys 0))
 
 pub query_selects : (query : RowsBy) (sql : List ℕ) → sql ≡ query_text query → IsSelectText sql
-query_selects query sql text = subst IsSelectText (sym text) (queries query)
+query_selects query sql text = subst IsSelectText (sym text) (read_selects (table_written (table_asked query) 0 no_keys) (query_text query) _ _ (query_reads query no_keys 0))
 
 pub all_selects : (name : TableName) (sql : List ℕ) → sql ≡ all_rows_text name → IsSelectText sql
-all_selects name sql text = subst IsSelectText (sym text) (whole_tables name)
+all_selects name sql text = subst IsSelectText (sym text) (read_selects (table_written name 0 no_keys) (all_rows_text name) _ _ (all_rows_read name no_keys 0))
