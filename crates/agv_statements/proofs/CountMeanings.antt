@@ -44,11 +44,28 @@ count_no_rowid_column counted.VehicleLoads keys = refl
 count_no_rowid_column counted.TargetJobs keys = refl
 
 -- what SQL reads of the text
-count_reads : (query : RowsCounted) (keys : TableKeys) → ReadsText (Some counting) (table_counted query) keys (count_text query) (length (columns_at (table_counted query) (columns_counted query))) (count_terms query) their_count count_names (None ∷ [])
+abbrev ReadsCount : RowsCounted → Type 0
+ReadsCount query = (keys : TableKeys)
+    → ReadsText (Some counting) (table_counted query) keys (count_text query) (length (columns_at (table_counted query) (columns_counted query))) (count_terms query) their_count count_names (None ∷ [])
+
+-- each text is evaluated here: in a clause it would be evaluated twice
+record EachCount : Type 0 where
+  station_loads : ReadsCount counted.StationLoads
+  vehicle_loads : ReadsCount counted.VehicleLoads
+  target_jobs : ReadsCount counted.TargetJobs
+
+counts : EachCount
 unfolding everything
-count_reads counted.StationLoads keys tree = refl
-count_reads counted.VehicleLoads keys tree = refl
-count_reads counted.TargetJobs keys tree = refl
+counts = record {
+  station_loads = λ keys tree. refl;
+  vehicle_loads = λ keys tree. refl;
+  target_jobs = λ keys tree. refl;
+}
+
+count_reads : (query : RowsCounted) → ReadsCount query
+count_reads counted.StationLoads = counts.station_loads
+count_reads counted.VehicleLoads = counts.vehicle_loads
+count_reads counted.TargetJobs = counts.target_jobs
 
 -- SQL takes the text for a query of the table that shows how many rows pass
 pub count_asks : (query : RowsCounted) → AsksIn (Some counting) (table_counted query) (count_text query) (count_terms query) their_count count_names

@@ -1,5 +1,5 @@
 -- What the texts that ask for rows mean, wherever the desk's tables stand.
-use Rattle.std.proofs.Common.{◌≡◌, ℕ, zero, suc, Bool, true, List, [], ◌∷◌, length, drop, Option, None, Some, refl}
+use Rattle.std.proofs.Common.{◌≡◌, ℕ, zero, suc, true, List, [], ◌∷◌, length, drop, Option, None, Some, refl}
 use Rattle.std.specs.List.{list_all}
 use Rattle.sqlite_value.specs.declared.keys.Collation.{Collation}
 use Rattle.sqlite_value.specs.Order.{Row}
@@ -48,10 +48,33 @@ query_within by.VehicleJourney = refl
 query_within _ = refl
 
 -- what SQL reads of the text
-pub query_reads : (query : RowsBy) (keys : TableKeys) → ReadsRows (table_asked query) keys (query_text query) (columns_asked query) (query_terms query)
+abbrev pub ReadsQuery : RowsBy → Type 0
+ReadsQuery query = (keys : TableKeys) → ReadsRows (table_asked query) keys (query_text query) (columns_asked query) (query_terms query)
+
+-- each text is evaluated here: in a clause it would be evaluated twice
+record EachQuery : Type 0 where
+  vehicle_journey : ReadsQuery by.VehicleJourney
+  order_acts : ReadsQuery by.OrderActs
+  order_legs : ReadsQuery by.OrderLegs
+  station_loads : ReadsQuery by.StationLoads
+  load_jobs : ReadsQuery by.LoadJobs
+
+queries : EachQuery
 unfolding everything
-query_reads by.VehicleJourney keys tree = refl
-query_reads _ keys tree = refl
+queries = record {
+  vehicle_journey = λ keys tree. refl;
+  order_acts = λ keys tree. refl;
+  order_legs = λ keys tree. refl;
+  station_loads = λ keys tree. refl;
+  load_jobs = λ keys tree. refl;
+}
+
+pub query_reads : (query : RowsBy) → ReadsQuery query
+query_reads by.VehicleJourney = queries.vehicle_journey
+query_reads by.OrderActs = queries.order_acts
+query_reads by.OrderLegs = queries.order_legs
+query_reads by.StationLoads = queries.station_loads
+query_reads by.LoadJobs = queries.load_jobs
 
 pub query_asks : (query : RowsBy) → Asks (table_asked query) (query_text query) (query_terms query)
 query_asks query s at tree keys stands =
@@ -88,15 +111,65 @@ abbrev ReadsAll : TableName → TableKeys → Type 0
 ReadsAll name keys = ReadsText None name keys (all_rows_text name) 0 [] (shown_terms name keys) (column_names name) (shown_collations (rowid_column_of name keys) (collations name))
 
 -- `meta`, whether its first column is the rowid or not
-meta_reads : (primary : List ℕ) (indexed : List (List ℕ)) (rowid : Option RowidColumn) → ReadsAll the.Meta (record { primary = primary; indexed = indexed; rowid_column = rowid })
+abbrev meta_by : List ℕ → List (List ℕ) → Option RowidColumn → TableKeys
+meta_by primary indexed rowid = record { primary = primary; indexed = indexed; rowid_column = rowid }
+
+record EachTable : Type 0 where
+  meta : (primary : List ℕ) (indexed : List (List ℕ)) → ReadsAll the.Meta (meta_by primary indexed None)
+  meta_by_rowid : (primary : List ℕ) (indexed : List (List ℕ)) (first : RowidColumn) → ReadsAll the.Meta (meta_by primary indexed (Some first))
+  node : (keys : TableKeys) → ReadsAll the.Node keys
+  edge : (keys : TableKeys) → ReadsAll the.Edge keys
+  station : (keys : TableKeys) → ReadsAll the.Station keys
+  vehicle : (keys : TableKeys) → ReadsAll the.Vehicle keys
+  trip : (keys : TableKeys) → ReadsAll the.Trip keys
+  leg : (keys : TableKeys) → ReadsAll the.Leg keys
+  load : (keys : TableKeys) → ReadsAll the.Load keys
+  job : (keys : TableKeys) → ReadsAll the.Job keys
+  hold : (keys : TableKeys) → ReadsAll the.Hold keys
+  used : (keys : TableKeys) → ReadsAll the.Used keys
+  capacity : (keys : TableKeys) → ReadsAll the.Capacity keys
+  journey : (keys : TableKeys) → ReadsAll the.Journey keys
+  act : (keys : TableKeys) → ReadsAll the.Act keys
+
+tables : EachTable
 unfolding everything
-meta_reads primary indexed None tree = refl
-meta_reads primary indexed (Some first) tree = refl
+tables = record {
+  meta = λ primary indexed tree. refl;
+  meta_by_rowid = λ primary indexed first tree. refl;
+  node = λ keys tree. refl;
+  edge = λ keys tree. refl;
+  station = λ keys tree. refl;
+  vehicle = λ keys tree. refl;
+  trip = λ keys tree. refl;
+  leg = λ keys tree. refl;
+  load = λ keys tree. refl;
+  job = λ keys tree. refl;
+  hold = λ keys tree. refl;
+  used = λ keys tree. refl;
+  capacity = λ keys tree. refl;
+  journey = λ keys tree. refl;
+  act = λ keys tree. refl;
+}
+
+meta_read : (primary : List ℕ) (indexed : List (List ℕ)) (rowid : Option RowidColumn) → ReadsAll the.Meta (meta_by primary indexed rowid)
+meta_read primary indexed None = tables.meta primary indexed
+meta_read primary indexed (Some first) = tables.meta_by_rowid primary indexed first
 
 pub all_rows_read : (name : TableName) (keys : TableKeys) → ReadsAll name keys
-unfolding everything
-all_rows_read the.Meta keys tree = meta_reads keys.primary keys.indexed keys.rowid_column tree
-all_rows_read _ keys tree = refl
+all_rows_read the.Meta keys = meta_read keys.primary keys.indexed keys.rowid_column
+all_rows_read the.Node keys = tables.node keys
+all_rows_read the.Edge keys = tables.edge keys
+all_rows_read the.Station keys = tables.station keys
+all_rows_read the.Vehicle keys = tables.vehicle keys
+all_rows_read the.Trip keys = tables.trip keys
+all_rows_read the.Leg keys = tables.leg keys
+all_rows_read the.Load keys = tables.load keys
+all_rows_read the.Job keys = tables.job keys
+all_rows_read the.Hold keys = tables.hold keys
+all_rows_read the.Used keys = tables.used keys
+all_rows_read the.Capacity keys = tables.capacity keys
+all_rows_read the.Journey keys = tables.journey keys
+all_rows_read the.Act keys = tables.act keys
 
 pub all_rows_asked : (name : TableName) (keys : TableKeys) → ShowsAll name keys
 all_rows_asked name keys s at tree stands =

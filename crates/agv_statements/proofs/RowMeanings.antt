@@ -69,11 +69,53 @@ Inserts name = (s : Schema) (at tree : ℕ) (keys : TableKeys) → IsIn s (table
 abbrev ReadsInsertion : TableName → Type 0
 ReadsInsertion name = (s : Schema) (tree : ℕ) (keys : TableKeys) → IsReadToAdd s (table_written name tree keys) (insertion_text name) (Values (row_terms name) (suc (width_of name)))
 
-insertion_reads : (name : TableName) → is_written name ≡ true → ReadsInsertion name
+-- each text is evaluated here: in a clause it would be evaluated twice
+record EachInsertion : Type 0 where
+  node : ReadsInsertion the.Node
+  edge : ReadsInsertion the.Edge
+  station : ReadsInsertion the.Station
+  vehicle : ReadsInsertion the.Vehicle
+  leg : ReadsInsertion the.Leg
+  load : ReadsInsertion the.Load
+  job : ReadsInsertion the.Job
+  hold : ReadsInsertion the.Hold
+  used : ReadsInsertion the.Used
+  capacity : ReadsInsertion the.Capacity
+  journey : ReadsInsertion the.Journey
+  act : ReadsInsertion the.Act
+
+insertions : EachInsertion
 unfolding everything
-insertion_reads the.Meta is s tree keys = absurd (cc is)
-insertion_reads the.Trip is s tree keys = absurd (cc is)
-insertion_reads _ is s tree keys = refl
+insertions = record {
+  node = λ s tree keys. refl;
+  edge = λ s tree keys. refl;
+  station = λ s tree keys. refl;
+  vehicle = λ s tree keys. refl;
+  leg = λ s tree keys. refl;
+  load = λ s tree keys. refl;
+  job = λ s tree keys. refl;
+  hold = λ s tree keys. refl;
+  used = λ s tree keys. refl;
+  capacity = λ s tree keys. refl;
+  journey = λ s tree keys. refl;
+  act = λ s tree keys. refl;
+}
+
+insertion_reads : (name : TableName) → is_written name ≡ true → ReadsInsertion name
+insertion_reads the.Meta is = absurd (cc is)
+insertion_reads the.Trip is = absurd (cc is)
+insertion_reads the.Node is = insertions.node
+insertion_reads the.Edge is = insertions.edge
+insertion_reads the.Station is = insertions.station
+insertion_reads the.Vehicle is = insertions.vehicle
+insertion_reads the.Leg is = insertions.leg
+insertion_reads the.Load is = insertions.load
+insertion_reads the.Job is = insertions.job
+insertion_reads the.Hold is = insertions.hold
+insertion_reads the.Used is = insertions.used
+insertion_reads the.Capacity is = insertions.capacity
+insertion_reads the.Journey is = insertions.journey
+insertion_reads the.Act is = insertions.act
 
 pub inserts : (name : TableName) → is_written name ≡ true → Inserts name
 inserts name is s at tree keys stands =
@@ -84,18 +126,60 @@ inserts name is s at tree keys stands =
 abbrev pub Deletes : TableName → Type 0
 Deletes name = (s : Schema) (at tree : ℕ) (keys : TableKeys) → IsIn s (table_for name).name (table_written name tree keys) at → Means s (deletion_text name) (Delete at (record { lets = []; body = query_by tree (deleted_terms name) (col 1 0 ∷ []) }))
 
+-- what SQL reads of the text
 abbrev ReadsDeletion : TableName → Type 0
 ReadsDeletion name = (tree : ℕ) (keys : TableKeys) → IsReadToChange true (table_written name tree keys) (deletion_text name) (simple (Inner tree ∷ []) (deleted_terms name) (col 1 0 ∷ []))
 
-deletion_reads : (name : TableName) → is_written name ≡ true → ReadsDeletion name
+record EachDeletion : Type 0 where
+  node : ReadsDeletion the.Node
+  edge : ReadsDeletion the.Edge
+  station : ReadsDeletion the.Station
+  vehicle : ReadsDeletion the.Vehicle
+  leg : ReadsDeletion the.Leg
+  load : ReadsDeletion the.Load
+  job : ReadsDeletion the.Job
+  hold : ReadsDeletion the.Hold
+  used : ReadsDeletion the.Used
+  capacity : ReadsDeletion the.Capacity
+  journey : ReadsDeletion the.Journey
+  act : ReadsDeletion the.Act
+
+deletions : EachDeletion
 unfolding everything
-deletion_reads the.Meta is tree keys = absurd (cc is)
-deletion_reads the.Trip is tree keys = absurd (cc is)
-deletion_reads _ is tree keys = refl
+deletions = record {
+  node = λ tree keys. refl;
+  edge = λ tree keys. refl;
+  station = λ tree keys. refl;
+  vehicle = λ tree keys. refl;
+  leg = λ tree keys. refl;
+  load = λ tree keys. refl;
+  job = λ tree keys. refl;
+  hold = λ tree keys. refl;
+  used = λ tree keys. refl;
+  capacity = λ tree keys. refl;
+  journey = λ tree keys. refl;
+  act = λ tree keys. refl;
+}
+
+deletion_reads : (name : TableName) → is_written name ≡ true → ReadsDeletion name
+deletion_reads the.Meta is = absurd (cc is)
+deletion_reads the.Trip is = absurd (cc is)
+deletion_reads the.Node is = deletions.node
+deletion_reads the.Edge is = deletions.edge
+deletion_reads the.Station is = deletions.station
+deletion_reads the.Vehicle is = deletions.vehicle
+deletion_reads the.Leg is = deletions.leg
+deletion_reads the.Load is = deletions.load
+deletion_reads the.Job is = deletions.job
+deletion_reads the.Hold is = deletions.hold
+deletion_reads the.Used is = deletions.used
+deletion_reads the.Capacity is = deletions.capacity
+deletion_reads the.Journey is = deletions.journey
+deletion_reads the.Act is = deletions.act
 
 pub deletes : (name : TableName) → is_written name ≡ true → Deletes name
 deletes name is s at tree keys stands =
-    deletion_means s (table_written name tree keys) at stands (deletion_text name) (deleted_terms name) (col 1 0 ∷ []) (deletion_reads name is tree keys)
+    deletion_means s (table_written name tree keys) at stands (deletion_text name) (deleted_terms name) (deletion_reads name is tree keys)
 
 -- ---- the row of a key is shown
 
@@ -118,14 +202,50 @@ ReadsRows name keys sql columns terms = ReadsText None name keys sql (length (co
 abbrev pub no_keys : TableKeys
 no_keys = record { primary = []; indexed = []; rowid_column = None }
 
-pub look_up_reads : (name : TableName) → is_looked_up name ≡ true → (keys : TableKeys) → ReadsRows name keys (look_up_text name) (table_for name).primary (key_terms name)
+-- what SQL reads of the text
+abbrev pub ReadsLookUp : TableName → Type 0
+ReadsLookUp name = (keys : TableKeys) → ReadsRows name keys (look_up_text name) (table_for name).primary (key_terms name)
+
+record EachLookUp : Type 0 where
+  node : ReadsLookUp the.Node
+  edge : ReadsLookUp the.Edge
+  station : ReadsLookUp the.Station
+  vehicle : ReadsLookUp the.Vehicle
+  load : ReadsLookUp the.Load
+  job : ReadsLookUp the.Job
+  hold : ReadsLookUp the.Hold
+  used : ReadsLookUp the.Used
+  capacity : ReadsLookUp the.Capacity
+
+look_ups : EachLookUp
 unfolding everything
-look_up_reads the.Meta is keys tree = absurd (cc is)
-look_up_reads the.Trip is keys tree = absurd (cc is)
-look_up_reads the.Leg is keys tree = absurd (cc is)
-look_up_reads the.Journey is keys tree = absurd (cc is)
-look_up_reads the.Act is keys tree = absurd (cc is)
-look_up_reads _ is keys tree = refl
+look_ups = record {
+  node = λ keys tree. refl;
+  edge = λ keys tree. refl;
+  station = λ keys tree. refl;
+  vehicle = λ keys tree. refl;
+  load = λ keys tree. refl;
+  job = λ keys tree. refl;
+  hold = λ keys tree. refl;
+  used = λ keys tree. refl;
+  capacity = λ keys tree. refl;
+}
+
+pub look_up_reads : (name : TableName) → is_looked_up name ≡ true → ReadsLookUp name
+look_up_reads the.Meta is = absurd (cc is)
+look_up_reads the.Trip is = absurd (cc is)
+look_up_reads the.Leg is = absurd (cc is)
+look_up_reads the.Journey is = absurd (cc is)
+look_up_reads the.Act is = absurd (cc is)
+look_up_reads the.Node is = look_ups.node
+look_up_reads the.Edge is = look_ups.edge
+look_up_reads the.Station is = look_ups.station
+look_up_reads the.Vehicle is = look_ups.vehicle
+look_up_reads the.Load is = look_ups.load
+look_up_reads the.Job is = look_ups.job
+look_up_reads the.Hold is = look_ups.hold
+look_up_reads the.Used is = look_ups.used
+look_up_reads the.Capacity is = look_ups.capacity
 
 abbrev pub LooksUp : TableName → Type 0
 LooksUp name = (s : Schema) (at tree : ℕ) (keys : TableKeys) → IsIn s (table_for name).name (table_written name tree keys) at → Means s (look_up_text name) (Select (record { lets = []; body = query_by tree (key_terms name) (column_terms name) }) (column_names name))

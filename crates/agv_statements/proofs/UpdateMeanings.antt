@@ -17,7 +17,7 @@ use Rattle.agv_schema.specs.declared.table_name.TableName.TheVariants as the
 use Rattle.agv_schema.proofs.OnTables.{on_table-twice}
 use Rattle.agv_schema.proofs.DeskPlaces.{is_in}
 use Rattle.agv_schema.proofs.OneTable.{IsIn, Means, query_by}
-use Rattle.agv_statements.proofs.sql.OneTableTexts.{IsReadToChange, changes_mean}
+use Rattle.agv_statements.proofs.sql.OneTableTexts.{IsReadToChange, change_means}
 use Rattle.agv_statements.proofs.DeskStatements.{RunsInside, key_passes, makes, makes_then, within}
 use Rattle.agv_statements.proofs.RowForms.{Lands, rows_updated}
 use Rattle.agv_statements.proofs.RowMeanings.{key_terms, over_terms}
@@ -31,22 +31,43 @@ Updates name = (s : Schema) (at tree : ℕ) (keys : TableKeys) → IsIn s (table
 abbrev ReadsUpdate : TableName → Type 0
 ReadsUpdate name = (tree : ℕ) (keys : TableKeys) → IsReadToChange false (table_written name tree keys) (update_text name) (simple (Inner tree ∷ []) (key_terms name) (over_terms name))
 
-update_reads : (name : TableName) → is_updated name ≡ true → ReadsUpdate name
+-- each text is evaluated here: in a clause it would be evaluated twice
+record EachUpdate : Type 0 where
+  vehicle : ReadsUpdate the.Vehicle
+  journey : ReadsUpdate the.Journey
+  load : ReadsUpdate the.Load
+  job : ReadsUpdate the.Job
+  act : ReadsUpdate the.Act
+
+each_update : EachUpdate
 unfolding everything
-update_reads the.Meta is tree keys = absurd (cc is)
-update_reads the.Node is tree keys = absurd (cc is)
-update_reads the.Edge is tree keys = absurd (cc is)
-update_reads the.Station is tree keys = absurd (cc is)
-update_reads the.Trip is tree keys = absurd (cc is)
-update_reads the.Leg is tree keys = absurd (cc is)
-update_reads the.Hold is tree keys = absurd (cc is)
-update_reads the.Used is tree keys = absurd (cc is)
-update_reads the.Capacity is tree keys = absurd (cc is)
-update_reads _ is tree keys = refl
+each_update = record {
+  vehicle = λ tree keys. refl;
+  journey = λ tree keys. refl;
+  load = λ tree keys. refl;
+  job = λ tree keys. refl;
+  act = λ tree keys. refl;
+}
+
+update_reads : (name : TableName) → is_updated name ≡ true → ReadsUpdate name
+update_reads the.Meta is = absurd (cc is)
+update_reads the.Node is = absurd (cc is)
+update_reads the.Edge is = absurd (cc is)
+update_reads the.Station is = absurd (cc is)
+update_reads the.Trip is = absurd (cc is)
+update_reads the.Leg is = absurd (cc is)
+update_reads the.Hold is = absurd (cc is)
+update_reads the.Used is = absurd (cc is)
+update_reads the.Capacity is = absurd (cc is)
+update_reads the.Vehicle is = each_update.vehicle
+update_reads the.Journey is = each_update.journey
+update_reads the.Load is = each_update.load
+update_reads the.Job is = each_update.job
+update_reads the.Act is = each_update.act
 
 updates : (name : TableName) → is_updated name ≡ true → Updates name
 updates name is s at tree keys stands =
-    changes_mean s (table_written name tree keys) at stands (update_text name) (key_terms name) (over_terms name) (update_reads name is tree keys)
+    change_means s (table_written name tree keys) at stands (update_text name) (key_terms name) (over_terms name) (update_reads name is tree keys)
 
 updated_no_rowid_column : (name : TableName) → is_updated name ≡ true → (keys : TableKeys) → rowid_column_of name keys ≡ None
 updated_no_rowid_column the.Meta is keys = absurd (cc is)

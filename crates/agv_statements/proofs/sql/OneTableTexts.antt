@@ -272,15 +272,15 @@ change t (Err e) = (false, no_change)
 abbrev pub IsReadToChange : Bool → Table → List ℕ → Draft → Type 0
 IsReadToChange deletes t sql picked = change t (first sql) ≡ (deletes, record { is_plain = true; table = t.name; picked = Ok picked })
 
-module _ (s : Schema) (t : Table) (at : ℕ) (stands : IsIn s t.name t at) (sql : List ℕ) (terms project : List Term) where
+module _ (s : Schema) (t : Table) (at : ℕ) (stands : IsIn s t.name t at) (sql : List ℕ) (terms : List Term) where
   abbrev these : List Term → Change
   these shown = record { is_plain = true; table = t.name; picked = Ok (simple (Inner t.tree ∷ []) terms shown) }
 
   abbrev Deletes : Type 0
   Deletes = Means s sql (make.Delete at (record { lets = []; body = query_by t.tree terms (col 1 0 ∷ []) }))
 
-  abbrev Updates : Type 0
-  Updates = Means s sql (make.Update at (record { lets = []; body = query_by t.tree terms project }))
+  abbrev Updates : List Term → Type 0
+  Updates project = Means s sql (make.Update at (record { lets = []; body = query_by t.tree terms project }))
 
   deletion_by : (p : Parsed) → first sql ≡ Ok p → (x : Statement) → p.statement ≡ x → is_deletion x ≡ true → change_of t p x ≡ these (col 1 0 ∷ []) → Deletes
   deletion_by p parses (written.Delete name test shown) is right h =
@@ -292,8 +292,8 @@ module _ (s : Schema) (t : Table) (at : ℕ) (stands : IsIn s t.name t at) (sql 
       delete_means s t.name t at stands sql p parses (nil_is _ a.0) test terms c.0 statement found (ap (typed_draft t) (sym found) ∙ c.1)
   deletion_by p parses _ is right h = absurd (cc)
 
-  update_by : (p : Parsed) → first sql ≡ Ok p → (x : Statement) → p.statement ≡ x → is_deletion x ≡ false → change_of t p x ≡ these project → Updates
-  update_by p parses (written.Update name sets test shown) is right h =
+  update_by : (project : List Term) (p : Parsed) → first sql ≡ Ok p → (x : Statement) → p.statement ≡ x → is_deletion x ≡ false → change_of t p x ≡ these project → Updates project
+  update_by project p parses (written.Update name sets test shown) is right h =
       let a = and_parts _ _ (ap (λ (c : Change). c.is_plain) h) in
       let b = and_parts _ _ a.1 in
       let c = and_parts _ _ b.1 in
@@ -301,8 +301,8 @@ module _ (s : Schema) (t : Table) (at : ℕ) (stands : IsIn s t.name t at) (sql 
       let found = ap (λ (c : Change). c.picked) h in
       let statement = is ∙ (λ i. written.Update ((h i).table) sets test (nil_is shown b.0 i)) in
       update_means s t.name t at stands sql p parses (nil_is _ a.0) sets test terms project c.0 d.0 statement found (ap (typed_draft t) (sym found) ∙ d.1)
-  update_by p parses (written.Delete name test shown) is right h = absurd (cc)
-  update_by p parses _ is right h = absurd (let e : false ≡ true = ap (λ (c : Change). c.is_plain) h in cc)
+  update_by project p parses (written.Delete name test shown) is right h = absurd (cc)
+  update_by project p parses _ is right h = absurd (let e : false ≡ true = ap (λ (c : Change). c.is_plain) h in cc)
 
   pub deletion_means : IsReadToChange true t sql (simple (Inner t.tree ∷ []) terms (col 1 0 ∷ [])) → Deletes
   deletion_means h = go (first sql) refl h
@@ -311,11 +311,11 @@ module _ (s : Schema) (t : Table) (at : ℕ) (stands : IsIn s t.name t at) (sql 
       go (Ok p) parses h = deletion_by p parses p.statement refl (ap (λ c. c.0) h) (ap (λ c. c.1) h)
       go (Err e) parses h = absurd (let e : false ≡ true = ap (λ c. c.0) h in cc)
 
-  pub changes_mean : IsReadToChange false t sql (simple (Inner t.tree ∷ []) terms project) → Updates
-  changes_mean h = go (first sql) refl h
+  pub change_means : (project : List Term) → IsReadToChange false t sql (simple (Inner t.tree ∷ []) terms project) → Updates project
+  change_means project h = go (first sql) refl h
     where
-      go : (r : Checked Parsed) → first sql ≡ r → change t r ≡ (false, these project) → Updates
-      go (Ok p) parses h = update_by p parses p.statement refl (ap (λ c. c.0) h) (ap (λ c. c.1) h)
+      go : (r : Checked Parsed) → first sql ≡ r → change t r ≡ (false, these project) → Updates project
+      go (Ok p) parses h = update_by project p parses p.statement refl (ap (λ c. c.0) h) (ap (λ c. c.1) h)
       go (Err e) parses h = absurd (let e : false ≡ true = ap (λ c. c.1.is_plain) h in cc)
 
 -- ---- an INSERT

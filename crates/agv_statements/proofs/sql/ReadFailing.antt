@@ -1,5 +1,5 @@
 -- Why a look-up fails, where its error is a fault of the store.
-use Rattle.std.proofs.Common.{◌≡◌, ◌≤◌, ◌&&◌, ◌∙◌, inl, inr, ℕ, zero, suc, pos, slice_get, Bool, true, List, [], ◌∷◌, length, map, Option, None, Some, Ok, Err, Result, IfErr, option_map, option_and_then, Vec, Global, refl, sym, ap, subst, append-nil}
+use Rattle.std.proofs.Common.{◌≡◌, ◌≤◌, ◌&&◌, ◌∙◌, inl, inr, ℕ, zero, suc, pos, slice_get, true, List, [], ◌∷◌, length, map, Option, None, Some, Ok, Err, Result, IfErr, option_map, option_and_then, Vec, Global, refl, sym, ap, subst, append-nil}
 use Rattle.sqlite_value.specs.Order.{Row, column}
 use Rattle.sqlite_value.specs.declared.value.Value.{Value}
 use Rattle.sqlite_value.specs.declared.value.Value.TheVariants.{Null, Int, Real, Text, Blob}

@@ -7,8 +7,8 @@ use Rattle.agv_statements.proofs.row_writes.insert_row.Goals as goal
 
 pub returns-clause-writes : goal.returns-clause-writes
 returns-clause-writes g c = record {
-  same_reference = search rules;
-  survives = search rules;
+  same_reference = c.execute.ensures.same_reference;
+  survives = c.execute.ensures.survives;
   kept = search rules;
   made = λ clean fit. inserts_row c.args.table c.requires c.insertion.result.now c.insertion.ensures (bound c.args.row.now) fit _ _ c.execute.result (λ idle. (c.execute.ensures.ended idle).0, c.execute.ensures.runs clean);
 }
