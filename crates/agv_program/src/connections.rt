@@ -1,4 +1,6 @@
 //! Connections over the network are served, one after another.
+ghost use Rattle.std.specs.Prelude.{◌≡◌, ◌⊎◌, IfErr};
+ghost use Rattle.agv_program.specs.declared.outcome.RunFault.TheVariants as fault;
 
 use crate::outcome::RunFault;
 use agv_face::{CountingIo, Served, StreamFault, serve_stream};
@@ -9,17 +11,6 @@ use std::alloc::Global;
 use std::io::{self, Write};
 use std::net::{Ipv4Addr, SocketAddr, SocketAddrV4, TcpListener, TcpStream};
 use std::time::{Duration, SystemTime, UNIX_EPOCH};
-
-/// Why no connection was served.
-#[derive(Clone, Copy, Debug, PartialEq, Eq, thiserror::Error)]
-pub enum NextFault {
-    /// No connection could be accepted.
-    #[error("no connection could be accepted")]
-    Net,
-    /// The clock is not between 1970 and 2099.
-    #[error("the clock is not between 1970 and 2099")]
-    Clock,
-}
 
 /// How long a read or a write of a connection may wait for its client, in seconds.
 pub const MAX_WAIT_SECONDS: u64 = 10;
@@ -67,11 +58,7 @@ fn serve_connections<S: Alter + Drop>(
     connections: u32,
 ) -> Result<(), RunFault> {
     for _ in 0..connections {
-        match serve_next(rt, alloc, desk, listener) {
-            Ok(_) => {}
-            Err(NextFault::Net) => return Err(RunFault::Net),
-            Err(NextFault::Clock) => return Err(RunFault::Clock),
-        }
+        let _ = serve_next(rt, alloc, desk, listener)?;
         if desk.failed() {
             return Err(RunFault::Storage);
         }
@@ -81,17 +68,20 @@ fn serve_connections<S: Alter + Drop>(
 
 /// Accepts one connection, and serves its requests at the moment at which it is accepted. It ends if for `MAX_WAIT_SECONDS`
 /// nothing comes from its client, or the system takes nothing more of an answer to it: that is a fault of the connection.
+/// Where none can be accepted, that is `Net`; where the moment can't be had, `Clock`.
 pub fn serve_next<S: Alter + Drop>(
     rt: &HostRuntime,
     alloc: Global,
     desk: &mut Desk<S>,
     listener: &mut TcpListener,
-) -> Result<Result<Served, StreamFault>, NextFault> {
+) -> Result<Result<Served, StreamFault>, RunFault>
+    ensures { IfErr result (λ why. (why ≡ fault.Net) ⊎ (why ≡ fault.Clock)) }
+{
     let Ok((stream, _)) = listener.accept() else {
-        return Err(NextFault::Net);
+        return Err(RunFault::Net);
     };
     let Some(at) = moment_now(rt) else {
-        return Err(NextFault::Clock);
+        return Err(RunFault::Clock);
     };
     Ok(serve_connection(alloc, desk, at, &stream))
 }

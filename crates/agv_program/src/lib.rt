@@ -17,7 +17,7 @@ mod outcome;
 mod program;
 mod run;
 
-pub use connections::{MAX_WAIT_SECONDS, NextFault, serve_next};
+pub use connections::{MAX_WAIT_SECONDS, serve_next};
 pub use outcome::{RunFault, end_of};
 pub use program::run_program;
 pub use run::run_line;

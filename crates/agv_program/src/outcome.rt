@@ -7,28 +7,21 @@ use agv_header::Refusal;
 use agv_row_queries::OpenFault;
 
 /// Why a run failed, as the program prints it.
-#[derive(Clone, Copy, Debug, PartialEq, Eq, thiserror::Error)]
+#[derive(Clone, Copy, Debug, PartialEq, Eq)]
 pub enum RunFault {
     /// The file has tables or rows that are no lawful desk's, or allows no desk's tables.
-    #[error("the file has no desk's tables, or what they have breaks a rule of the desk")]
     Damaged,
     /// Out of memory.
-    #[error("out of memory")]
     Memory,
     /// A fault of the store: the file can't be opened, read or written.
-    #[error("the file can't be opened, read or written")]
     Storage,
     /// Standard input can't be read.
-    #[error("standard input can't be read")]
     Read,
     /// Standard output can't be written.
-    #[error("standard output can't be written")]
     Write,
     /// The port can't be listened on, or a connection can't be accepted.
-    #[error("the port can't be listened on, or a connection can't be had")]
     Net,
     /// The clock is not between 1970 and 2099.
-    #[error("the clock is not between 1970 and 2099")]
     Clock,
 }
 
