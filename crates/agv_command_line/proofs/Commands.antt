@@ -34,7 +34,7 @@ subcommands_added a (s ∷ apps) old [] new added is_old are = absurd are
 subcommands_added a (s ∷ apps) old (c ∷ subs) new added is_old are =
     subcommands_added (with_subcommand a s.top) apps added.0 subs new added.2 (subcommand_added a s old c added.0 added.1 is_old are.0) are.1
 
--- one more behind them
+-- the commands are as said, with one more behind them
 one_behind : (apps : List App) (a : App) (commands : List Command) (c : Command) → AreApps apps commands → IsApp a c → AreApps (apps ++ a ∷ []) (commands ++ c ∷ [])
 one_behind [] a [] c are is = (is, tt)
 one_behind [] a (d ∷ commands) c are is = absurd are

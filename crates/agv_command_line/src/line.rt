@@ -91,7 +91,8 @@ fn desk_subcommands<'a>(alloc: Global) -> Result<Vec<Command<'a>>, AllocError>
     with_one_more(report, migrate_command(alloc))
 }
 
-/// The list with one more value, if there are both. It is generic and takes results, so that a value is dropped early here alone.
+/// The list with one more value, if there are both. It takes results, so that a value is dropped early here alone; and it is
+/// generic, since a command is a large type.
 fn with_one_more<T: Drop>(
     list: Result<Vec<T>, AllocError>,
     value: Result<T, AllocError>,

@@ -68,7 +68,7 @@ fn serve_connections<S: Alter + Drop>(
 
 /// Accepts one connection, and serves its requests at the moment at which it is accepted. It ends if for `MAX_WAIT_SECONDS`
 /// nothing comes from its client, or the system takes nothing more of an answer to it: that is a fault of the connection.
-/// Where none can be accepted, that is `Net`; where the moment can't be had, `Clock`.
+/// It answers `Net` where no connection can be accepted, and `Clock` where the clock is not between 1970 and 2099.
 pub fn serve_next<S: Alter + Drop>(
     rt: &HostRuntime,
     alloc: Global,

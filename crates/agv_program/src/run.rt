@@ -1,8 +1,9 @@
 //! A line is carried out: the file that it names is opened, or a database in memory, and its connection handed on, or a
 //! desk in it lent.
 ghost use Rattle.std.specs.Prelude.{◌≡◌, IfOk, codes};
+ghost use Rattle.sqlite.specs.Files.{over_files};
 ghost use Rattle.sqlite.specs.Held.{IsNew};
-ghost use Rattle.agv_program.specs.Runs.{IsCarriedOut, IsReplayedInMemory, IsRun, IsTold, status_of};
+ghost use Rattle.agv_program.specs.Runs.{IsCarriedOut, IsNewDatabase, IsReplayedAnew, IsReplayedInMemory, IsRun, IsTold, status_of};
 
 use crate::connections::serve;
 use crate::desks::{desk_of, migrate, replay, report};
@@ -11,7 +12,8 @@ use agv_command_line::Line;
 use agv_database::laws::stores_in_memory_are_clean;
 use agv_database::{open_file, open_in_memory};
 use agv_face::{CountingIo, write_whole};
-use sqlite::{Alter, Connection, Error};
+use sqlite::{Alter, Connection, Error, FileStore};
+use sqlite_disk::Disk;
 use std::alloc::Global;
 use std::io::{Read, Write};
 
@@ -79,7 +81,22 @@ fn carry_out_on_file<R: Read, W: Write>(
     reader: &mut CountingIo<R>,
     writer: &mut CountingIo<W>,
 ) -> Result<(), RunFault> {
-    carry_out_in(rt, alloc, line, open_file(rt, db), reader, writer)
+    carry_out_over(rt, alloc, line, open_file(rt, db), reader, writer)
+}
+
+/// Does what the line says, in this database over files. It is a function of its own, as [`replay_over`] is, since a store over
+/// any files is proved sooner in the place of `S` than one over given files.
+fn carry_out_over<D: Disk + Drop, R: Read, W: Write>(
+    rt: &HostRuntime,
+    alloc: Global,
+    line: &Line<'_>,
+    opened: Result<Connection<FileStore<D>>, Error>,
+    reader: &mut CountingIo<R>,
+    writer: &mut CountingIo<W>,
+) -> Result<(), RunFault>
+    requires { IfOk opened IsNew }
+{
+    carry_out_in(rt, alloc, line, opened, reader, writer)
 }
 
 /// Does what the line says, in this database.
@@ -121,7 +138,21 @@ fn replay_in_memory<R: Read, W: Write>(
     ensures { IsReplayedInMemory R.remaining W.contents reader.old reader.new writer.old writer.new at result }
 {
     stores_in_memory_are_clean();
-    replay(alloc, open_in_memory(alloc), at, reader, writer)
+    replay_over(alloc, open_in_memory(alloc), at, reader, writer)
+}
+
+/// Serves the reader's requests by the desk of this database over files.
+fn replay_over<D: Disk + Drop, R: Read, W: Write>(
+    alloc: Global,
+    opened: Result<Connection<FileStore<D>>, Error>,
+    at: u64,
+    reader: &mut CountingIo<R>,
+    writer: &mut CountingIo<W>,
+) -> Result<(), RunFault>
+    requires { IfOk opened IsNew }
+    ensures { IsNewDatabase (over_files {g = D.Disk}) opened → IsReplayedAnew R.remaining W.contents reader.old reader.new writer.old writer.new (over_files {g = D.Disk}) at result }
+{
+    replay(alloc, opened, at, reader, writer)
 }
 
 /// Says a fault in its line, and gives the exit status. A write that fails here changes nothing about it.
