@@ -1,7 +1,7 @@
-//! The program of the desk (`run_program` of `agv_program`).
+//! The program of the desk (`run_program` of `agv_app_run`).
 #![tactic(auto)]
 
-use agv_program::run_program;
+use agv_app_run::run_program;
 use std::process::ExitCode;
 
 fn main(rt: HostRuntime) -> ExitCode {

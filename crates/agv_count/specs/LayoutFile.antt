@@ -10,30 +10,30 @@ use Rattle.agv_layout.specs.declared.row.LayoutRow.TheVariants.{Node, Edge, Stat
 use Rattle.agv_count.specs.Records.{has_fields, records_of}
 use Rattle.agv_count.specs.Table.{rows_under}
 
--- the header is `kind,id,from,to`
+-- the columns of the header `kind,id,from,to`
 abbrev pub layout_columns : List (List ℕ)
 layout_columns = codes "kind" ∷ codes "id" ∷ codes "from" ∷ codes "to" ∷ []
 
--- a capacity is written with 1 to 3 digits, leading zeros among them
+-- the field is a capacity: 1 to 3 digits, with or without leading zeros
 abbrev pub is_capacity : List ℕ → Bool
 is_capacity field = nat_lt 0 (length field) && nat_le (length field) 3 && list_all is_ascii_digit field
 
--- `node,N1,,`: a name, and two empty fields
+-- the row of `node,N1,,`: a name, and two empty fields
 unfoldable pub node_row : List ℕ → List ℕ → List ℕ → Option LayoutRow
 node_row id from to =
     if is_name id && length from == 0 && length to == 0 then Some (Node id) else None
 
--- `edge,E12,N1,N2`: a name, the node that it leads from and the node that it leads to
+-- the row of `edge,E12,N1,N2`: a name, the node where the edge starts and the node where it finishes
 unfoldable pub edge_row : List ℕ → List ℕ → List ℕ → Option LayoutRow
 edge_row id from to =
     if is_name id && is_name from && is_name to then Some (Edge id from to) else None
 
--- `station,A,N1,1`: a name, the node where it is, and its capacity
+-- the row of `station,A,N1,1`: a name, the node where it is, and its capacity
 unfoldable pub station_row : List ℕ → List ℕ → List ℕ → Option LayoutRow
 station_row id from to =
     if is_name id && is_name from && is_capacity to then Some (Station id from (digits_value 10 to)) else None
 
--- the row that a record says, if it says one
+-- the row of a record, if it is one
 unfoldable pub row_in : List (List ℕ) → Option LayoutRow
 row_in (kind ∷ id ∷ from ∷ to ∷ []) =
     if bytes_eq kind (codes "node") then node_row id from to
@@ -42,11 +42,11 @@ row_in (kind ∷ id ∷ from ∷ to ∷ []) =
     else None))
 row_in other = None
 
--- the rows of a layout file, if the bytes are one
+-- the rows of a layout file, if the bytes are such a file
 abbrev pub layout_rows_in : List ℕ → Option (List LayoutRow)
 layout_rows_in bytes = rows_under layout_columns row_in (records_of bytes)
 
--- a record of other than four fields says no row
+-- a record without exactly four fields is no row
 pub no_layout_row : (fields : List (List ℕ)) → has_fields 4 fields ≡ false → row_in fields ≡ None
 unfolding row_in
 no_layout_row [] e = refl

@@ -1,4 +1,4 @@
--- The loads of a list, by where they stand.
+-- The loads of a list, by place.
 use Rattle.std.specs.Prelude.{ℕ, Bool, List, [], ◌∷◌, if◌then◌else◌}
 use Rattle.std.specs.BTreeMap.{BTreeMap, get}
 use Rattle.std.specs.Option.{option_map, unwrap_or}
@@ -10,6 +10,6 @@ module _ {K A : Type 0} where
   abbrev pub loads_at : (K → K → Ordering) → BTreeMap K (Vec (List ℕ) A) → K → List (List ℕ)
   loads_at cmp placed at = unwrap_or (option_map (λ loads. loads.items) (get cmp placed at)) []
 
--- the load, if it is there
+-- the list of the load alone if it is there, otherwise the empty list
 abbrev pub one_if : Bool → List ℕ → List (List ℕ)
 one_if is_there load = if is_there then load ∷ [] else []

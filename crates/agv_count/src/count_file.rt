@@ -10,12 +10,12 @@ use agv_header::Name;
 use csv::ByteRecord;
 use std::alloc::Global;
 
-/// The rows of a stocktake file, in the order of the file: a station that was counted, and a load that was
-/// found there, or none. The header alone is a count of nothing.
+/// Reads the rows of a stocktake file, in the order of the file: a counted station, and a load found there, if any.
+/// A file of the header alone is a count of nothing.
 ///
-/// `BadCsv` where the file isn't CSV whose records have as many fields each, has no record, doesn't begin with
-/// the header `station,load`, or has a record that is no row: its station is no name, or its load is neither a
-/// name nor empty. `Memory` where an allocation was refused.
+/// Returns `BadCsv` if the file isn't CSV whose records all have the same number of fields, has no record, doesn't
+/// begin with the header `station,load`, or has a record that is no row: its station is no name, or its load is
+/// neither a name nor empty. Returns `Memory` if an allocation is refused.
 pub fn read_count(alloc: Global, bytes: &[u8]) -> Result<Vec<(Name, Option<Name>)>, CsvFault>
     ensures ok { IfOk result (λ rows. count_in bytes.now ≡ Some rows.items) }
     ensures bad { result ≡ Err CsvFault.BadCsv → count_in bytes.now ≡ None }
@@ -39,6 +39,7 @@ impl Row for (Name, Option<Name>) {
     }
 }
 
+/// Returns whether a record is the header.
 fn is_header(raw: &ByteRecord) -> bool
     ensures { result ≡ is_record count_columns (fields_of raw.now) }
 {
@@ -47,7 +48,7 @@ fn is_header(raw: &ByteRecord) -> bool
     })
 }
 
-/// The fields of a record that has two.
+/// Returns the fields of a record that has two.
 fn two_fields(raw: &ByteRecord) -> Option<(&[u8], &[u8])>
     ensures some { IfSome result (λ f. fields_of raw.now ≡ f.0.now ∷ f.1.now ∷ []) }
     ensures none { IfNone result (length (fields_of raw.now) ≢ 2) }
@@ -58,7 +59,7 @@ fn two_fields(raw: &ByteRecord) -> Option<(&[u8], &[u8])>
     Some((raw.get(0)?, raw.get(1)?))
 }
 
-/// The row that a record says.
+/// Returns the row of a record, if it is one.
 #[tactic(auto, unfolding(crate::specs::CountFile::count_row))]
 fn row(raw: &ByteRecord) -> Option<(Name, Option<Name>)>
     ensures { result ≡ count_row (fields_of raw.now) }
@@ -67,7 +68,7 @@ fn row(raw: &ByteRecord) -> Option<(Name, Option<Name>)>
     Some((Name::of_bytes(station)?, load_found(load)?))
 }
 
-/// The load that was found; none where the field is empty.
+/// Reads the load of a record: `Some(None)` if the field is empty, and `None` if it is no name.
 fn load_found(field: &[u8]) -> Option<Option<Name>>
     ensures { result ≡ load_found field.now }
 {

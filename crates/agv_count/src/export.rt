@@ -6,11 +6,11 @@ use agv_header::{Memory, Name};
 use agv_stock::Place;
 use std::alloc::Global;
 
-/// Where each load stands, as CSV: the header `load,place,at`, and a record for each load, in the order given. The
-/// desk gives the loads by name. Each record ends in LF alone.
+/// Exports the place of each load as CSV: the header `load,place,at`, and a record for each load, in the order given.
+/// The desk gives the loads in the order of their names. Each record ends in LF alone.
 ///
-/// No field needs quotes, since no name has a comma, a quote or the end of a line. `Memory` when out of memory
-/// alone.
+/// No field needs quotes, since no name has a comma, a quote or the end of a line. Returns `Memory` only when out of
+/// memory.
 pub fn loads_csv(alloc: Global, loads: &[(Name, Place)]) -> Result<Vec<u8>, Memory>
     ensures { IfOk result (λ export. export.items ≡ loads_text loads.now) }
 {
@@ -32,7 +32,7 @@ fn write_load(out: &mut String, load: Name, place: Place) -> Result<(), Memory>
     Ok(())
 }
 
-/// Writes the two fields of a place: its kind, and which station or vehicle it is.
+/// Writes the two fields of a place: its kind, and its station or vehicle.
 fn write_place(out: &mut String, place: Place) -> Result<(), Memory>
     ensures { OnOk result (string_bytes out.new ≡ string_bytes out.old ++ place_text place) }
 {

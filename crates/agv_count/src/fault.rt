@@ -22,7 +22,7 @@ impl From<Error> for CsvFault {
 
     fn from(error: Error) -> CsvFault {
         match error.kind() {
-            // A slice is read without an error, so `Io` doesn't come. Where it did, the file would
+            // A slice is read without an error, so `Io` doesn't occur. If it did, the file would
             // not be to blame.
             ErrorKind::OutOfMemory | ErrorKind::Io(_) => CsvFault::Memory,
             _ => CsvFault::BadCsv,

@@ -18,7 +18,7 @@ pub struct Fields<'a> {
 }
 
 impl<'a> Fields<'a> {
-    /// The fields of a record that has four.
+    /// Returns the fields of a record that has four.
     pub fn of(raw: &'a ByteRecord) -> Option<Fields<'a>>
         ensures some { IfSome result (λ f. fields_of raw.now
             ≡ f.kind.now ∷ f.id.now ∷ f.from.now ∷ f.to.now ∷ []) }
@@ -39,7 +39,7 @@ impl<'a> Fields<'a> {
 /// The most digits of a capacity.
 const MAX_CAPACITY_DIGITS: usize = 3;
 
-/// The capacity that a field writes.
+/// Reads a field as a capacity, or returns `None` if it isn't 1 to 3 digits.
 pub fn capacity(field: &[u8]) -> Option<u32>
     ensures { result ≡ (if is_capacity field.now then Some (digits_value 10 field.now) else None) }
 {
@@ -49,7 +49,7 @@ pub fn capacity(field: &[u8]) -> Option<u32>
     str::from_utf8(field).ok()?.parse().ok()
 }
 
-// Whether the field is a capacity: 1 to 3 digits.
+/// Returns whether the field is a capacity: 1 to 3 digits.
 fn is_capacity(field: &[u8]) -> bool
     ensures { result ≡ is_capacity field.now }
 {

@@ -5,10 +5,10 @@ ghost use Rattle.agv_count.specs.Reports.{hold_line, hold_text, thing_text};
 use agv_header::{Memory, Thing, VehicleKey};
 use std::alloc::Global;
 
-/// The report of what is held, and by which vehicle: a line for each hold, in the order given, and how many of all
-/// nodes and edges are held. The desk gives the nodes first, then the edges, each by name.
+/// Reports the holds: a line for each node or edge that is held, with its vehicle, in the order given, and how many
+/// of all nodes and edges are held. The desk gives the nodes first, then the edges, each by name.
 ///
-/// `Memory` only when out of memory.
+/// Returns `Memory` only when out of memory.
 pub fn hold_report(
     alloc: Global,
     holds: &[(Thing, VehicleKey)],
@@ -33,7 +33,7 @@ fn write_hold(out: &mut String, thing: Thing, key: VehicleKey) -> Result<(), Mem
     Ok(())
 }
 
-/// Writes which node or edge it is.
+/// Writes the kind and the name of a node or edge.
 fn write_thing(out: &mut String, thing: Thing) -> Result<(), Memory>
     ensures { OnOk result (string_bytes out.new ≡ string_bytes out.old ++ thing_text thing) }
 {

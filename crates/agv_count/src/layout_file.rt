@@ -13,12 +13,12 @@ use agv_layout::LayoutRow;
 use csv::ByteRecord;
 use std::alloc::Global;
 
-/// The rows of a layout file, in the order of the file.
+/// Reads the rows of a layout file, in the order of the file.
 ///
-/// `BadCsv` where the file isn't CSV whose records have as many fields each, has no record, doesn't begin with
-/// the header `kind,id,from,to`, or has a record that is no row: its kind is not `node`, `edge` or
-/// `station`, one of its names is none, a node's `from` or `to` isn't empty, or a station's
-/// capacity isn't 1 to 3 digits. `Memory` where an allocation was refused.
+/// Returns `BadCsv` if the file isn't CSV whose records all have the same number of fields, has no record, doesn't
+/// begin with the header `kind,id,from,to`, or has a record that is no row: its kind is not `node`, `edge` or
+/// `station`, one of its names is no name, a node's `from` or `to` isn't empty, or a station's
+/// capacity isn't 1 to 3 digits. Returns `Memory` if an allocation is refused.
 pub fn read_layout(alloc: Global, bytes: &[u8]) -> Result<Vec<LayoutRow>, CsvFault>
     ensures ok { IfOk result (λ rows. layout_rows_in bytes.now ≡ Some rows.items) }
     ensures bad { result ≡ Err CsvFault.BadCsv → layout_rows_in bytes.now ≡ None }
@@ -42,6 +42,7 @@ impl Row for LayoutRow {
     }
 }
 
+/// Returns whether a record is the header.
 fn is_header(raw: &ByteRecord) -> bool
     ensures { result ≡ is_record layout_columns (fields_of raw.now) }
 {
@@ -53,7 +54,7 @@ fn is_header(raw: &ByteRecord) -> bool
     })
 }
 
-/// The row that a record says.
+/// Returns the row of a record, if it is one.
 #[tactic(auto, unfolding(crate::specs::LayoutFile::row_in))]
 fn row(raw: &ByteRecord) -> Option<LayoutRow>
     ensures { result ≡ row_in (fields_of raw.now) }
@@ -70,12 +71,14 @@ fn row(raw: &ByteRecord) -> Option<LayoutRow>
     }
 }
 
+/// Returns whether the kind is `node`.
 fn is_node(kind: &[u8]) -> bool
     ensures { result ≡ bytes_eq kind.now (codes "node") }
 {
     kind == b"node".as_slice()
 }
 
+/// Reads a node's record.
 #[tactic(auto, unfolding(crate::specs::LayoutFile::node_row))]
 fn node(fields: Fields<'_>) -> Option<LayoutRow>
     ensures { result ≡ node_row fields.entry.id.now fields.entry.from.now fields.entry.to.now }
@@ -88,13 +91,14 @@ fn node(fields: Fields<'_>) -> Option<LayoutRow>
     })
 }
 
-/// Whether a record has nothing after its id.
+/// Returns whether both fields after the id are empty.
 fn are_empty(from: &[u8], to: &[u8]) -> bool
     ensures { result ≡ (length from.now == 0 && length to.now == 0) }
 {
     from.is_empty() && to.is_empty()
 }
 
+/// Reads an edge's record.
 #[tactic(auto, unfolding(crate::specs::LayoutFile::edge_row))]
 fn edge(fields: Fields<'_>) -> Option<LayoutRow>
     ensures { result ≡ edge_row fields.entry.id.now fields.entry.from.now fields.entry.to.now }
@@ -106,6 +110,7 @@ fn edge(fields: Fields<'_>) -> Option<LayoutRow>
     })
 }
 
+/// Reads a station's record.
 #[tactic(auto, unfolding(crate::specs::LayoutFile::station_row))]
 fn station(fields: Fields<'_>) -> Option<LayoutRow>
     ensures { result ≡ station_row fields.entry.id.now fields.entry.from.now fields.entry.to.now }

@@ -1,16 +1,16 @@
-//! The files that people hand to the desk and take from it.
+//! The files that the desk reads, and the reports and exports that it writes.
 //!
-//! - [`read_layout`] gives the rows of a layout file, and [`read_count`] those of a stocktake file, in the order
-//!   of the file: exactly those that `specs/LayoutFile.antt` and `specs/CountFile.antt` say of its bytes,
-//!   [`CsvFault::BadCsv`] only where they say none, or [`CsvFault::Memory`]. Whether the rows are a layout is for
-//!   `agv_layout` to say, and what a count changes is for the desk.
-//! - [`stock_report`], [`hold_report`] and [`loads_csv`] give the reports and the export, to the byte as
-//!   `specs/Reports.antt` says, or [`Memory`](agv_header::Memory).
-//! - [`laws`] says that the export is what `csv` writes of its records.
+//! - [`read_layout`] reads the rows of a layout file, and [`read_count`] those of a stocktake file, in the order
+//!   of the file: exactly those that `specs/LayoutFile.antt` and `specs/CountFile.antt` define for its bytes. They
+//!   return [`CsvFault::BadCsv`] only if there are none, and [`CsvFault::Memory`] if an allocation is refused.
+//!   `agv_layout` decides whether the rows are a layout, and the desk what a count changes.
+//! - [`stock_report`], [`hold_report`] and [`loads_csv`] write the reports and the export, byte for byte as
+//!   `specs/Reports.antt` says, or return [`Memory`](agv_header::Memory).
+//! - [`laws`] proves that the export is what `csv` writes of its records.
 //!
-//! A file that is read is CSV (RFC 4180), as the crate `csv` reads it by its default settings but with no header
-//! row of its own: records end in LF, CR LF or CR, a field may stand in quotes, blanks count, and all
-//! records have as many fields. One byte order mark at the start is dropped.
+//! Files are read as CSV (RFC 4180), as the crate `csv` reads it by its default settings except that there is no
+//! header row of its own: records end in LF, CR LF or CR, a field may be quoted, blanks count, and all
+//! records have the same number of fields. One byte order mark at the start is dropped.
 #![tactic(auto)]
 
 mod count_file;

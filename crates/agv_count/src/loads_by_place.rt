@@ -1,4 +1,4 @@
-//! The loads of a list, by where they stand.
+//! The loads of a list, by place.
 ghost use Rattle.std.specs.Prelude.{◌≡◌, ℕ, List, ◌++◌, IfOk, OnOk};
 ghost use Rattle.std.specs.BTreeMap.{is_at};
 ghost use Rattle.agv_header.specs.Key.{key_cmp};
@@ -13,7 +13,7 @@ use agv_stock::Place;
 use std::alloc::Global;
 use std::collections::BTreeMap;
 
-/// The loads at each of some places, in the order in which they were put there.
+/// The loads at each of some places, in the order in which they were added.
 pub type PlacedLoads<K> = BTreeMap<K, Vec<Name>>;
 
 /// The loads at stations, on vehicles and at the checking place.
@@ -25,7 +25,7 @@ pub struct LoadsByPlace {
 }
 
 impl LoadsByPlace {
-    /// The loads of a list. One pass over it, and for each load a look-up among the stations or the vehicles.
+    /// Groups a list of loads by place, in one pass with one look-up per load among the stations or the vehicles.
     pub fn of_loads(alloc: Global, loads: &[(Name, Place)]) -> Result<LoadsByPlace, Memory>
         ensures stations { IfOk result (λ by_place. (id : List ℕ) → loads_at name_cmp by_place.stations id ≡ loads_where (is_at_station id) loads.now) }
         ensures vehicles { IfOk result (λ by_place. (key : Key) → loads_at key_cmp by_place.vehicles key ≡ loads_where (is_on key) loads.now) }
@@ -42,7 +42,7 @@ impl LoadsByPlace {
         Ok(by_place)
     }
 
-    // Puts a load where it stands, unless it has left.
+    /// Adds a load to those at its place, unless it has left.
     fn add(&mut self, alloc: Global, load: Name, place: Place) -> Result<(), Memory>
         ensures stations { OnOk result ((id : List ℕ) → loads_at name_cmp self.new.stations id
             ≡ loads_at name_cmp self.old.stations id ++ one_if (is_at_station id place) load) }
@@ -75,7 +75,7 @@ fn put<K: Ord + Copy + Drop>(
     Ok(())
 }
 
-/// The loads at a place.
+/// Returns the loads at a place.
 pub fn loads_at<K: Ord + Copy>(placed: &PlacedLoads<K>, at: K) -> &[Name]
     ensures { result.now ≡ loads_at K.cmp placed.now at }
 {

@@ -8,9 +8,9 @@ use crate::CsvFault;
 use csv::{ByteRecord, ReaderBuilder};
 use std::alloc::Global;
 
-/// Every record of a file, the header among them.
+/// Reads every record of a file, the header included.
 ///
-/// `BadCsv` where two records differ in length; `Memory` where an allocation was refused.
+/// Returns `BadCsv` if two records differ in their number of fields, and `Memory` if an allocation is refused.
 pub fn read_records(alloc: Global, bytes: &[u8]) -> Result<Vec<ByteRecord>, CsvFault>
     ensures ok { IfOk result (λ records. records_of bytes.now ≡ map fields_of records.items) }
     ensures bad { result ≡ Err CsvFault.BadCsv

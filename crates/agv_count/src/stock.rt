@@ -13,12 +13,12 @@ use agv_layout::Station;
 use agv_stock::Place;
 use std::alloc::Global;
 
-/// The report of the stock: each station with the loads that stand there, the loads at the checking place, each
-/// vehicle with the loads on it, and how many loads have left. A station comes with the number of live jobs to it.
+/// Reports the stock: each station with the loads there and the number of live jobs to it, the loads at the checking
+/// place, each vehicle with the loads on it, and how many loads have left.
 ///
 /// All is in the order given. The desk gives stations, loads and vehicles in the order of their names. A load whose
 /// station or vehicle isn't given is left out. The time is that of the stations, the loads and the vehicles, each
-/// load times the depth of a map. `Memory` only when out of memory.
+/// load times the depth of a map. Returns `Memory` only when out of memory.
 pub fn stock_report(
     alloc: Global,
     stations: &[(Station, u32)],
@@ -36,7 +36,7 @@ pub fn stock_report(
     Ok(out.into_bytes())
 }
 
-/// Writes the stations in turn.
+/// Writes the stations, one after another.
 fn write_stations(
     out: &mut String,
     stations: &[(Station, u32)],
@@ -51,7 +51,7 @@ fn write_stations(
     Ok(())
 }
 
-/// Writes a station, and the loads there.
+/// Writes a station and the loads there.
 fn write_station(
     out: &mut String,
     station: Station,
@@ -66,7 +66,7 @@ fn write_station(
     write_loads(out, here)
 }
 
-/// Writes loads, each on a line of its own.
+/// Writes loads, each on its own line.
 fn write_loads(out: &mut String, loads: &[Name]) -> Result<(), Memory>
     ensures { OnOk result (string_bytes out.new ≡ string_bytes out.old ++ listed loads.now) }
 {
@@ -76,7 +76,7 @@ fn write_loads(out: &mut String, loads: &[Name]) -> Result<(), Memory>
     Ok(())
 }
 
-/// Writes the checking place, and the loads there.
+/// Writes the checking place and the loads there.
 fn write_checking(out: &mut String, here: &[Name]) -> Result<(), Memory>
     ensures { OnOk result (string_bytes out.new ≡ string_bytes out.old ++ checking_part here.now) }
 {
@@ -84,7 +84,7 @@ fn write_checking(out: &mut String, here: &[Name]) -> Result<(), Memory>
     write_loads(out, here)
 }
 
-/// Writes the vehicles in turn.
+/// Writes the vehicles, one after another.
 fn write_vehicles(
     out: &mut String,
     vehicles: &[VehicleKey],
@@ -99,7 +99,7 @@ fn write_vehicles(
     Ok(())
 }
 
-/// Writes a vehicle, and the loads on it.
+/// Writes a vehicle and the loads on it.
 fn write_vehicle(out: &mut String, key: VehicleKey, here: &[Name]) -> Result<(), Memory>
     ensures { OnOk result (string_bytes out.new ≡ string_bytes out.old ++ vehicle_part here.now key) }
 {
@@ -108,7 +108,7 @@ fn write_vehicle(out: &mut String, key: VehicleKey, here: &[Name]) -> Result<(),
     write_loads(out, here)
 }
 
-/// Writes how many loads have left.
+/// Writes the number of loads that have left.
 fn write_left(out: &mut String, gone: usize) -> Result<(), Memory>
     ensures { OnOk result (string_bytes out.new ≡ string_bytes out.old ++ left_part gone) }
 {
@@ -116,7 +116,7 @@ fn write_left(out: &mut String, gone: usize) -> Result<(), Memory>
     Ok(())
 }
 
-/// How many loads have left.
+/// Returns the number of loads that have left.
 fn left_count(loads: &[(Name, Place)]) -> usize
     ensures { result ≡ count_by (λ l. has_left l.1) loads.now }
 {

@@ -1,4 +1,4 @@
-//! Files that are tables: a header, and then a record for each row.
+//! Files that hold a table: a header, and then a record for each row.
 ghost use Rattle.std.specs.Prelude.{◌≡◌, ℕ, List, Option, ◌∷◌, ◌++◌, [], Err, IfOk, OnOk, None, Some, false, length, map, option_map};
 ghost use Rattle.csv.specs.Records.{fields_of};
 ghost use Rattle.agv_header.specs.Each.{each};
@@ -10,17 +10,17 @@ use crate::records::read_records;
 use csv::ByteRecord;
 use std::alloc::Global;
 
-/// A row of a table: what a record of its file says.
+/// A row of a table, which is read from a record of the file.
 pub trait Row: Sized + Drop {
     ghost columns: { List (List ℕ) };
 
     ghost says: { List (List ℕ) → Option Self };
 
-    /// Whether a record is the header, which names the columns.
+    /// Returns whether a record is the header, which names the columns.
     fn is_header(raw: &ByteRecord) -> bool
         ensures { result ≡ is_record columns (fields_of raw.now) };
 
-    /// The row that a record says.
+    /// Returns the row of a record, if it is one.
     fn of_record(raw: &ByteRecord) -> Option<Self>
         ensures { result ≡ says (fields_of raw.now) };
 
@@ -28,10 +28,10 @@ pub trait Row: Sized + Drop {
     ghost full: { (fields : List (List ℕ)) → has_fields (length columns) fields ≡ false → says fields ≡ None };
 }
 
-/// The rows of a file, in its order.
+/// Reads the rows of a file, in its order.
 ///
-/// `BadCsv` where the file isn't CSV whose records have as many fields each, has no record, doesn't begin
-/// with the header, or has a record that is no row. `Memory` where an allocation was refused.
+/// Returns `BadCsv` if the file isn't CSV whose records all have the same number of fields, has no record, doesn't
+/// begin with the header, or has a record that is no row. Returns `Memory` if an allocation is refused.
 pub fn read_table<R: Row>(alloc: Global, bytes: &[u8]) -> Result<Vec<R>, CsvFault>
     ensures ok { IfOk result (λ rows. rows_under R.columns R.says (records_of bytes.now) ≡ Some rows.items) }
     ensures bad { result ≡ Err CsvFault.BadCsv → rows_under R.columns R.says (records_of bytes.now) ≡ None }
@@ -40,6 +40,7 @@ pub fn read_table<R: Row>(alloc: Global, bytes: &[u8]) -> Result<Vec<R>, CsvFaul
     rows_under_header(alloc, &records)
 }
 
+/// Reads the rows of the records after the header, or returns `BadCsv` if there is no header.
 fn rows_under_header<R: Row>(alloc: Global, records: &[ByteRecord]) -> Result<Vec<R>, CsvFault>
     ensures ok { IfOk result (λ rows. rows_under R.columns R.says (map fields_of records.now) ≡ Some rows.items) }
     ensures bad { result ≡ Err CsvFault.BadCsv → rows_under R.columns R.says (map fields_of records.now) ≡ None }
@@ -53,7 +54,7 @@ fn rows_under_header<R: Row>(alloc: Global, records: &[ByteRecord]) -> Result<Ve
     rows(alloc, rest)
 }
 
-/// The rows that the records say, in order.
+/// Reads the rows of the records, in order.
 fn rows<R: Row>(alloc: Global, records: &[ByteRecord]) -> Result<Vec<R>, CsvFault>
     ensures ok { IfOk result (λ rows. each R.says (map fields_of records.now) ≡ Some rows.items) }
     ensures bad { result ≡ Err CsvFault.BadCsv → each R.says (map fields_of records.now) ≡ None }
@@ -65,7 +66,7 @@ fn rows<R: Row>(alloc: Global, records: &[ByteRecord]) -> Result<Vec<R>, CsvFaul
     Ok(rows)
 }
 
-/// Adds the row that a record says.
+/// Adds the row of a record, or returns `BadCsv` if it is none.
 fn add_row<R: Row>(rows: &mut Vec<R>, raw: &ByteRecord) -> Result<(), CsvFault>
     ensures ok { OnOk result (option_map (λ row. rows.old.items ++ row ∷ []) (R.says (fields_of raw.now)) ≡ Some rows.new.items) }
     ensures bad { result ≡ Err CsvFault.BadCsv → R.says (fields_of raw.now) ≡ None }

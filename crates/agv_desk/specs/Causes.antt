@@ -1,4 +1,4 @@
--- Why the loads of a call move: each call moves loads for one cause, or none.
+-- Why the loads of a call move: the loads of a call move for one kind of cause, or not at all.
 use Rattle.std.specs.Prelude.{Bool, true, false}
 use Rattle.agv_desk.specs.Outcomes.{Cause, Registered, Recorded, Acted}
 use Rattle.agv_desk.specs.declared.answer.Answer.{Answer}
@@ -29,7 +29,7 @@ is_acted Registered = false
 is_acted Recorded = false
 is_acted (Acted kind order job) = true
 
--- a registration registers a load; a correction, a leave and a stocktake record where loads are; a state finishes acts; no other call moves a load
+-- the causes for which a call moves loads: a registration registers a load; a correction, a leave and a stocktake record where loads are; a state finishes acts; no other call moves a load
 abbrev pub moves_for : Call → Cause → Bool
 moves_for (call.RegisterLoad load station) cause = is_registered cause
 moves_for (call.CorrectLoad load reference station) cause = is_recorded cause

@@ -1,14 +1,14 @@
 -- What a call adds to the counts of vehicles, loads, jobs, orders and references: one to one of them, or nothing (this project's profile).
 use Rattle.std.specs.Prelude.{ℕ, if◌then◌else◌, Option, None, Some}
-use Rattle.agv_world.specs.Counts.{one_more}
-use Rattle.agv_world.specs.declared.floor.Counted.{Counted}
-use Rattle.agv_world.specs.declared.floor.Counted.TheVariants as counted
+use Rattle.agv_world_core.specs.Counts.{one_more}
+use Rattle.agv_world_core.specs.declared.floor.Counted.{Counted}
+use Rattle.agv_world_core.specs.declared.floor.Counted.TheVariants as counted
 use Rattle.agv_desk.specs.Causes.{is_refusal}
 use Rattle.agv_desk.specs.declared.answer.Answer.{Answer}
 use Rattle.agv_desk.specs.declared.call.Call.{Call}
 use Rattle.agv_desk.specs.declared.call.Call.TheVariants as call
 
--- what a call adds one to, unless it is refused: a vehicle or a load is registered, a job is added, the name of an order is used, or a reference
+-- the count that a call increases by one if it is not refused: vehicles, loads, jobs, names of orders or references
 abbrev pub adds_to : Call → Option Counted
 adds_to (call.RegisterVehicle key node capacity) = Some counted.Vehicles
 adds_to (call.RegisterLoad load station) = Some counted.Loads
@@ -20,10 +20,10 @@ adds_to (call.PlaceVehicle key reference node) = Some counted.References
 adds_to (call.Stocktake reference rows) = Some counted.References
 adds_to _ = None
 
--- what a call with this answer adds one to
+-- the count that a call with this answer increases by one, if any
 abbrev pub counted_by : Call → Answer → Option Counted
 counted_by made answer = if is_refusal answer then None else adds_to made
 
--- how many a call with this answer adds to a count
+-- by how much a call with this answer increases a count: 1 or 0
 abbrev pub added : Call → Answer → Counted → ℕ
 added made answer what = one_more (counted_by made answer) what

@@ -18,6 +18,7 @@ pub mod ReadSteps
 pub mod Step
 pub mod Unchanged
 pub mod Refusals
+pub mod Reports
 pub mod InOrder
 pub mod Moves
 pub mod WellTyped

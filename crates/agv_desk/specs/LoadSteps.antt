@@ -1,4 +1,4 @@
--- The calls of loads (this project's profile). A load that goes to no station goes to the checking place.
+-- The calls of loads (this project's profile). A load for which no station is named goes to the checking place.
 use Rattle.std.specs.Prelude.{ℕ, nat_lt, List, [], ◌∷◌, Option, None, Some}
 use Rattle.std.specs.FinMap as finite
 use Rattle.agv_header.specs.Limits.{most_records}
@@ -6,23 +6,23 @@ use Rattle.agv_header.specs.declared.refusal.Refusal.TheVariants as refusal
 use Rattle.agv_stock.specs.Checks.{register_check, correct_check, leave_check}
 use Rattle.agv_stock.specs.declared.place.Place.{Place}
 use Rattle.agv_stock.specs.declared.place.Place.TheVariants as place
-use Rattle.agv_world.specs.Questions.{count_of}
-use Rattle.agv_world.specs.Worlds.{World}
-use Rattle.agv_world.specs.declared.floor.Counted.TheVariants as counted
+use Rattle.agv_world_core.specs.Questions.{count_of}
+use Rattle.agv_world_core.specs.Worlds.{World}
+use Rattle.agv_world_core.specs.declared.floor.Counted.TheVariants as counted
 use Rattle.agv_desk.specs.Outcomes.{Outcome, Effect, Made, Registered, Recorded, refuse_unless, checked, answer_only}
 use Rattle.agv_desk.specs.Shared.{is_new, reference_key, goal_of, is_in_job, move_to}
 use Rattle.agv_desk.specs.declared.answer.Answer.TheVariants as answer
 
--- the place that a call names: a station, or else the checking place
+-- the station as a place, or the checking place if there is none
 abbrev pub place_of : Option (List ℕ) → Place
 place_of None = place.Checking
 place_of (Some station) = place.Station station
 
--- the load is registered there
+-- the effect of registering the load at this place
 abbrev pub load_registered : List ℕ → Place → Effect
 load_registered load to = record (answer_only answer.Done) { moves = move_to load to Registered ∷ [] }
 
--- the load is recorded there, and the reference is used
+-- the effect of recording the load at this place, with the reference
 abbrev pub recorded : List ℕ → Place → List ℕ → Effect
 recorded load to reference = record (answer_only answer.Done) { moves = move_to load to Recorded ∷ []; uses = reference_key reference ∷ [] }
 

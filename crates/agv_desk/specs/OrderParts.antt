@@ -1,4 +1,4 @@
--- The row of POST /orders from a later line on, for the functions that go on with it there. No public clause cites this.
+-- Parts of POST /orders, from a later check on, for the functions that carry it out in parts. No public clause cites this.
 use Rattle.std.specs.Prelude.{◌+◌, nat_lt, nat_le, not, is_none, count_by, List, Some}
 use Rattle.std.specs.List.{list_all}
 use Rattle.agv_header.specs.Count.{next_number}
@@ -8,16 +8,16 @@ use Rattle.agv_order.specs.Plans.{planned}
 use Rattle.agv_order.specs.StopPlaces.{stop_picks}
 use Rattle.agv_order.specs.declared.trip.Trip.{Trip}
 use Rattle.agv_stock.specs.declared.job.Job.{Job}
-use Rattle.agv_holds.specs.Footprints.{footprint_of}
-use Rattle.agv_world.specs.Questions.{trip_of, loads_on, layout_set, count_of}
-use Rattle.agv_world.specs.Worlds.{World}
-use Rattle.agv_world.specs.declared.floor.Counted.TheVariants as counted
-use Rattle.agv_world.specs.declared.row.VehicleRow.{VehicleRow}
+use Rattle.agv_track_holds.specs.Footprints.{footprint_of}
+use Rattle.agv_world_core.specs.Questions.{trip_of, loads_on, layout_set, count_of}
+use Rattle.agv_world_core.specs.Worlds.{World}
+use Rattle.agv_world_core.specs.declared.floor.Counted.TheVariants as counted
+use Rattle.agv_world_core.specs.declared.row.VehicleRow.{VehicleRow}
 use Rattle.agv_desk.specs.OrderSteps.{AskedOrder, if_planned, is_cancelling, is_reported, order_sent, waits}
 use Rattle.agv_desk.specs.Outcomes.{Outcome, Made, refuse_unless, refuse_if_none}
 use Rattle.agv_desk.specs.Shared.{if_free}
 
--- once the trip is planned
+-- from the check of the footprint on, with the trip planned
 abbrev pub send_trip : World → AskedOrder → VehicleRow → List Job → Trip → Outcome
 send_trip world asked row jobs trip =
     if_free world asked.key (footprint_of (record { node = row.node; rest = row.rest; trip = Some trip }))
@@ -25,14 +25,14 @@ send_trip world asked row jobs trip =
     refuse_unless (nat_lt (count_of world counted.Orders) most_records) refusal.Limit
     (Made (order_sent asked row jobs (Some trip) number))))
 
--- once the vehicle can take the order
+-- from the plan on, for a vehicle that can take the order
 abbrev pub send_order : World → AskedOrder → VehicleRow → List Job → Outcome
 send_order world asked row jobs =
     refuse_if_none (layout_set world) refusal.NoWalk (λ layout.
     if_planned (planned layout asked.key jobs asked.stops asked.order row.node asked.edges)
     (send_trip world asked row jobs))
 
--- once the vehicle and the jobs are found
+-- from the check of the reported order on, with the vehicle's row and the jobs found
 abbrev pub take_order : World → AskedOrder → VehicleRow → List Job → Outcome
 take_order world asked row jobs =
     refuse_unless (not (is_reported row.reported asked.order)) refusal.OrderKnown

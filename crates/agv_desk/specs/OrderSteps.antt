@@ -1,4 +1,4 @@
--- The calls of orders: one is begun, and more of it is released (VDA 5050 2.0, order; this project's profile).
+-- The calls of orders: to start one, and to release more of it (VDA 5050 2.0, order; this project's profile).
 use Rattle.std.specs.Prelude.{ℕ, ◌+◌, ◌==◌, ◌&&◌, nat_lt, nat_le, nat_eq, not, Bool, false, is_none, count_by, List, [], ◌∷◌, filter_map, Option, None, Some, Result, Ok, Err, length, if◌then◌else◌}
 use Rattle.std.specs.Cmp.Lexicographic.{pointwise}
 use Rattle.std.specs.FinMap as finite
@@ -10,7 +10,7 @@ use Rattle.agv_header.specs.Limits.{most_records}
 use Rattle.agv_header.specs.declared.key.VehicleKey.{VehicleKey}
 use Rattle.agv_header.specs.declared.refusal.Refusal.{Refusal}
 use Rattle.agv_header.specs.declared.refusal.Refusal.TheVariants as refusal
-use Rattle.agv_message.specs.declared.instant.InstantKind.{InstantKind}
+use Rattle.agv_message_core.specs.declared.instant.InstantKind.{InstantKind}
 use Rattle.agv_order.specs.Plans.{planned}
 use Rattle.agv_order.specs.Releases.{released}
 use Rattle.agv_order.specs.StopPlaces.{stop_picks}
@@ -21,30 +21,30 @@ use Rattle.agv_order.specs.declared.stop.Stop.{Stop}
 use Rattle.agv_order.specs.declared.trip.Trip.{Trip}
 use Rattle.agv_stock.specs.declared.job.Job.{Job}
 use Rattle.agv_stock.specs.declared.job.Phase.TheVariants as phase
-use Rattle.agv_holds.specs.Footprints.{footprint_of}
+use Rattle.agv_track_holds.specs.Footprints.{footprint_of}
 use Rattle.agv_track.specs.Reports.{is_cancel}
-use Rattle.agv_world.specs.Questions.{row_of, trip_of, is_used, loads_on, layout_set, count_of}
-use Rattle.agv_world.specs.Worlds.{Vehicle, World}
-use Rattle.agv_world.specs.declared.floor.Counted.TheVariants as counted
-use Rattle.agv_world.specs.declared.key.UseKind.TheVariants as used
-use Rattle.agv_world.specs.declared.row.JobRow.{JobRow}
-use Rattle.agv_world.specs.declared.row.VehicleRow.{VehicleRow}
+use Rattle.agv_world_core.specs.Questions.{row_of, trip_of, is_used, loads_on, layout_set, count_of}
+use Rattle.agv_world_core.specs.Worlds.{Vehicle, World}
+use Rattle.agv_world_core.specs.declared.floor.Counted.TheVariants as counted
+use Rattle.agv_world_core.specs.declared.key.UseKind.TheVariants as used
+use Rattle.agv_world_core.specs.declared.row.JobRow.{JobRow}
+use Rattle.agv_world_core.specs.declared.row.VehicleRow.{VehicleRow}
 use Rattle.agv_desk.specs.JobSteps.{is_waiting}
 use Rattle.agv_desk.specs.Outcomes.{Effect, Outcome, Refused, Made, Whole, refuse_unless, refuse_if_none, answer_only}
 use Rattle.agv_desk.specs.Shared.{if_free}
 use Rattle.agv_desk.specs.declared.answer.Answer.TheVariants as answer
 
--- ---- words
+-- ---- definitions
 
--- a job with its name
+-- a job with this name and this row
 abbrev pub named : List ℕ → JobRow → Job
 named name row = record { name = name; load = row.load; origin = row.origin; target = row.target; phase = row.phase }
 
--- the job of a stop
+-- the job of a stop, if it is known
 abbrev pub job_for : World → Stop → Option Job
 job_for world stop = option_map (named stop.job) (finite.get world.jobs stop.job)
 
--- the jobs of the stops, in their order, if each is known
+-- the jobs of the stops, in their order, if all are known
 abbrev pub jobs_for : World → List Stop → Option (List Job)
 jobs_for world stops = each (job_for world) stops
 
@@ -52,7 +52,7 @@ jobs_for world stops = each (job_for world) stops
 abbrev pub waits : Job → Bool
 waits job = is_waiting job.phase
 
--- the vehicle has reported this order
+-- the last order that the vehicle has reported is this one
 abbrev pub is_reported : Option (List ℕ) → List ℕ → Bool
 is_reported None order = false
 is_reported (Some name) order = pointwise nat_eq name order
@@ -62,34 +62,34 @@ abbrev pub is_cancelling : Option InstantKind → Bool
 is_cancelling None = false
 is_cancelling (Some kind) = is_cancel kind
 
--- why there is no plan
+-- the refusal for a plan that was not found
 abbrev pub plan_refusal : PlanFault → Refusal
 plan_refusal fault.NoWalk = refusal.NoWalk
 plan_refusal fault.TooLong = refusal.TooLong
 plan_refusal fault.Beyond = refusal.Beyond
 plan_refusal fault.Memory = refusal.Memory
 
--- go on with the plan, or refuse for what there is none
+-- `rest` of the planned trip, or the refusal if there is no plan
 unfoldable pub if_planned : Result Trip PlanFault → (Trip → Outcome) → Outcome
 if_planned (Ok trip) rest = rest trip
 if_planned (Err why) rest = Refused (plan_refusal why)
 
--- the job of a stop rides; each job is picked once
+-- the row of a stop's job once it rides; only of a pick, so that each job is listed once
 abbrev pub riding_by : Stop × Job → Option (List ℕ × JobRow)
 riding_by served =
     if stop_picks served.0 then Some (served.1.name, record { load = served.1.load; origin = served.1.origin; target = served.1.target; phase = phase.Riding }) else None
 
--- the jobs of an order ride
+-- the rows of an order's jobs once they ride
 abbrev pub riding : List Stop → List Job → List (List ℕ × JobRow)
 riding stops jobs = filter_map riding_by (zip stops jobs)
 
--- the vehicle with an order message more, on a trip
+-- the vehicle after one more order message, with this trip
 abbrev pub sent_on : VehicleRow → ℕ → ℕ → Option Trip → Vehicle
 sent_on row at number trip = record { row = record row { orders = record { count = number; at = at } }; trip = trip }
 
 -- ---- a new order
 
--- what POST /orders asks for: the order's name, the vehicle that is to get it, its stops, and how many edges are released; and the moment of the call
+-- what POST /orders asks for: the name of the order, the vehicle that gets it, its stops, and how many edges are released; and the moment of the call
 pub record AskedOrder : Type 0 where
   pub at : ℕ
   pub order : List ℕ
@@ -97,7 +97,7 @@ pub record AskedOrder : Type 0 where
   pub stops : List Stop
   pub edges : ℕ
 
--- the order is sent with this trip to the vehicle of this row: its jobs ride, and its name is used
+-- the effect of sending the order with this trip to the vehicle of this row: its jobs ride, and its name is used
 abbrev pub order_sent : AskedOrder → VehicleRow → List Job → Option Trip → ℕ → Effect
 order_sent asked row jobs trip number = record (answer_only (answer.Update 0)) {
   touched = Whole asked.key (Some (record { row = row; trip = None })) (sent_on row asked.at number trip);
@@ -105,7 +105,7 @@ order_sent asked row jobs trip number = record (answer_only (answer.Update 0)) {
   uses = record { kind = used.Order; name = asked.order } ∷ [];
 }
 
--- POST /orders: its checks in order, one a line; without a plan NoWalk, TooLong or Beyond, and Held where what the trip is to hold is not free
+-- POST /orders: its checks in order, one a line; NoWalk, TooLong or Beyond without a plan, and Held if another vehicle holds part of the trip's footprint
 abbrev pub start_order : World → AskedOrder → Outcome
 start_order world asked =
     refuse_unless (not (is_used world used.Order asked.order)) refusal.Exists
@@ -128,7 +128,7 @@ start_order world asked =
 
 -- ---- an update
 
--- the open trip, where it is that of this order
+-- the open trip, if it is of this order
 abbrev pub trip_for : Option Trip → List ℕ → Option Trip
 trip_for None order = None
 trip_for (Some trip) order = if pointwise nat_eq trip.order order then Some trip else None
@@ -138,16 +138,16 @@ abbrev pub is_last_confirmed : Option ℕ → ℕ → Bool
 is_last_confirmed None sent = false
 is_last_confirmed (Some update) sent = update == sent
 
--- at least one edge is released, and the base does not pass the last node
+-- at least one edge is released, and none past the end of the way
 abbrev pub can_release : Trip → ℕ → Bool
 can_release trip edges = nat_lt 0 edges && nat_le (trip.base + edges) (length trip.edges)
 
--- this update is sent: the trip has this much released
+-- the effect of sending this update of the trip
 abbrev pub update_sent : ℕ → VehicleKey → VehicleRow → Option Trip → Option Trip → ℕ → ℕ → Effect
 update_sent at key row old new update number =
     record (answer_only (answer.Update update)) { touched = Whole key (Some (record { row = row; trip = old })) (sent_on row at number new) }
 
--- it is sent, where what the vehicle is to hold is free: Beyond, Held, Spent
+-- the update is sent if it can be released and its footprint is free: Beyond, Held, Spent
 abbrev pub send_update : World → ℕ → VehicleKey → VehicleRow → Trip → ℕ → ℕ → Outcome
 send_update world at key row trip update edges =
     refuse_unless (can_release trip edges) refusal.Beyond
@@ -155,7 +155,7 @@ send_update world at key row trip update edges =
     (refuse_if_none (next_number row.orders.count) refusal.Spent (λ number.
     Made (update_sent at key row (Some trip) (Some (released trip edges)) update number))))
 
--- the vehicle can take it: WrongUpdate where the number is not the next, NotConfirmed, NotReady, InstantPending where a cancelOrder is pending; then as above
+-- the vehicle can take the update: WrongUpdate if the number is not the next one, NotConfirmed, NotReady, InstantPending if a cancelOrder is pending; then `send_update`
 abbrev pub take_update : World → ℕ → VehicleKey → VehicleRow → Trip → ℕ → ℕ → Outcome
 take_update world at key row trip update edges =
     refuse_unless (update == trip.sent + 1) (refusal.WrongUpdate trip.sent)
@@ -164,7 +164,7 @@ take_update world at key row trip update edges =
     (refuse_unless (not (is_cancelling row.pending)) refusal.InstantPending
     (send_update world at key row trip update edges))))
 
--- POST .../advance: NoVehicle, NoOrder where no trip of this order is open; then as above
+-- POST .../advance: NoVehicle, NoOrder if no trip of this order is open; then `take_update`
 abbrev pub advance : World → ℕ → VehicleKey → List ℕ → ℕ → ℕ → Outcome
 advance world at key order update edges =
     refuse_if_none (row_of world key) refusal.NoVehicle (λ row.

@@ -1,32 +1,32 @@
--- The calls that only tell (this project's profile).
+-- The calls that only read (this project's profile).
 use Rattle.std.specs.Prelude.{ℕ, List, Option, None, Some}
 use Rattle.std.specs.FinMap as finite
 use Rattle.std.specs.Option.{option_map}
 use Rattle.agv_header.specs.declared.key.VehicleKey.{VehicleKey}
 use Rattle.agv_header.specs.declared.refusal.Refusal.TheVariants as refusal
-use Rattle.agv_message.specs.declared.header.Header.{Header}
-use Rattle.agv_message.specs.declared.instant.InstantKind.{InstantKind}
+use Rattle.agv_message_core.specs.declared.header.Header.{Header}
+use Rattle.agv_message_core.specs.declared.instant.InstantKind.{InstantKind}
 use Rattle.agv_order.specs.Messages.{message_of}
 use Rattle.agv_order.specs.declared.trip.Trip.{Trip}
-use Rattle.agv_world.specs.Questions.{row_of, trip_of, job_of}
-use Rattle.agv_world.specs.Worlds.{World}
-use Rattle.agv_world.specs.declared.row.Sent.{Sent}
-use Rattle.agv_world.specs.declared.row.VehicleRow.{VehicleRow}
+use Rattle.agv_world_core.specs.Questions.{row_of, trip_of, job_of}
+use Rattle.agv_world_core.specs.Worlds.{World}
+use Rattle.agv_world_core.specs.declared.row.Sent.{Sent}
+use Rattle.agv_world_core.specs.declared.row.VehicleRow.{VehicleRow}
 use Rattle.agv_desk.specs.Outcomes.{Outcome, Made, refuse_if_none, answer_only}
 use Rattle.agv_desk.specs.declared.answer.Answer.{Answer}
 use Rattle.agv_desk.specs.declared.answer.Answer.TheVariants as answer
 use Rattle.agv_desk.specs.declared.answer.OpenOrder.{OpenOrder}
 
--- what the last message of a topic begins with
+-- the header of the last message of a topic
 abbrev pub last_header : VehicleKey → Sent → Header
 last_header key sent = record { number = sent.count; at = sent.at; key = key }
 
--- the last order message of an open trip
+-- the last order message of an open trip, or NoMessage without one
 abbrev pub order_told : VehicleKey → VehicleRow → Option Trip → Answer
 order_told key row None = answer.NoMessage
 order_told key row (Some trip) = answer.Order (last_header key row.orders) (message_of trip)
 
--- the last instantActions message, while its action is pending
+-- the last instantActions message while its action is pending, or else NoMessage
 abbrev pub instant_told : VehicleKey → VehicleRow → Option InstantKind → Answer
 instant_told key row None = answer.NoMessage
 instant_told key row (Some kind) = answer.Instant (last_header key row.instants) (record { kind = kind })

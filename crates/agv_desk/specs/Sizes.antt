@@ -1,22 +1,22 @@
--- The sizes that an open trip has (this project's profile): a well-formed trip has them.
+-- The sizes of an open trip (this project's profile): each well-formed trip is within them.
 use Rattle.std.specs.Prelude.{◌≤◌, length, Option, None, Some}
 use Rattle.agv_order.specs.declared.trip.Trip.{Trip}
-use Rattle.agv_world.specs.Questions.{trip_of}
-use Rattle.agv_world.specs.Worlds.{World}
+use Rattle.agv_world_core.specs.Questions.{trip_of}
+use Rattle.agv_world_core.specs.Worlds.{World}
 use Rattle.agv_desk.specs.declared.call.Call.{Call}
 use Rattle.agv_desk.specs.declared.call.Call.TheVariants as call
 
--- a trip, if there is one, has at most 200 edges
+-- the trip, if there is one, has at most 200 edges
 abbrev pub IsShort : Option Trip → Type 0
 IsShort None = Unit {0}
 IsShort (Some trip) = length trip.edges ≤ 200
 
--- a trip, if there is one, has at most 200 edges and eight acts, and no more updates were sent than edges are released
+-- the trip, if there is one, has at most 200 edges and eight acts, and no more updates were sent than edges are released
 abbrev pub IsOfSize : Option Trip → Type 0
 IsOfSize None = Unit {0}
 IsOfSize (Some trip) = (length trip.edges ≤ 200) × (length trip.acts ≤ 8) × (trip.sent ≤ trip.base)
 
--- so is the open trip of the vehicle, for a call that looks at how it goes on: an update, a place, a state, and the question for the last order message; the other calls ask for nothing
+-- the vehicle's open trip is within the sizes (`IsOfSize`), for a call that looks at how it goes on: an update, a place, a state, and the question for the last order message; the other calls need nothing
 abbrev pub IsWithinTripLimits : World → Call → Type 0
 IsWithinTripLimits world (call.SetLayout rows) = Unit {0}
 IsWithinTripLimits world (call.RegisterVehicle key node capacity) = Unit {0}
@@ -38,6 +38,4 @@ IsWithinTripLimits world (call.GetInstant key) = Unit {0}
 IsWithinTripLimits world (call.Stocktake reference rows) = Unit {0}
 IsWithinTripLimits world (call.GetLoad load) = Unit {0}
 IsWithinTripLimits world (call.GetVehicle key) = Unit {0}
-IsWithinTripLimits world call.StockReport = Unit {0}
-IsWithinTripLimits world call.HoldReport = Unit {0}
-IsWithinTripLimits world call.LoadsExport = Unit {0}
+IsWithinTripLimits world (call.Report report) = Unit {0}

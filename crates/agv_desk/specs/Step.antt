@@ -1,6 +1,6 @@
--- The table of calls: what each does, and what it is answered.
+-- The table of calls: the effect and the answer of each call.
 use Rattle.std.specs.Prelude.{ℕ, List, [], ◌∷◌, ◌++◌}
-use Rattle.agv_world.specs.Worlds.{World}
+use Rattle.agv_world_core.specs.Worlds.{World}
 use Rattle.agv_desk.specs.InstantSteps.{cancel, pause, resume}
 use Rattle.agv_desk.specs.JobSteps.{add_job, stop_job}
 use Rattle.agv_desk.specs.LayoutSteps.{set_layout}
@@ -8,6 +8,7 @@ use Rattle.agv_desk.specs.LoadSteps.{register_load, correct_load, leave_load}
 use Rattle.agv_desk.specs.OrderSteps.{start_order, advance}
 use Rattle.agv_desk.specs.Outcomes.{Outcome, Made, Move, answer_only, after, answer_of, moves_of}
 use Rattle.agv_desk.specs.ReadSteps.{get_order, get_instant, get_load, get_vehicle}
+use Rattle.agv_desk.specs.Reports.{served}
 use Rattle.agv_desk.specs.StateSteps.{take_state}
 use Rattle.agv_desk.specs.StocktakeSteps.{take_stock}
 use Rattle.agv_desk.specs.VehicleSteps.{register_vehicle, place_vehicle, resync}
@@ -16,7 +17,7 @@ use Rattle.agv_desk.specs.declared.answer.Answer.TheVariants as answer
 use Rattle.agv_desk.specs.declared.call.Call.{Call}
 use Rattle.agv_desk.specs.declared.call.Call.TheVariants as call
 
--- what a call does in a world at a moment, where vehicles may be built for so many loads
+-- the outcome of a call in a world at a moment, on a desk whose vehicles carry at most `seats` loads
 abbrev pub step : ℕ → World → ℕ → Call → Outcome
 step seats world at (call.SetLayout rows) = set_layout world rows
 step seats world at (call.RegisterVehicle key node capacity) = register_vehicle seats world key node capacity
@@ -38,24 +39,22 @@ step seats world at (call.GetInstant key) = get_instant world key
 step seats world at (call.Stocktake reference rows) = take_stock world reference rows
 step seats world at (call.GetLoad load) = get_load world load
 step seats world at (call.GetVehicle key) = get_vehicle world key
-step seats world at call.StockReport = Made (answer_only answer.StockReport)
-step seats world at call.HoldReport = Made (answer_only answer.HoldReport)
-step seats world at call.LoadsExport = Made (answer_only answer.LoadsExport)
+step seats world at (call.Report report) = Made (answer_only (answer.Report report []))
 
--- ---- calls one after the other, each at its moment
+-- ---- a list of calls, each at its moment
 
--- the world after them
+-- the world after the calls
 abbrev pub steps : ℕ → World → List (ℕ × Call) → World
 steps seats world [] = world
 steps seats world (made ∷ calls) = steps seats (after world (step seats world made.0 made.1)) calls
 
--- their answers
+-- the answers to the calls, as they are served
 abbrev pub answers : ℕ → World → List (ℕ × Call) → List Answer
 answers seats world [] = []
 answers seats world (made ∷ calls) =
-    answer_of (step seats world made.0 made.1) ∷ answers seats (after world (step seats world made.0 made.1)) calls
+    served world (answer_of (step seats world made.0 made.1)) ∷ answers seats (after world (step seats world made.0 made.1)) calls
 
--- their moves
+-- the moves of the calls
 abbrev pub moves : ℕ → World → List (ℕ × Call) → List Move
 moves seats world [] = []
 moves seats world (made ∷ calls) =

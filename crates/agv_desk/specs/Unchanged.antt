@@ -1,26 +1,24 @@
--- Calls that change nothing: those that only tell, and states that are no newer than the last one that was accepted (VDA 5050 2.0, headerId; this project's profile).
+-- Calls that change nothing: those that only read, and states that are no newer than the last one that was accepted (VDA 5050 2.0, headerId; this project's profile).
 use Rattle.std.specs.Prelude.{◌≡◌, ◌≤◌, ℕ, Bool, true, false, [], Some}
 use Rattle.agv_header.specs.declared.key.VehicleKey.{VehicleKey}
-use Rattle.agv_message.specs.declared.state.StateMessage.{StateMessage}
-use Rattle.agv_world.specs.Questions.{row_of}
-use Rattle.agv_world.specs.Worlds.{World}
-use Rattle.agv_world.specs.declared.row.VehicleRow.{VehicleRow}
+use Rattle.agv_message_core.specs.declared.state.StateMessage.{StateMessage}
+use Rattle.agv_world_core.specs.Questions.{row_of}
+use Rattle.agv_world_core.specs.Worlds.{World}
+use Rattle.agv_world_core.specs.declared.row.VehicleRow.{VehicleRow}
 use Rattle.agv_desk.specs.Outcomes.{Outcome, after, decided}
 use Rattle.agv_desk.specs.declared.call.Call.{Call}
 use Rattle.agv_desk.specs.declared.call.Call.TheVariants as call
 
--- the call asks only to be told something; each other call may change something
+-- the call only reads; every other call may change something
 abbrev pub only_tells : Call → Bool
 only_tells (call.GetOrder key) = true
 only_tells (call.GetInstant key) = true
 only_tells (call.GetLoad load) = true
 only_tells (call.GetVehicle key) = true
-only_tells call.StockReport = true
-only_tells call.HoldReport = true
-only_tells call.LoadsExport = true
+only_tells (call.Report report) = true
 only_tells _ = false
 
--- the last state of the vehicle that was accepted has this number or a later one
+-- the last accepted state of the vehicle has the same `headerId` or a later one
 pub record IsOld (world : World) (key : VehicleKey) (state : StateMessage) : Type 0 where
   pub row : VehicleRow
   pub last : ℕ
@@ -28,6 +26,6 @@ pub record IsOld (world : World) (key : VehicleKey) (state : StateMessage) : Typ
   pub accepted : row.last_header ≡ Some last
   pub no_later : state.header_id ≤ last
 
--- the world stays as it is, and no row changes
+-- the world is unchanged, and no row changes
 abbrev pub ChangesNothing : World → Outcome → Type 0
 ChangesNothing world outcome = (after world outcome ≡ world) × ((decided outcome).changes ≡ [])

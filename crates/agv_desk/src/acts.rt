@@ -1,18 +1,18 @@
-//! What becomes of the loads and the jobs of a trip, as its acts are carried out and as it ends.
+//! What happens to the loads and jobs of a trip as its acts are carried out, and as it ends.
 ghost use Rattle.std.specs.Prelude.{◌≡◌, ◌++◌, ◌∷◌, [], ℕ, true, List, map, OnOk};
 ghost use Rattle.std.specs.List.{zip};
 ghost use Rattle.std.specs.Option.{option_map};
-ghost use Rattle.agv_world.specs.Asks.{Asks};
-ghost use Rattle.agv_world.specs.declared.change.Change.TheVariants as row;
-ghost use Rattle.agv_world.specs.declared.row.JobRow.{JobRow as JobRowOf};
+ghost use Rattle.agv_world_core.specs.Asks.{Asks};
+ghost use Rattle.agv_world_core.specs.declared.change.Change.TheVariants as row;
+ghost use Rattle.agv_world_core.specs.declared.row.JobRow.{JobRow as JobRowOf};
 ghost use Rattle.agv_desk.specs.ActSteps.{act_jobs, act_moves, as_it_is, becomes_finished, job_in, jobs_stopped, phase_by, taken_to};
 ghost use Rattle.agv_desk.specs.Outcomes.{Move};
 
 use agv_header::{Memory, VehicleKey};
-use agv_message::{ActKind, Status};
+use agv_message_core::{ActKind, Status};
 use agv_order::{Act, Trip};
 use agv_stock::{Phase, Place};
-use agv_world::{Change, Fault, Floor, JobRow};
+use agv_world_core::{Change, Fault, Floor, JobRow};
 
 /// Pushes the change of the load of each act that becomes finished, in the order of the acts.
 pub(crate) fn push_moves(
@@ -29,7 +29,7 @@ pub(crate) fn push_moves(
     Ok(())
 }
 
-// Pushes the change of the load of an act, where the act becomes finished.
+/// Pushes the change of the load of an act, if the act becomes finished.
 fn move_load(
     key: &VehicleKey,
     act: &Act,
@@ -44,7 +44,7 @@ fn move_load(
     Ok(())
 }
 
-// Where the act takes its load: a pick to the vehicle, and a drop to the station.
+/// Returns where the act takes its load: a pick to the vehicle, and a drop to the station.
 fn taken_to(key: &VehicleKey, act: &Act) -> Place
     ensures { result ≡ taken_to key.now act.now.kind act.now.station }
 {
@@ -54,7 +54,8 @@ fn taken_to(key: &VehicleKey, act: &Act) -> Place
     }
 }
 
-/// Pushes the change of each job whose phase changes, in the order of the acts; `ended` says whether the trip has.
+/// Pushes the change of each job whose phase changes, in the order of the acts; `ended` says whether
+/// the trip has ended.
 pub(crate) fn push_jobs<F: Floor>(
     floor: &mut F,
     ended: bool,
@@ -70,7 +71,7 @@ pub(crate) fn push_jobs<F: Floor>(
     Ok(())
 }
 
-/// Pushes the changes of the jobs that stop where a trip, if there is one, ends as it stands.
+/// Pushes the changes of the jobs that stop if a trip, if there is one, ends with its acts as they are.
 pub(crate) fn push_stopped_jobs<F: Floor>(
     floor: &mut F,
     trip: &Option<Trip>,
@@ -84,7 +85,7 @@ pub(crate) fn push_stopped_jobs<F: Floor>(
     }
 }
 
-// Pushes the changes of the jobs of acts that stay as they are, where a trip ends with them.
+/// Pushes the changes of the jobs that stop if a trip ends with these acts as they are.
 fn stop_acts<F: Floor>(floor: &mut F, acts: &[Act], changes: &mut Vec<Change>) -> Result<(), Fault>
     ensures { Asks F.facts floor.old floor.new result (λ world done. changes.new.items ≡ changes.old.items ++ map (λ (job : List ℕ × JobRowOf). row.Job job.0 job.1) (act_jobs world true (map as_it_is acts.now))) }
 {
@@ -94,7 +95,7 @@ fn stop_acts<F: Floor>(floor: &mut F, acts: &[Act], changes: &mut Vec<Change>) -
     Ok(())
 }
 
-// Pushes the change of the job of an act, where its phase changes; `ended` says whether the trip has.
+/// Pushes the change of the job of an act, if its phase changes; `ended` says whether the trip has ended.
 fn push_job<F: Floor>(
     floor: &mut F,
     ended: bool,
@@ -110,7 +111,7 @@ fn push_job<F: Floor>(
     Ok(())
 }
 
-// The row of a job in this phase, if there is a phase and the job is there.
+/// Returns the row of the act's job in this phase, or `None` if there is no phase or the job is unknown.
 fn job_in<F: Floor>(floor: &mut F, act: &Act, phase: Option<Phase>) -> Result<Option<JobRow>, Fault>
     ensures { Asks F.facts floor.old floor.new result (λ world row. option_map (λ (job : JobRowOf). (act.now.job, job)) row ≡ job_in world act.now.job phase) }
 {
@@ -123,7 +124,8 @@ fn job_in<F: Floor>(floor: &mut F, act: &Act, phase: Option<Phase>) -> Result<Op
     }
 }
 
-// The phase that a job gets by its drop, if it changes; `ended` says whether the trip has.
+/// Returns the phase to which a drop changes its job, or `None` if it does not change it; `ended`
+/// says whether the trip has ended.
 fn phase_by(ended: bool, act: &Act, status: Status) -> Option<Phase>
     ensures { result ≡ phase_by ended (act.now, status) }
 {
@@ -138,7 +140,7 @@ fn phase_by(ended: bool, act: &Act, status: Status) -> Option<Phase>
     }
 }
 
-// Whether the act becomes finished.
+/// Returns whether the act becomes finished.
 fn becomes_finished(act: &Act, status: Status) -> bool
     ensures { result ≡ becomes_finished (act.now, status) }
 {

@@ -1,22 +1,23 @@
-//! Answers, and what a call does.
+//! Answers, and the decision of a call.
 
+use crate::report::Report;
 use agv_header::{Name, Refusal, VehicleKey};
-use agv_message::{Header, InstantMessage, OrderMessage, Sequence};
+use agv_message_core::{Header, InstantMessage, OrderMessage, Sequence};
 use agv_stock::Place;
-use agv_world::{Change, VehicleRow};
+use agv_world_core::{Change, VehicleRow};
 
-/// What a call is answered.
+/// The answer to a call.
 #[derive(Debug, Drop)]
 pub enum Answer {
     /// The call is refused, and nothing has changed.
     Refused(Refusal),
-    /// It is done.
+    /// The call is done.
     Done,
-    /// The number of the order's update that was made.
+    /// The number of the order update that was made.
     Update(u32),
-    /// The number of the instantActions message that was made: its action is `instant-` and the number.
+    /// The number of the instantActions message that was made; its action's ID is `instant-` and this number.
     Instructed(u32),
-    /// A state is taken, or it is old and changes nothing.
+    /// Whether a state is accepted; an old one isn't, and changes nothing.
     Accepted(bool),
     /// There is no such message.
     NoMessage,
@@ -30,34 +31,34 @@ pub enum Answer {
         header: Header,
         instant: InstantMessage,
     },
-    /// How many loads a stocktake has moved, and the names on its rows, in their order, that are of no load or
-    /// of one that has left.
+    /// How many loads a stocktake has moved, and the names on its rows, in order, that are of no load or of a load that
+    /// has left.
     Counted {
         moved: usize,
         unknown: Sequence<Name>,
     },
-    /// Where a load is, and its live job.
+    /// The place of a load, and its live job.
     Load {
         load: Name,
         place: Place,
         job: Option<Name>,
     },
-    /// What is known of a vehicle, and its open order.
+    /// A vehicle's row, and its open order.
     Vehicle {
         key: VehicleKey,
         row: VehicleRow,
         order: Option<OpenOrder>,
     },
-    /// The stock report is to be given.
-    StockReport,
-    /// The hold report is to be given.
-    HoldReport,
-    /// The export of all loads is to be given.
-    LoadsExport,
+    /// A report with its bytes: empty in the answers of [`decide`](crate::decide), which only name the report; once the
+    /// call is served, the bytes are those of the world in which it comes (`served`, `specs/Reports.antt`).
+    Report {
+        report: Report,
+        text: Sequence<u8>,
+    },
 }
 
-/// The open order of a vehicle: its name, the number of the last update that was sent, and that of the last one
-/// which the vehicle has confirmed.
+/// The open order of a vehicle: its name, the number of the last update that was sent, and the number of the last
+/// update that the vehicle has confirmed.
 #[derive(Clone, Copy, Debug, PartialEq, Eq)]
 pub struct OpenOrder {
     pub order: Name,
@@ -65,7 +66,7 @@ pub struct OpenOrder {
     pub confirmed: Option<u32>,
 }
 
-/// What a call is answered, and the rows that it changes.
+/// The answer to a call, and the rows that the call changes.
 #[derive(Debug, Drop)]
 pub struct Decision {
     pub answer: Answer,

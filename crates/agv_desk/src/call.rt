@@ -1,13 +1,16 @@
 //! Calls.
-ghost use Rattle.std.specs.Prelude.{◌≤◌};
+ghost use Rattle.std.specs.Prelude.{◌≡◌, ◌≤◌, IfSome};
 ghost use Rattle.agv_header.specs.Name.{IsName};
 ghost use Rattle.agv_layout.specs.Rows.{AreNamed};
-ghost use Rattle.agv_world.specs.Lawful.{IsKey};
+ghost use Rattle.agv_world_core.specs.Lawful.{IsKey};
+ghost use Rattle.agv_desk.specs.Reports.{report_asked};
 ghost use Rattle.agv_desk.specs.WellTyped.{IsWellTyped};
+ghost use Rattle.agv_desk.specs.declared.call.Call.TheVariants as call;
 
+use crate::report::Report;
 use agv_header::{Name, VehicleKey};
 use agv_layout::LayoutRow;
-use agv_message::{Sequence, StateMessage};
+use agv_message_core::{Sequence, StateMessage};
 use agv_order::Stop;
 
 /// A request to the desk: a change, or a query.
@@ -28,100 +31,107 @@ pub enum Call {
         load: Name,
         station: Option<Name>,
     },
-    /// A person has found the load at this station, or else at the checking place.
+    /// Corrects the place of a load: a person has found it at this station, or else at the checking place.
     CorrectLoad {
         load: Name,
         reference: Name,
         station: Option<Name>,
     },
-    /// A load leaves the warehouse.
+    /// Records that a load leaves the warehouse.
     LeaveLoad {
         load: Name,
         reference: Name,
     },
-    /// A load is to be carried to a station.
+    /// Adds a job to carry a load to a station.
     AddJob {
         job: Name,
         load: Name,
         to: Name,
     },
-    /// A waiting job is stopped.
+    /// Stops a waiting job.
     StopJob {
         job: Name,
     },
-    /// A vehicle gets an order that makes these stops, of which the first `edges` edges are released.
+    /// Starts an order of a vehicle that makes these stops, with the first `edges` edges of its way released.
     StartOrder {
         order: Name,
         key: VehicleKey,
         stops: Sequence<Stop>,
         edges: u32,
     },
-    /// The update of this number releases this many further edges.
+    /// Releases this many further edges, by the order update of this number.
     Advance {
         key: VehicleKey,
         order: Name,
         update: u32,
         edges: u32,
     },
-    /// The order of a vehicle is to be cancelled.
+    /// Asks a vehicle to cancel its order.
     Cancel {
         key: VehicleKey,
     },
-    /// A vehicle is to pause.
+    /// Asks a vehicle to pause.
     Pause {
         key: VehicleKey,
     },
-    /// A vehicle is to go on.
+    /// Asks a vehicle to go on.
     Resume {
         key: VehicleKey,
     },
-    /// A person says that the vehicle stands at this node, which ends its order, if it has one.
+    /// Places a vehicle at the node where a person says that it stands. This ends its order, if it has one.
     PlaceVehicle {
         key: VehicleKey,
         reference: Name,
         node: Name,
     },
-    /// Forgets the number of the vehicle's last state, for a vehicle that counts from the start again.
+    /// Forgets the number of the vehicle's last state, for a vehicle that restarts its count.
     Resync {
         key: VehicleKey,
     },
-    /// A state message of a vehicle.
+    /// Takes a state message of a vehicle.
     State {
         key: VehicleKey,
         state: StateMessage,
     },
-    /// The last order message of the vehicle's open order.
+    /// Reads the last order message of the vehicle's open order.
     GetOrder {
         key: VehicleKey,
     },
-    /// The last instantActions message, while its action is pending.
+    /// Reads the last instantActions message, while its action is pending.
     GetInstant {
         key: VehicleKey,
     },
-    /// What was counted: at each of these stations the load, or none. All stations of the rows were counted.
+    /// Takes stock: at each of these stations the counted load, or none. All stations of the rows were counted.
     Stocktake {
         reference: Name,
         rows: Sequence<(Name, Option<Name>)>,
     },
-    /// Where a load is, and its live job.
+    /// Reads the place of a load, and its live job.
     GetLoad {
         load: Name,
     },
-    /// A vehicle: where it stands, its order and its readiness.
+    /// Reads a vehicle: where it stands, its order and its readiness.
     GetVehicle {
         key: VehicleKey,
     },
-    /// The stock report.
-    StockReport,
-    /// The hold report.
-    HoldReport,
-    /// The export of all loads.
-    LoadsExport,
+    /// Reads a report.
+    Report(Report),
 }
 
 impl Call {
-    /// The names that a call makes known are names, and the number of a state is in its range, since the parts of a
-    /// call are of their types. It does nothing: a proof calls it for its clause.
+    /// Returns the report that the call asks for, if any.
+    pub fn report(&self) -> Option<Report>
+        ensures is { result ≡ report_asked self.now }
+        ensures call { IfSome result (λ report. self.now ≡ call.Report report) }
+    {
+        match self {
+            Call::Report(report) => Some(*report),
+            _ => None,
+        }
+    }
+
+    /// Proves that a call is well typed: the names that it introduces are names, and the number of a state is in its
+    /// range, since the parts of a call are of their types. It changes nothing; proofs call it for its clause.
     pub fn typing_law(&self)
         ensures { IsWellTyped self.now }
     {
@@ -146,13 +156,12 @@ impl Call {
             Call::GetInstant { .. } => {}
             Call::GetLoad { .. } => {}
             Call::GetVehicle { .. } => {}
-            Call::StockReport => {}
-            Call::HoldReport => {}
-            Call::LoadsExport => {}
+            Call::Report(_) => {}
         }
     }
 }
 
+/// Proves that the names of the rows are names.
 fn names_law(rows: &[LayoutRow])
     ensures { AreNamed rows.now }
 {
@@ -161,6 +170,7 @@ fn names_law(rows: &[LayoutRow])
     }
 }
 
+/// Proves that the parts of a vehicle's key are names.
 fn key_law(key: &VehicleKey)
     ensures { IsKey key.now }
 {
@@ -168,14 +178,16 @@ fn key_law(key: &VehicleKey)
     name_law(&key.serial);
 }
 
-// Each of these functions does nothing: a proof calls it for its clause.
+// These functions change nothing: proofs call them for their clauses.
 
+/// Proves that a name is one.
 fn name_law(name: &Name)
     ensures { IsName name.now }
 {
     let _bytes = name.as_bytes();
 }
 
+/// Proves that a `u32` is at most 4,294,967,295.
 fn number_law(number: u32)
     ensures { number ≤ 4294967295 }
 {}

@@ -1,12 +1,12 @@
-//! What a call adds to the counts.
+//! Which count a call increases.
 ghost use Rattle.std.specs.Prelude.{◌≡◌};
 ghost use Rattle.agv_desk.specs.Counts.{adds_to as adds_to_of, counted_by as counted_by_of};
 
 use crate::{Answer, Call};
-use agv_world::Counted;
+use agv_world_core::Counted;
 
-/// What a call with this answer adds one to: the vehicles, the loads, the jobs, the orders or the references; none
-/// where it is refused, or is no call that adds.
+/// Returns which count a call with this answer increases by one: that of vehicles, loads, jobs, orders or
+/// references. Returns `None` if the call was refused, or increases no count.
 pub fn counted_by(call: &Call, answer: &Answer) -> Option<Counted>
     ensures { result ≡ counted_by_of call.now answer.now }
 {
@@ -16,7 +16,7 @@ pub fn counted_by(call: &Call, answer: &Answer) -> Option<Counted>
     }
 }
 
-// What a call adds one to, unless it is refused.
+/// Returns which count a call increases by one if it is not refused.
 fn adds_to(call: &Call) -> Option<Counted>
     ensures { result ≡ adds_to_of call.now }
 {

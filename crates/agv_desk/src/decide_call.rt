@@ -1,8 +1,8 @@
-//! What a call is answered, and the rows that it changes.
+//! Deciding a call: its answer, and the rows that it changes.
 ghost use Rattle.std.specs.Prelude.{◌≡◌};
-ghost use Rattle.agv_world.specs.Changes.{changed};
-ghost use Rattle.agv_world.specs.Asks.{Asks, failed_by};
-ghost use Rattle.agv_world.specs.Maps.{maps_of};
+ghost use Rattle.agv_world_core.specs.Changes.{changed};
+ghost use Rattle.agv_world_core.specs.Asks.{Asks, failed_by};
+ghost use Rattle.agv_world_core.specs.Maps.{maps_of};
 ghost use Rattle.agv_desk.specs.DecisionEnds.{LeavesWorld};
 ghost use Rattle.agv_desk.specs.InOrder.{IsInOrder};
 ghost use Rattle.agv_desk.specs.Outcomes.{after, decided};
@@ -15,29 +15,28 @@ use crate::laws::calls::leads_to_the_maps;
 use crate::layouts::set_layout;
 use crate::loads::{correct_load, leave_load, register_load};
 use crate::orders::start_order;
-use crate::reads::{answer_only, get_instant, get_load, get_order, get_vehicle};
+use crate::reads::{get_instant, get_load, get_order, get_vehicle, name_report};
 use crate::states::take_state;
 use crate::stocktake::take_stock;
 use crate::updates::advance;
 use crate::vehicles::{place_vehicle, register_vehicle, resync};
 use crate::{Answer, Call, Decision};
 use agv_header::Moment;
-use agv_world::{Fault, Floor};
+use agv_world_core::{Fault, Floor};
 use std::alloc::Global;
 
-/// What a call is answered at a moment in the world of a floor, and the rows that it changes.
+/// Decides a call at a moment in the world of a floor: returns its answer, and the rows that it changes.
 ///
 /// The answer is that of the table of calls (`specs/Step.antt`), and from a world in order the changes take the maps of
-/// the world to those of the world after the call; a call that is refused or only reads changes nothing. An update, a
-/// place, a state and the question for the last order message are answered so where the vehicle's trip has at most 200
-/// edges and eight acts, and no more updates than released edges, as every trip of a lawful world.
+/// the world to those of the world after the call; a call that is refused or only reads changes nothing. For an update,
+/// a place, a state and a query of the last order message, this holds if the vehicle's trip has at most 200 edges and
+/// eight acts, and no more updates than released edges, as every trip of a lawful world has.
 ///
-/// The floor is only asked (`Asks`). So after an answer its world is the same, and after a fault too where the floor is
-/// still open (`world`); that holds, and the answer is so, where the floor's store has given back what was written to it.
+/// The floor is only queried (`Asks`). So its world is the same after an answer, and also after a fault if the floor is
+/// still open (`world`). This and the answer hold if the floor's store has returned what was written to it.
 ///
-/// `Memory` where an allocation was refused, `Storage` where the floor has failed: then it says so as the call ends
-/// (`failed`), and over a world in memory it never does
-/// (`laws::never_fails_in_memory` of `agv_plain_floor`).
+/// `Memory` when out of memory, `Storage` where the floor has failed: it then says so as the call ends (`failed`). A
+/// world in memory never fails (`laws::never_fails_in_memory` of `agv_world_plain`).
 pub fn decide<F: Floor>(
     alloc: Global,
     floor: &mut F,
@@ -56,7 +55,7 @@ pub fn decide<F: Floor>(
     decide_each(alloc, floor, at, call)
 }
 
-// The function of each call.
+/// Decides the call by the function for its kind.
 fn decide_each<F: Floor>(
     alloc: Global,
     floor: &mut F,
@@ -110,8 +109,6 @@ fn decide_each<F: Floor>(
         }
         Call::GetLoad { load } => get_load(alloc, floor, *load),
         Call::GetVehicle { key } => get_vehicle(alloc, floor, *key),
-        Call::StockReport => Ok(answer_only(alloc, Answer::StockReport)),
-        Call::HoldReport => Ok(answer_only(alloc, Answer::HoldReport)),
-        Call::LoadsExport => Ok(answer_only(alloc, Answer::LoadsExport)),
+        Call::Report(report) => Ok(name_report(alloc, *report)),
     }
 }

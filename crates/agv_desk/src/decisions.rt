@@ -1,15 +1,15 @@
-//! What is decided.
+//! How decisions are made of answers and changes.
 ghost use Rattle.std.specs.Prelude.{◌≡◌, IfOk, [], ◌∷◌};
 ghost use Rattle.agv_desk.specs.Outcomes.{Made, RowOnly, Refused, decided, answer_only};
 
 use crate::vehicle_rows::push_row;
 use crate::{Answer, Decision};
 use agv_header::{Memory, Refusal, VehicleKey};
-use agv_message::Sequence;
-use agv_world::{Change, VehicleRow};
+use agv_message_core::Sequence;
+use agv_world_core::{Change, VehicleRow};
 use std::alloc::Global;
 
-/// A call is refused, and changes nothing.
+/// Returns the decision that refuses a call, and changes nothing.
 pub(crate) fn refused(alloc: Global, why: Refusal) -> Decision
     ensures { result ≡ decided (Refused why) }
 {
@@ -19,7 +19,7 @@ pub(crate) fn refused(alloc: Global, why: Refusal) -> Decision
     }
 }
 
-/// An answer, and the rows that change.
+/// Returns the decision with this answer and these changes.
 pub(crate) fn made_with(answer: Answer, changes: Vec<Change>) -> Decision
     ensures answer { result.answer ≡ answer }
     ensures changes { result.changes ≡ changes.items }
@@ -30,7 +30,7 @@ pub(crate) fn made_with(answer: Answer, changes: Vec<Change>) -> Decision
     }
 }
 
-/// An answer, and the row of a vehicle that stands as before, where it changes.
+/// Returns the decision with this answer that changes only a vehicle's own row, if the row changes.
 pub(crate) fn row_update(
     alloc: Global,
     answer: Answer,

@@ -1,18 +1,18 @@
-//! What vehicles hold.
+//! Which nodes and edges vehicles hold.
 ghost use Rattle.std.specs.Prelude.{◌≡◌, OnOk, ◌++◌, map};
 ghost use Rattle.std.specs.FinMap as finite;
 ghost use Rattle.agv_header.specs.declared.key.Thing.{Thing as Held};
-ghost use Rattle.agv_holds.specs.Holders.{gained};
-ghost use Rattle.agv_holds.specs.Holds.{first_held, is_in, other_holder};
-ghost use Rattle.agv_world.specs.Asks.{Asks};
-ghost use Rattle.agv_world.specs.Maps.{maps_of};
-ghost use Rattle.agv_world.specs.VehicleChanges.{hold_changes};
-ghost use Rattle.agv_world.specs.declared.change.Change.TheVariants as row;
+ghost use Rattle.agv_track_holds.specs.Holders.{gained};
+ghost use Rattle.agv_track_holds.specs.Holds.{first_held, is_in, other_holder};
+ghost use Rattle.agv_world_core.specs.Asks.{Asks};
+ghost use Rattle.agv_world_core.specs.Maps.{maps_of};
+ghost use Rattle.agv_world_core.specs.VehicleChanges.{hold_changes};
+ghost use Rattle.agv_world_core.specs.declared.change.Change.TheVariants as row;
 
 use agv_header::{Memory, Thing, VehicleKey};
-use agv_world::{Change, Fault, Floor};
+use agv_world_core::{Change, Fault, Floor};
 
-/// The first node or edge of the list that another vehicle holds, and that vehicle.
+/// Returns the first node or edge of the list that another vehicle holds, with that vehicle.
 pub(crate) fn first_held<F: Floor>(
     floor: &mut F,
     key: &VehicleKey,
@@ -28,8 +28,8 @@ pub(crate) fn first_held<F: Floor>(
     Ok(None)
 }
 
-// The vehicle that holds the node or edge, where it is another one than this.
-#[tactic(auto, unfolding(agv_world::specs::Questions::holder_of))]
+/// Returns the vehicle that holds the node or edge, if it is not `key`.
+#[tactic(auto, unfolding(agv_world_core::specs::Questions::holder_of))]
 fn other_holder<F: Floor>(
     floor: &mut F,
     key: &VehicleKey,
@@ -43,7 +43,7 @@ fn other_holder<F: Floor>(
     }
 }
 
-/// Pushes the changes of what a vehicle holds from now on that it did not hold, and what it does not hold any more.
+/// Pushes the changes of what a vehicle gains and of what it no longer holds.
 pub(crate) fn push_holds(
     key: &VehicleKey,
     old: &[Thing],
@@ -56,7 +56,7 @@ pub(crate) fn push_holds(
     push_gained(new, old, &None, changes)
 }
 
-// Pushes the change of the holder of what is in the new list and not in the old one.
+/// Pushes a change to this holder for each node or edge that is in the new list and not in the old one.
 fn push_gained(
     old: &[Thing],
     new: &[Thing],
@@ -73,7 +73,7 @@ fn push_gained(
     Ok(())
 }
 
-// Whether the node or edge is in the list.
+/// Returns whether the node or edge is in the list.
 fn is_in(thing: &Thing, things: &[Thing]) -> bool
     ensures { result ≡ is_in thing.now things.now }
 {

@@ -1,17 +1,17 @@
-//! The calls that give a vehicle an instant action: to cancel its order, to pause or to go on.
+//! The calls that send a vehicle an instant action: to cancel its order, to pause or to resume.
 ghost use Rattle.std.specs.Prelude.{◌≡◌, IfOk, Some};
-ghost use Rattle.agv_world.specs.Asks.{Asks};
+ghost use Rattle.agv_world_core.specs.Asks.{Asks};
 ghost use Rattle.agv_desk.specs.InstantSteps.{cancel, instruct, pause, resume};
 ghost use Rattle.agv_desk.specs.Outcomes.{decided};
 
 use crate::decisions::{refused, row_update};
 use crate::{Answer, Decision};
 use agv_header::{Memory, Moment, Refusal, VehicleKey, next_number};
-use agv_message::InstantKind;
-use agv_world::{Fault, Floor, Sent, VehicleRow};
+use agv_message_core::InstantKind;
+use agv_world_core::{Fault, Floor, Sent, VehicleRow};
 use std::alloc::Global;
 
-/// The open order of a vehicle is to be cancelled.
+/// Sends the vehicle a cancelOrder for its open order.
 pub(crate) fn cancel<F: Floor>(
     alloc: Global,
     floor: &mut F,
@@ -29,7 +29,7 @@ pub(crate) fn cancel<F: Floor>(
     Ok(instruct(alloc, at, key, &row, InstantKind::CancelOrder)?)
 }
 
-/// A vehicle is to pause.
+/// Sends the vehicle a startPause.
 pub(crate) fn pause<F: Floor>(
     alloc: Global,
     floor: &mut F,
@@ -44,7 +44,7 @@ pub(crate) fn pause<F: Floor>(
     Ok(instruct(alloc, at, key, &row, InstantKind::StartPause)?)
 }
 
-/// A vehicle is to go on.
+/// Sends the vehicle a stopPause.
 pub(crate) fn resume<F: Floor>(
     alloc: Global,
     floor: &mut F,
@@ -59,7 +59,7 @@ pub(crate) fn resume<F: Floor>(
     Ok(instruct(alloc, at, key, &row, InstantKind::StopPause)?)
 }
 
-// An instant action for the vehicle, where none is pending.
+/// Sends the vehicle an instant action, if none is pending.
 fn instruct(
     alloc: Global,
     at: Moment,
@@ -84,7 +84,7 @@ fn instruct(
     )
 }
 
-// The row of a vehicle that was sent this action.
+/// Returns the row of a vehicle after this instant action was sent to it.
 fn instructed(row: &VehicleRow, at: Moment, number: u32, kind: InstantKind) -> VehicleRow
     ensures { result ≡ record row.now { instants = record { count = number; at = at }; pending = Some kind } }
 {

@@ -1,7 +1,7 @@
-//! The calls of jobs.
+//! The calls about jobs.
 ghost use Rattle.std.specs.Prelude.{◌≡◌, IfOk};
 ghost use Rattle.agv_stock.specs.Rooms.{station_of_place};
-ghost use Rattle.agv_world.specs.Asks.{Asks};
+ghost use Rattle.agv_world_core.specs.Asks.{Asks};
 ghost use Rattle.agv_desk.specs.JobSteps.{is_waiting, add_job, job_written, stop_job};
 ghost use Rattle.agv_desk.specs.Outcomes.{Made, decided};
 
@@ -11,10 +11,10 @@ use crate::{Answer, Decision};
 use agv_header::limits::MAX_RECORDS;
 use agv_header::{Memory, Name, Refusal};
 use agv_stock::{Phase, Place, can_job, station_of_place};
-use agv_world::{Change, Counted, Fault, Floor, JobRow};
+use agv_world_core::{Change, Counted, Fault, Floor, JobRow};
 use std::alloc::Global;
 
-/// A load is to be carried to a station.
+/// Adds a job that takes a load to a station.
 pub(crate) fn add_job<F: Floor>(
     alloc: Global,
     floor: &mut F,
@@ -46,7 +46,7 @@ pub(crate) fn add_job<F: Floor>(
     Ok(job_written(alloc, job, row)?)
 }
 
-// The station where a load stands, if it stands at one.
+/// Returns the station where a load is, if it is at one.
 fn station_where(place: Option<Place>) -> Option<Name>
     ensures { result ≡ station_of_place place }
 {
@@ -56,7 +56,7 @@ fn station_where(place: Option<Place>) -> Option<Name>
     }
 }
 
-/// A job that waits is stopped.
+/// Stops a waiting job.
 pub(crate) fn stop_job<F: Floor>(alloc: Global, floor: &mut F, job: Name) -> Result<Decision, Fault>
     ensures { Asks F.facts floor.old floor.new result (λ world decision. decision ≡ decided (stop_job world job)) }
 {
@@ -73,7 +73,7 @@ pub(crate) fn stop_job<F: Floor>(alloc: Global, floor: &mut F, job: Name) -> Res
     Ok(job_written(alloc, job, stopped)?)
 }
 
-// Whether a job waits for a vehicle.
+/// Returns whether a job in this phase waits for a vehicle.
 pub(crate) fn is_waiting(phase: Phase) -> bool
     ensures { result ≡ is_waiting phase }
 {
@@ -83,7 +83,7 @@ pub(crate) fn is_waiting(phase: Phase) -> bool
     }
 }
 
-// A job is written.
+/// Returns the effect of writing the row of a job.
 fn job_written(alloc: Global, job: Name, row: JobRow) -> Result<Decision, Memory>
     ensures { IfOk result (λ decision. decision ≡ decided (Made (job_written job row))) }
 {

@@ -1,7 +1,7 @@
 //! The call that sets the layout.
 ghost use Rattle.std.specs.Prelude.{◌≡◌, IfOk, IfErr, map};
-ghost use Rattle.agv_world.specs.Asks.{Asks};
-ghost use Rattle.agv_world.specs.TableChanges.{layout_changes};
+ghost use Rattle.agv_world_core.specs.Asks.{Asks};
+ghost use Rattle.agv_world_core.specs.TableChanges.{layout_changes};
 ghost use Rattle.agv_desk.specs.LayoutSteps.{IsWhy, lay, row_written, set_layout};
 ghost use Rattle.agv_desk.specs.Outcomes.{decided};
 
@@ -9,7 +9,7 @@ use crate::decisions::{made_with, refused};
 use crate::{Answer, Decision};
 use agv_header::{Memory, Refusal};
 use agv_layout::{EdgeEnds, Layout, LayoutFault, LayoutRow, StationSite};
-use agv_world::{Change, Fault, Floor};
+use agv_world_core::{Change, Fault, Floor};
 use std::alloc::Global;
 
 /// Why the layout is not set.
@@ -43,7 +43,7 @@ impl From<Memory> for NotSet {
     }
 }
 
-/// Sets the layout, which can't be changed later.
+/// Sets the layout, which cannot be changed later.
 pub(crate) fn set_layout<F: Floor>(
     alloc: Global,
     floor: &mut F,
@@ -61,7 +61,7 @@ pub(crate) fn set_layout<F: Floor>(
     }
 }
 
-// The layout that the rows give is set.
+/// Returns the effect of setting the layout that these rows give.
 #[tactic(auto, using(crate::proofs::row_changes::Laying::is_why))]
 fn lay(alloc: Global, rows: &[LayoutRow]) -> Result<Decision, NotSet>
     ensures laid { IfOk result (λ decision. decision ≡ decided (lay rows.now)) }
@@ -72,7 +72,7 @@ fn lay(alloc: Global, rows: &[LayoutRow]) -> Result<Decision, NotSet>
     Ok(made_with(Answer::Done, changes))
 }
 
-// The rows of a layout.
+/// Returns the changes that write the rows of a layout.
 fn layout_changes(alloc: Global, layout: &Layout) -> Result<Vec<Change>, Memory>
     ensures { IfOk result (λ changes. changes.items ≡ layout_changes layout.now) }
 {
@@ -84,7 +84,7 @@ fn layout_changes(alloc: Global, layout: &Layout) -> Result<Vec<Change>, Memory>
     Ok(changes)
 }
 
-// The row of a node, an edge or a station.
+/// Returns the change that writes the row of a node, an edge or a station.
 fn row_written(row: &LayoutRow) -> Change
     ensures { result ≡ row_written row.now }
 {

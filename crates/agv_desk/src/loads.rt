@@ -1,6 +1,6 @@
-//! The calls of loads. `can_register`, `can_correct` and `can_leave` have their checks in order.
+//! The calls about loads. `can_register`, `can_correct` and `can_leave` have their checks in order.
 ghost use Rattle.std.specs.Prelude.{◌≡◌, IfOk};
-ghost use Rattle.agv_world.specs.Asks.{Asks};
+ghost use Rattle.agv_world_core.specs.Asks.{Asks};
 ghost use Rattle.agv_desk.specs.LoadSteps.{place_of, register_load, correct_load, leave_load, recorded, load_registered};
 ghost use Rattle.agv_desk.specs.Outcomes.{Made, decided};
 ghost use Rattle.agv_desk.specs.Shared.{goal_of};
@@ -11,10 +11,10 @@ use crate::{Answer, Decision};
 use agv_header::limits::MAX_RECORDS;
 use agv_header::{Memory, Name, Refusal};
 use agv_stock::{Goal, Place, can_correct, can_leave, can_register};
-use agv_world::{Change, Counted, Fault, Floor};
+use agv_world_core::{Change, Counted, Fault, Floor};
 use std::alloc::Global;
 
-/// Registers a load.
+/// Registers a load at a station, or at the checking place.
 pub(crate) fn register_load<F: Floor>(
     alloc: Global,
     floor: &mut F,
@@ -34,7 +34,7 @@ pub(crate) fn register_load<F: Floor>(
     Ok(load_registered(alloc, load, place_of(station))?)
 }
 
-// A load is registered there.
+/// Returns the effect of registering a load at this place.
 fn load_registered(alloc: Global, load: Name, to: Place) -> Result<Decision, Memory>
     ensures { IfOk result (λ decision. decision ≡ decided (Made (load_registered load to))) }
 {
@@ -43,7 +43,7 @@ fn load_registered(alloc: Global, load: Name, to: Place) -> Result<Decision, Mem
     Ok(made_with(Answer::Done, changes))
 }
 
-/// Corrects where a load is recorded.
+/// Corrects the place of a load to a station, or to the checking place.
 pub(crate) fn correct_load<F: Floor>(
     alloc: Global,
     floor: &mut F,
@@ -68,7 +68,7 @@ pub(crate) fn correct_load<F: Floor>(
     Ok(recorded(alloc, load, place_of(station), reference)?)
 }
 
-// Where a load is to go, with what is known of the place.
+/// Returns where a load is to go, with what is known of the place.
 fn goal_of<F: Floor>(floor: &mut F, station: Option<Name>) -> Result<Goal, Fault>
     ensures { Asks F.facts floor.old floor.new result (λ world goal. goal ≡ goal_of world station) }
 {
@@ -78,7 +78,7 @@ fn goal_of<F: Floor>(floor: &mut F, station: Option<Name>) -> Result<Goal, Fault
     station_goal(floor, station)
 }
 
-// The place that a call names: a station, or else the checking place.
+/// Returns the station as a place, or the checking place if there is none.
 fn place_of(station: Option<Name>) -> Place
     ensures { result ≡ place_of station }
 {
@@ -88,7 +88,7 @@ fn place_of(station: Option<Name>) -> Place
     }
 }
 
-/// A load leaves the warehouse.
+/// Records that a load has left the warehouse.
 pub(crate) fn leave_load<F: Floor>(
     alloc: Global,
     floor: &mut F,
@@ -111,7 +111,7 @@ pub(crate) fn leave_load<F: Floor>(
     Ok(recorded(alloc, load, Place::Left, reference)?)
 }
 
-// A load is recorded there, and the reference is used.
+/// Returns the effect of recording the load at this place and using the reference.
 fn recorded(alloc: Global, load: Name, to: Place, reference: Name) -> Result<Decision, Memory>
     ensures { IfOk result (λ decision. decision ≡ decided (Made (recorded load to reference))) }
 {

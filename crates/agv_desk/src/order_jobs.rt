@@ -1,21 +1,22 @@
 //! The jobs of an order.
 ghost use Rattle.std.specs.Prelude.{◌≡◌, ◌++◌, count_by, IfOk, OnOk, List, ℕ, map};
 ghost use Rattle.agv_order.specs.StopPlaces.{stop_picks};
-ghost use Rattle.agv_world.specs.Asks.{Asks};
-ghost use Rattle.agv_world.specs.declared.change.Change.TheVariants as row;
-ghost use Rattle.agv_world.specs.declared.row.JobRow.{JobRow as RowOf};
+ghost use Rattle.agv_world_core.specs.Asks.{Asks};
+ghost use Rattle.agv_world_core.specs.declared.change.Change.TheVariants as row;
+ghost use Rattle.agv_world_core.specs.declared.row.JobRow.{JobRow as RowOf};
 ghost use Rattle.agv_desk.specs.OrderSteps.{job_for, jobs_for, named, riding, riding_by, waits};
 ghost use Rattle.agv_desk.specs.FoundJobs.{AreFound};
 
 use crate::jobs::is_waiting;
 use agv_header::{Memory, Name};
-use agv_message::Sequence;
+use agv_message_core::Sequence;
 use agv_order::{Stop, is_drop, job_named};
 use agv_stock::{Job, Phase};
-use agv_world::{Change, Fault, Floor, JobRow};
+use agv_world_core::{Change, Fault, Floor, JobRow};
 use std::alloc::Global;
 
-/// The jobs of the stops, in their order, each asked for once; none where one of them is unknown.
+/// Returns the jobs of the stops, in their order, or `None` if one of them is unknown. It asks for
+/// each job once.
 pub(crate) fn jobs_for<F: Floor>(
     alloc: Global,
     floor: &mut F,
@@ -33,7 +34,7 @@ pub(crate) fn jobs_for<F: Floor>(
     Ok(Some(Sequence::from(jobs)))
 }
 
-// The job of a stop. It is one of those that were found, if it was asked for before.
+/// Returns the job of a stop: one of `jobs` if it was found before, or else the one that the floor has.
 fn job_for<F: Floor>(floor: &mut F, jobs: &[Job], stop: &Stop) -> Result<Option<Job>, Fault>
     ensures { Asks F.facts floor.old floor.new result (λ world job. AreFound world jobs.now → job ≡ job_for world stop.now) }
 {
@@ -46,7 +47,7 @@ fn job_for<F: Floor>(floor: &mut F, jobs: &[Job], stop: &Stop) -> Result<Option<
     }
 }
 
-// A job with its name.
+/// Returns the job with this name and this row.
 fn named(name: &Name, row: &JobRow) -> Job
     ensures { result ≡ named name.now row.now }
 {
@@ -59,21 +60,21 @@ fn named(name: &Name, row: &JobRow) -> Job
     }
 }
 
-/// Whether the job waits for a vehicle.
+/// Returns whether the job waits for a vehicle.
 pub(crate) fn waits(job: &Job) -> bool
     ensures { result ≡ waits job.now }
 {
     is_waiting(job.phase)
 }
 
-/// How many loads are picked.
+/// Returns how many of the stops are picks.
 pub(crate) fn count_picks(stops: &[Stop]) -> usize
     ensures { result ≡ count_by stop_picks stops.now }
 {
     stops.iter().filter(|stop| stop_picks(stop)).count()
 }
 
-/// The jobs of an order, which ride.
+/// Returns the rows of an order's jobs once they ride.
 pub(crate) fn riding(
     alloc: Global,
     stops: &[Stop],
@@ -89,7 +90,7 @@ pub(crate) fn riding(
     Ok(rides)
 }
 
-// The job of a stop rides; each job is picked once.
+/// Returns the row of a stop's job once it rides, or `None` for a drop: so each job is listed once.
 fn riding_by(stop: &Stop, job: &Job) -> Option<(Name, JobRow)>
     ensures { result ≡ riding_by (stop.now, job.now) }
 {
@@ -105,7 +106,7 @@ fn riding_by(stop: &Stop, job: &Job) -> Option<(Name, JobRow)>
     Some((job.name, row))
 }
 
-// Whether the load is picked at the stop.
+/// Returns whether the stop is a pick.
 fn stop_picks(stop: &Stop) -> bool
     ensures { result ≡ stop_picks stop.now }
 {

@@ -1,21 +1,23 @@
-//! The calls that only tell.
-ghost use Rattle.std.specs.Prelude.{◌≡◌, IfOk};
-ghost use Rattle.agv_world.specs.Asks.{Asks};
-ghost use Rattle.agv_world.specs.Questions.{trip_of};
+//! The calls that only read.
+ghost use Rattle.std.specs.Prelude.{◌≡◌, [], IfOk};
+ghost use Rattle.agv_world_core.specs.Asks.{Asks};
+ghost use Rattle.agv_world_core.specs.Questions.{trip_of};
 ghost use Rattle.agv_desk.specs.Outcomes.{decided, Made, answer_only};
 ghost use Rattle.agv_desk.specs.ReadSteps.{last_header, instant_told, open_order, order_told, get_order, get_instant, get_load, get_vehicle};
 ghost use Rattle.agv_desk.specs.Sizes.{IsOfSize};
+ghost use Rattle.agv_desk.specs.declared.answer.Answer.TheVariants as answer;
 
 use crate::decisions::{made_with, refused};
 use crate::sizes::is_of_size;
-use crate::{Answer, Decision, OpenOrder};
+use crate::{Answer, Decision, OpenOrder, Report};
 use agv_header::{Memory, Name, Refusal, VehicleKey};
-use agv_message::{Header, InstantKind, InstantMessage};
+use agv_message_core::{Header, InstantKind, InstantMessage, Sequence};
 use agv_order::Trip;
-use agv_world::{Fault, Floor, Sent, VehicleRow};
+use agv_world_core::{Fault, Floor, Sent, VehicleRow};
 use std::alloc::Global;
 
-/// The last order message of the vehicle's open order.
+/// Returns the last order message of the vehicle's open order. A trip larger than any of a lawful
+/// world is answered with `Limit`, of which the clause says nothing.
 pub(crate) fn get_order<F: Floor>(
     alloc: Global,
     floor: &mut F,
@@ -30,7 +32,8 @@ pub(crate) fn get_order<F: Floor>(
     Ok(answer_only(alloc, order_told(alloc, &key, &row, &trip)?))
 }
 
-// The last order message of an open trip. A trip that is too long for a message is open in no lawful world.
+/// Returns the last order message of an open trip, or `NoMessage` without one. In a lawful world no
+/// trip is too long for a message.
 fn order_told(
     alloc: Global,
     key: &VehicleKey,
@@ -51,7 +54,7 @@ fn order_told(
     })
 }
 
-/// The last instantActions message of a vehicle, while its action is pending.
+/// Returns the last instantActions message of a vehicle, while its action is pending.
 pub(crate) fn get_instant<F: Floor>(
     alloc: Global,
     floor: &mut F,
@@ -65,7 +68,7 @@ pub(crate) fn get_instant<F: Floor>(
     Ok(answer_only(alloc, instant_told(&key, &row)))
 }
 
-// The last instantActions message, while its action is pending.
+/// Returns the last instantActions message while its action is pending, or else `NoMessage`.
 fn instant_told(key: &VehicleKey, row: &VehicleRow) -> Answer
     ensures { result ≡ instant_told key.now row.now row.now.pending }
 {
@@ -78,7 +81,7 @@ fn instant_told(key: &VehicleKey, row: &VehicleRow) -> Answer
     }
 }
 
-// What the last message of a topic begins with.
+/// Returns the header of the last message of a topic.
 fn last_header(key: &VehicleKey, sent: &Sent) -> Header
     ensures { result ≡ last_header key.now sent.now }
 {
@@ -89,7 +92,7 @@ fn last_header(key: &VehicleKey, sent: &Sent) -> Header
     }
 }
 
-/// Where a load is, and its live job.
+/// Returns where a load is, and its live job.
 pub(crate) fn get_load<F: Floor>(
     alloc: Global,
     floor: &mut F,
@@ -104,7 +107,7 @@ pub(crate) fn get_load<F: Floor>(
     Ok(answer_only(alloc, Answer::Load { load, place, job }))
 }
 
-/// What is known of a vehicle, and its open order.
+/// Returns what is known of a vehicle, and its open order.
 pub(crate) fn get_vehicle<F: Floor>(
     alloc: Global,
     floor: &mut F,
@@ -122,7 +125,7 @@ pub(crate) fn get_vehicle<F: Floor>(
     Ok(answer_only(alloc, Answer::Vehicle { key, row, order }))
 }
 
-// The open order of a trip.
+/// Returns the open order of a trip.
 fn open_order(trip: &Trip) -> OpenOrder
     ensures { result ≡ open_order trip.now }
 {
@@ -133,8 +136,16 @@ fn open_order(trip: &Trip) -> OpenOrder
     }
 }
 
-// An answer, and nothing changes.
-pub(crate) fn answer_only(alloc: Global, answer: Answer) -> Decision
+/// Returns the decision that names a report: it has its bytes only once it is served.
+pub(crate) fn name_report(alloc: Global, report: Report) -> Decision
+    ensures { result ≡ decided (Made (answer_only (answer.Report report []))) }
+{
+    let text = Sequence::from(Vec::new(alloc));
+    answer_only(alloc, Answer::Report { report, text })
+}
+
+/// Returns the decision with this answer that changes nothing.
+fn answer_only(alloc: Global, answer: Answer) -> Decision
     ensures { result ≡ decided (Made (answer_only answer)) }
 {
     made_with(answer, Vec::new(alloc))

@@ -5,8 +5,8 @@ ghost use Rattle.agv_desk.specs.Sizes.{IsOfSize};
 use agv_header::limits::{MAX_TRIP_ACTS, MAX_TRIP_EDGES};
 use agv_order::Trip;
 
-/// Whether the trip, if there is one, has the sizes of a well-formed one: so has each of a lawful world. A call that looks
-/// at how a trip goes on answers `Limit` to a larger one, of which its clause says nothing.
+/// Returns whether the trip, if there is one, is no larger than a well-formed one, as each trip of a lawful world is. A
+/// call that looks at a larger trip answers `Limit`, of which its clause says nothing.
 pub(crate) fn is_of_size(trip: &Option<Trip>) -> bool
     ensures { IsTrue result ↔ IsOfSize trip.now }
 {

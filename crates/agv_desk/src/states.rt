@@ -1,12 +1,12 @@
-//! The states that vehicles send.
+//! The call that takes a vehicle's state.
 ghost use Rattle.std.specs.Prelude.{◌≡◌, ◌++◌, IfOk, List, ℕ, Some, is_some, map};
 ghost use Rattle.std.specs.List.{zip};
 ghost use Rattle.agv_track.specs.Progressed.{progressed};
 ghost use Rattle.agv_track.specs.Reports.{renewed};
-ghost use Rattle.agv_world.specs.Asks.{Asks};
-ghost use Rattle.agv_world.specs.Questions.{trip_of};
-ghost use Rattle.agv_world.specs.VehicleChanges.{vehicle_changes};
-ghost use Rattle.agv_world.specs.declared.change.Change.TheVariants as change;
+ghost use Rattle.agv_world_core.specs.Asks.{Asks};
+ghost use Rattle.agv_world_core.specs.Questions.{trip_of};
+ghost use Rattle.agv_world_core.specs.VehicleChanges.{vehicle_changes};
+ghost use Rattle.agv_world_core.specs.declared.change.Change.TheVariants as change;
 ghost use Rattle.agv_desk.specs.ActSteps.{act_moves};
 ghost use Rattle.agv_desk.specs.Outcomes.{Move, decided};
 ghost use Rattle.agv_desk.specs.Sizes.{IsOfSize, IsShort};
@@ -19,14 +19,14 @@ use crate::sizes::is_of_size;
 use crate::vehicle_rows::push_vehicle;
 use crate::{Answer, Decision};
 use agv_header::{Memory, Name, Refusal, VehicleKey, is_fresh};
-use agv_message::{Sequence, StateMessage, Status};
+use agv_message_core::{Sequence, StateMessage, Status};
 use agv_order::{Act, Trip};
 use agv_track::{Pending, Progress, judge, judge_idle};
-use agv_world::{Change, Fault, Floor, VehicleRow};
+use agv_world_core::{Change, Fault, Floor, VehicleRow};
 use std::alloc::Global;
 
-/// A state message of a vehicle. Where the trip is larger than any of a lawful world it is refused with `Limit`, of which
-/// the clause says nothing.
+/// Takes a state message of a vehicle. A trip larger than any of a lawful world is refused with `Limit`, of
+/// which the clause says nothing.
 pub(crate) fn take_state<F: Floor>(
     alloc: Global,
     floor: &mut F,
@@ -48,7 +48,7 @@ pub(crate) fn take_state<F: Floor>(
     fresh_state(alloc, floor, key, &row, trip, state)
 }
 
-// A state that is newer than the last one.
+/// Takes a state that is newer than the last one that was accepted.
 fn fresh_state<F: Floor>(
     alloc: Global,
     floor: &mut F,
@@ -72,7 +72,8 @@ fn fresh_state<F: Floor>(
     Ok(idle_state(alloc, key, row, state)?)
 }
 
-// The state of a vehicle that has no trip, or speaks of none.
+/// Takes the state of a vehicle that has no trip, or that has not confirmed its trip yet and
+/// reports another order.
 fn idle_state(
     alloc: Global,
     key: &VehicleKey,
@@ -93,7 +94,7 @@ fn idle_state(
     }
 }
 
-// The pending action of a vehicle, which has the number of the last instantActions message.
+/// Returns the pending action of a vehicle, with the number of the last instantActions message.
 fn pending_of(row: &VehicleRow) -> Option<Pending>
     ensures { result ≡ pending_of row.now }
 {
@@ -101,7 +102,8 @@ fn pending_of(row: &VehicleRow) -> Option<Pending>
     row.pending.map(|kind| Pending { kind, number })
 }
 
-// The row of a vehicle from which the state is accepted.
+/// Returns the row of a vehicle after its state was accepted; `over` says whether its pending
+/// action is over.
 fn with_state(row: &VehicleRow, state: &StateMessage, over: bool) -> VehicleRow
     ensures { result ≡ with_state row.now state.now over }
 {
@@ -115,7 +117,7 @@ fn with_state(row: &VehicleRow, state: &StateMessage, over: bool) -> VehicleRow
     }
 }
 
-// The state of a vehicle on its trip.
+/// Takes a state of a vehicle on its trip.
 fn trip_state<F: Floor>(
     alloc: Global,
     floor: &mut F,
@@ -139,7 +141,8 @@ fn trip_state<F: Floor>(
     Ok(made_with(Answer::Accepted(true), changes))
 }
 
-// The changes of a vehicle that has driven on (`driven` of the definition), and of the loads whose acts become finished.
+/// Returns the changes of a vehicle that has driven on (`driven` of the definition), and of the loads
+/// whose acts become finished.
 fn driven_changes(
     alloc: Global,
     key: &VehicleKey,
@@ -161,7 +164,7 @@ fn driven_changes(
     Ok(changes)
 }
 
-// The row of a vehicle after a state of its trip.
+/// Returns the row of a vehicle after a state of its trip.
 fn row_after(row: &VehicleRow, trip: &Trip, state: &StateMessage, progress: &Progress) -> VehicleRow
     ensures { result ≡ row_after row.now trip.now state.now progress.now }
 {
@@ -172,7 +175,7 @@ fn row_after(row: &VehicleRow, trip: &Trip, state: &StateMessage, progress: &Pro
     }
 }
 
-// The trip after a state; none where it has ended.
+/// Returns the trip after a state, or `None` if it has ended.
 fn trip_left(alloc: Global, trip: &Trip, progress: &Progress) -> Result<Option<Trip>, Memory>
     ensures { IfOk result (λ left. left ≡ trip_left trip.now progress.now) }
 {
@@ -182,7 +185,7 @@ fn trip_left(alloc: Global, trip: &Trip, progress: &Progress) -> Result<Option<T
     Ok(Some(progressed(alloc, trip, progress)?))
 }
 
-// The trip with its progress written into it.
+/// Returns the trip with this progress.
 fn progressed(alloc: Global, trip: &Trip, progress: &Progress) -> Result<Trip, Memory>
     ensures { IfOk result (λ next. next ≡ progressed trip.now progress.now) }
 {
@@ -201,7 +204,7 @@ fn progressed(alloc: Global, trip: &Trip, progress: &Progress) -> Result<Trip, M
     })
 }
 
-// The acts with their statuses after a state.
+/// Returns the acts with these statuses.
 fn renewed(alloc: Global, acts: &[Act], statuses: &[Status]) -> Result<Vec<Act>, Memory>
     ensures { IfOk result (λ made. made.items ≡ renewed acts.now statuses.now) }
 {
@@ -215,7 +218,7 @@ fn renewed(alloc: Global, acts: &[Act], statuses: &[Status]) -> Result<Vec<Act>,
     Ok(made)
 }
 
-// Whether the vehicle has confirmed an update of its trip.
+/// Returns whether the vehicle has confirmed an update of its trip.
 fn has_confirmed(trip: &Trip) -> bool
     ensures { result ≡ is_some trip.now.confirmed }
 {

@@ -1,8 +1,8 @@
-//! Stocktakes: what was counted, against what is recorded.
+//! The stocktake: it compares what was counted with what is recorded.
 ghost use Rattle.std.specs.Prelude.{◌≡◌, ◌++◌, ◌∷◌, [], true, map, filter_map, length, IfOk};
 ghost use Rattle.agv_stock.specs.declared.place.Place.{Place as PlaceOf};
-ghost use Rattle.agv_world.specs.Asks.{Asks};
-ghost use Rattle.agv_world.specs.declared.change.Change.TheVariants as row;
+ghost use Rattle.agv_world_core.specs.Asks.{Asks};
+ghost use Rattle.agv_world_core.specs.declared.change.Change.TheVariants as row;
 ghost use Rattle.agv_desk.specs.CountParts.{count_by_parts, counted_effect, found_in, counted_loads, stations_in};
 ghost use Rattle.agv_desk.specs.Outcomes.{Made, decided};
 ghost use Rattle.agv_desk.specs.Shared.{reference_key};
@@ -28,17 +28,17 @@ use crate::stocktake::stations::counted_stations;
 use crate::{Answer, Decision};
 use agv_header::limits::MAX_RECORDS;
 use agv_header::{Memory, Name, Refusal};
-use agv_message::Sequence;
+use agv_message_core::Sequence;
 use agv_stock::Place;
-use agv_world::{Change, Counted, Fault, Floor};
+use agv_world_core::{Change, Counted, Fault, Floor};
 use std::alloc::Global;
 
-/// Takes stock: each known load that was found at a counted station is there from now on, and each one that
-/// stood there and was not found is at the checking place.
+/// Takes stock. Each known load that was found is recorded at the station where it was found; each load
+/// that was recorded at a counted station and was not found is recorded at the checking place.
 ///
-/// The floor is asked three times for each counted station, and once for each found load that stands at none of them and
-/// for each load that moves. All else takes time in proportion to the rows and to the loads at the counted stations, times
-/// the logarithm of their number.
+/// It asks the floor three questions for each counted station, one for each found load that is recorded at none of
+/// them, and one for each load that moves. Everything else takes time in proportion to the rows and to the loads at the
+/// counted stations, times the logarithm of their number.
 pub(crate) fn take_stock<F: Floor>(
     alloc: Global,
     floor: &mut F,
@@ -67,7 +67,7 @@ pub(crate) fn take_stock<F: Floor>(
     count_loads(alloc, floor, reference, &count, &counted_list)
 }
 
-// What is answered once the stations and the found loads are known.
+/// Returns the decision, after the stations and the found loads are known.
 fn count_loads<F: Floor>(
     alloc: Global,
     floor: &mut F,
@@ -93,7 +93,7 @@ fn count_loads<F: Floor>(
     Ok(counted_decision(alloc, reference, &moves, counted_list)?)
 }
 
-// What is done with these moves.
+/// Returns the effect of these moves.
 fn counted_decision(
     alloc: Global,
     reference: Name,
@@ -111,7 +111,7 @@ fn counted_decision(
     Ok(made_with(answer, changes))
 }
 
-// The loads are at their new places, and the reference is used.
+/// Returns the changes that put the loads at their new places and use the reference.
 fn changes(alloc: Global, reference: Name, moves: &[(Name, Place)]) -> Result<Vec<Change>, Memory>
     ensures { IfOk result (λ changes. changes.items ≡ map (λ move. row.Load move.0 move.1) moves.now ++ (row.Used (reference_key reference) ∷ [])) }
 {

@@ -1,8 +1,8 @@
-//! The call that releases more of an order.
+//! The call that releases more edges of an order.
 ghost use Rattle.std.specs.Prelude.{◌≡◌, ◌+◌, ◌==◌, IfOk, if◌then◌else◌};
 ghost use Rattle.agv_order.specs.Releases.{released};
-ghost use Rattle.agv_world.specs.Asks.{Asks};
-ghost use Rattle.agv_world.specs.Questions.{trip_of};
+ghost use Rattle.agv_world_core.specs.Asks.{Asks};
+ghost use Rattle.agv_world_core.specs.Questions.{trip_of};
 ghost use Rattle.agv_desk.specs.OrderSteps.{advance, can_release, is_last_confirmed, send_update, take_update, trip_for, update_sent};
 ghost use Rattle.agv_desk.specs.Outcomes.{Made, decided};
 ghost use Rattle.agv_desk.specs.Sizes.{IsOfSize, IsShort};
@@ -14,12 +14,13 @@ use crate::sizes::is_of_size;
 use crate::vehicle_rows::push_vehicle;
 use crate::{Answer, Decision};
 use agv_header::{Memory, Moment, Name, Refusal, VehicleKey, next_number};
-use agv_holds::{Standing, footprint};
 use agv_order::Trip;
-use agv_world::{Fault, Floor};
+use agv_track_holds::{Standing, footprint};
+use agv_world_core::{Fault, Floor};
 use std::alloc::Global;
 
-/// Releases this many edges more of an open order.
+/// Releases this many more edges of an open order. A trip larger than any of a lawful world is
+/// refused with `Limit`, of which the clause says nothing.
 pub(crate) fn advance<F: Floor>(
     alloc: Global,
     floor: &mut F,
@@ -45,7 +46,7 @@ pub(crate) fn advance<F: Floor>(
     take_update(alloc, floor, &to, trip, update, edges)
 }
 
-// The open trip, where it is that of this order.
+/// Returns the open trip if it is of this order.
 fn trip_for(found: Option<Trip>, order: &Name) -> Option<Trip>
     ensures trip { result ≡ trip_for found order.now }
     ensures size { IsOfSize found → IsOfSize result }
@@ -56,7 +57,7 @@ fn trip_for(found: Option<Trip>, order: &Name) -> Option<Trip>
     }
 }
 
-// It is sent, where the vehicle can take it.
+/// Sends the update, if it is the next one and the vehicle can take it.
 fn take_update<F: Floor>(
     alloc: Global,
     floor: &mut F,
@@ -83,21 +84,21 @@ fn take_update<F: Floor>(
     send_update(alloc, floor, to, trip, update, edges)
 }
 
-// Whether the update is the one after the last that was sent.
+/// Returns whether the update follows the last one that was sent.
 fn is_next(update: u32, sent: u32) -> bool
     ensures { result ≡ (update == sent + 1) }
 {
     sent.checked_add(1) == Some(update)
 }
 
-// Whether the vehicle has confirmed the last update that was sent.
+/// Returns whether the vehicle has confirmed the last update that was sent.
 fn is_last_confirmed(confirmed: Option<u32>, sent: u32) -> bool
     ensures { result ≡ is_last_confirmed confirmed sent }
 {
     confirmed == Some(sent)
 }
 
-// It is sent, where what the vehicle is to hold is free.
+/// Sends the update, if it stays on the way and no other vehicle holds part of the new footprint.
 fn send_update<F: Floor>(
     alloc: Global,
     floor: &mut F,
@@ -124,7 +125,7 @@ fn send_update<F: Floor>(
     Ok(update_sent(alloc, to, Some(trip), next, update, number)?)
 }
 
-// The trip with more of it released; none where so much can't be.
+/// Returns the trip with this many more edges released, or `None` if that is not possible.
 fn release(trip: &Trip, edges: u32) -> Result<Option<Trip>, Memory>
     requires { IsOfSize (Some trip.now) }
     ensures { IfOk result (λ next. next ≡ (if can_release trip.now edges then Some (released trip.now edges) else None)) }
@@ -136,7 +137,7 @@ fn release(trip: &Trip, edges: u32) -> Result<Option<Trip>, Memory>
     }
 }
 
-// This update is sent: the trip has this much released.
+/// Returns the effect of sending this update of the trip.
 fn update_sent(
     alloc: Global,
     to: &Addressee<'_>,

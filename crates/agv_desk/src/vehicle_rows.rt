@@ -1,20 +1,20 @@
-//! The changes that give a vehicle, its order and its rest their rows.
+//! The changes of the rows of a vehicle, its trip and its holds.
 ghost use Rattle.std.specs.Prelude.{◌≡◌, ◌≤◌, ◌++◌, Some, length, IfOk, OnOk};
-ghost use Rattle.agv_holds.specs.Footprints.{footprint_of};
-ghost use Rattle.agv_world.specs.Maps.{trip_row};
-ghost use Rattle.agv_world.specs.SameRows.{same_row, same_trip_row};
-ghost use Rattle.agv_world.specs.VehicleChanges.{hold_changes, leg_removals, leg_writes, own_changes, trip_changes};
+ghost use Rattle.agv_track_holds.specs.Footprints.{footprint_of};
+ghost use Rattle.agv_world_core.specs.Maps.{trip_row};
+ghost use Rattle.agv_world_core.specs.SameRows.{same_row, same_trip_row};
+ghost use Rattle.agv_world_core.specs.VehicleChanges.{hold_changes, leg_removals, leg_writes, own_changes, trip_changes};
 ghost use Rattle.agv_desk.specs.Sizes.{IsShort};
 
 use crate::holds::push_holds;
 use agv_header::{Memory, Name, VehicleKey};
-use agv_holds::{Standing, footprint};
 use agv_layout::Edge;
 use agv_order::Trip;
-use agv_world::{Change, LegKey, TripRow, VehicleRow};
+use agv_track_holds::{Standing, footprint};
+use agv_world_core::{Change, LegKey, TripRow, VehicleRow};
 use std::alloc::Global;
 
-/// Pushes the changes of a vehicle: its row, its trip with the edges, and what it holds, each where it changes.
+/// Pushes the changes of a vehicle's row, its trip with the edges, and its holds, as far as they change.
 pub(crate) fn push_vehicle(
     alloc: Global,
     key: &VehicleKey,
@@ -35,7 +35,7 @@ pub(crate) fn push_vehicle(
     push_holds(key, &held, &holds, changes)
 }
 
-/// Pushes the change of the row of a vehicle, where there is one.
+/// Pushes the change of a vehicle's row, if the row changes.
 pub(crate) fn push_row(
     key: &VehicleKey,
     old: &VehicleRow,
@@ -50,14 +50,14 @@ pub(crate) fn push_row(
     Ok(())
 }
 
-// Whether the row of a vehicle stays as it was.
+/// Returns whether the row of a vehicle is unchanged.
 fn same_row(old: &VehicleRow, new: &VehicleRow) -> bool
     ensures { result ≡ same_row old.now new.now }
 {
     *old == *new
 }
 
-// Pushes the changes of a trip that begins, ends or goes on.
+/// Pushes the changes of a trip that begins, ends or goes on. One that goes on keeps its order and its edges.
 fn push_trip(
     key: &VehicleKey,
     old: &Option<Trip>,
@@ -86,7 +86,7 @@ fn push_trip(
     }
 }
 
-// The row of a trip.
+/// Returns the row of a trip.
 fn trip_row(key: &VehicleKey, trip: &Trip) -> Result<TripRow, Memory>
     ensures { IfOk result (λ made. made ≡ trip_row key.now trip.now) }
 {
@@ -102,7 +102,7 @@ fn trip_row(key: &VehicleKey, trip: &Trip) -> Result<TripRow, Memory>
     })
 }
 
-// Pushes the change of a row for each edge of a trip.
+/// Pushes the changes that write a row for each edge of a trip.
 fn push_legs(order: &Name, edges: &[Edge], changes: &mut Vec<Change>) -> Result<(), Memory>
     requires { length edges.now ≤ 200 }
     ensures { OnOk result (changes.new.items ≡ changes.old.items ++ leg_writes order.now edges.now) }
@@ -117,7 +117,7 @@ fn push_legs(order: &Name, edges: &[Edge], changes: &mut Vec<Change>) -> Result<
     Ok(())
 }
 
-// Removes the rows of the edges of a trip.
+/// Pushes the changes that remove the rows of the edges of a trip.
 fn remove_legs(order: &Name, edges: &[Edge], changes: &mut Vec<Change>) -> Result<(), Memory>
     requires { length edges.now ≤ 200 }
     ensures { OnOk result (changes.new.items ≡ changes.old.items ++ leg_removals order.now edges.now) }
@@ -132,7 +132,7 @@ fn remove_legs(order: &Name, edges: &[Edge], changes: &mut Vec<Change>) -> Resul
     Ok(())
 }
 
-// Whether the row of a trip stays as it was.
+/// Returns whether the row of a trip is unchanged.
 fn same_trip_row(old: &Trip, new: &Trip) -> bool
     ensures { result ≡ same_trip_row old.now new.now }
 {

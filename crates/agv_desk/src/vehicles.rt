@@ -1,7 +1,7 @@
-//! The calls about a vehicle: it is registered, placed by a person, or resynced.
+//! The calls about a vehicle: register it, place it by a person, or resync it.
 ghost use Rattle.std.specs.Prelude.{◌≡◌, ◌++◌, ◌&&◌, nat_le, nat_lt, IfOk, None};
-ghost use Rattle.agv_world.specs.Asks.{Asks};
-ghost use Rattle.agv_world.specs.Questions.{trip_of};
+ghost use Rattle.agv_world_core.specs.Asks.{Asks};
+ghost use Rattle.agv_world_core.specs.Questions.{trip_of};
 ghost use Rattle.agv_desk.specs.Outcomes.{Made, decided};
 ghost use Rattle.agv_desk.specs.Sizes.{IsOfSize};
 ghost use Rattle.agv_desk.specs.VehicleSteps.{new_vehicle, none_sent, place_vehicle, placed, put_down, register_vehicle, vehicle_registered, resync};
@@ -16,10 +16,10 @@ use crate::{Answer, Decision};
 use agv_header::limits::{MAX_RECORDS, MAX_VEHICLES};
 use agv_header::{Memory, Moment, Name, Refusal, Thing, VehicleKey};
 use agv_order::Trip;
-use agv_world::{Change, Counted, Fault, Floor, Sent, VehicleRow};
+use agv_world_core::{Change, Counted, Fault, Floor, Sent, VehicleRow};
 use std::alloc::Global;
 
-/// Registers a vehicle that stands at a node.
+/// Registers a vehicle at a node.
 pub(crate) fn register_vehicle<F: Floor>(
     alloc: Global,
     floor: &mut F,
@@ -46,15 +46,15 @@ pub(crate) fn register_vehicle<F: Floor>(
     Ok(vehicle_registered(alloc, key, node, capacity)?)
 }
 
-// Whether a vehicle may be built for this many loads.
+/// Returns whether a vehicle may have this capacity.
 fn may_carry(capacity: u32, seats: u32) -> bool
     ensures { result ≡ (nat_lt 0 capacity && nat_le capacity seats) }
 {
     0 < capacity && capacity <= seats
 }
 
-// A vehicle is registered that is new: its row, and that it holds its node.
-#[tactic(auto, unfolding(agv_holds::specs::Footprints::footprint_of, crate::specs::Outcomes::decided))]
+/// Returns the effect of registering a new vehicle: its row is written, and it holds its node.
+#[tactic(auto, unfolding(agv_track_holds::specs::Footprints::footprint_of, crate::specs::Outcomes::decided))]
 fn vehicle_registered(
     alloc: Global,
     key: &VehicleKey,
@@ -69,7 +69,7 @@ fn vehicle_registered(
     Ok(made_with(Answer::Done, changes))
 }
 
-// The row of a vehicle that is new.
+/// Returns the row of a new vehicle.
 fn new_vehicle(capacity: u32, node: Name) -> VehicleRow
     ensures { result ≡ (new_vehicle capacity node).row }
 {
@@ -87,7 +87,7 @@ fn new_vehicle(capacity: u32, node: Name) -> VehicleRow
     }
 }
 
-// No message of a topic was sent.
+/// Returns the counter of a topic of which no message was sent.
 fn none_sent() -> Sent
     ensures { result ≡ none_sent }
 {
@@ -97,7 +97,8 @@ fn none_sent() -> Sent
     }
 }
 
-/// A person has put the vehicle on this node.
+/// Places the vehicle at this node, where a person has put it. A trip larger than any of a lawful
+/// world is refused with `Limit`, of which the clause says nothing.
 pub(crate) fn place_vehicle<F: Floor>(
     alloc: Global,
     floor: &mut F,
@@ -129,7 +130,7 @@ pub(crate) fn place_vehicle<F: Floor>(
     put_down(alloc, floor, key, &row, trip, reference, node)
 }
 
-// The vehicle stands where it was put, and its trip, if it has one, ends.
+/// Places the vehicle at the node, and ends its open trip, if it has one.
 fn put_down<F: Floor>(
     alloc: Global,
     floor: &mut F,
@@ -152,7 +153,7 @@ fn put_down<F: Floor>(
     Ok(made_with(Answer::Done, changes))
 }
 
-// The row of a vehicle that a person has put on a node.
+/// Returns the row of a vehicle after a person has put it on a node.
 fn placed(row: &VehicleRow, node: Name) -> VehicleRow
     ensures { result ≡ (placed row.now node).row }
 {
@@ -164,7 +165,7 @@ fn placed(row: &VehicleRow, node: Name) -> VehicleRow
     }
 }
 
-/// Forgets the number of the vehicle's last state, for a vehicle that counts from the start again.
+/// Forgets the `headerId` of the vehicle's last state, for a vehicle that counts from the start again.
 pub(crate) fn resync<F: Floor>(
     alloc: Global,
     floor: &mut F,
@@ -178,7 +179,7 @@ pub(crate) fn resync<F: Floor>(
     Ok(row_update(alloc, Answer::Done, key, &row, without_last_state(&row))?)
 }
 
-// The row of a vehicle whose last state is forgotten.
+/// Returns the row without the `headerId` of the last state.
 fn without_last_state(row: &VehicleRow) -> VehicleRow
     ensures { result ≡ record row.now { last_header = None } }
 {

@@ -4,12 +4,12 @@ use Rattle.std.specs.Io.KnownBytes.{Appends, Keeps}
 use Rattle.std.proofs.KnownBytes.{Appends-trans, Consumes-kept}
 use Rattle.sqlite_trees.specs.declared.store.Store.{Ghosts}
 use Rattle.agv_header.specs.declared.refusal.Refusal.{Refusal}
-use Rattle.agv_http.specs.request.Cut.{Cut, at_end, closed, faulty}
-use Rattle.agv_http.specs.request.Fronts.{IsSoFar}
-use Rattle.agv_http.specs.Output.{calls_of, refusal_text}
-use Rattle.agv_http.specs.request.Requests.{Request}
-use Rattle.agv_http.specs.StreamEnds.{HasCallNext, HasMachineFault, IsOfMachine}
-use Rattle.agv_keyed_floor.specs.Floors.{Keyed}
+use Rattle.agv_face_http.specs.request.Cut.{Cut, at_end, closed, faulty}
+use Rattle.agv_face_http.specs.request.Fronts.{IsSoFar}
+use Rattle.agv_face_http.specs.Output.{calls_of, refusal_text}
+use Rattle.agv_face_http.specs.request.Requests.{Request}
+use Rattle.agv_face_http.specs.StreamEnds.{HasCallNext, HasMachineFault, IsOfMachine}
+use Rattle.agv_store_floor.specs.Floors.{Keyed}
 use Rattle.agv_face.specs.StreamCalls.{AreDone, AreDoneOrCut, AreDoneOrNext}
 use Rattle.agv_face.specs.StreamEnd.{IsCounted}
 use Rattle.agv_face.specs.CountingIo.{inner_of}

@@ -4,22 +4,22 @@ use Rattle.std.specs.Io.KnownBytes.{Appends, Keeps}
 use Rattle.sqlite_trees.specs.declared.store.Store.{Ghosts}
 use Rattle.agv_header.specs.declared.refusal.Refusal.{Refusal}
 use Rattle.agv_header.specs.declared.refusal.Refusal.TheVariants as refusal
-use Rattle.agv_world.specs.Asks.{failed_by}
-use Rattle.agv_http.specs.request.Lines.{Length, absent, content_length, given, has_line, wrong}
-use Rattle.agv_http.specs.Output.{calls_of}
-use Rattle.agv_http.specs.request.Requests.{IsFault, length_needed, lines_of, most_body, sends_body}
-use Rattle.agv_http.specs.StreamEnds.{HasCallNext, HasMachineFault, HasRequestNext, IsOfMachine}
-use Rattle.agv_http.specs.declared.request.heard.Heard.TheVariants as heard
-use Rattle.agv_keyed_floor.specs.Floors.{Keyed, Knows, world_at}
-use Rattle.agv_schema.specs.Connections.{IsClean, IsOpen}
-use Rattle.agv_world.specs.declared.fault.Fault.{Fault}
-use Rattle.agv_world.specs.declared.fault.Fault.TheVariants as machine
+use Rattle.agv_world_core.specs.Asks.{failed_by}
+use Rattle.agv_face_http.specs.request.Lines.{Length, absent, content_length, given, has_line, wrong}
+use Rattle.agv_face_http.specs.Output.{calls_of}
+use Rattle.agv_face_http.specs.request.Requests.{IsFault, length_needed, lines_of, most_body, sends_body}
+use Rattle.agv_face_http.specs.StreamEnds.{HasCallNext, HasMachineFault, HasRequestNext, IsOfMachine}
+use Rattle.agv_face_http.specs.declared.request.heard.Heard.TheVariants as heard
+use Rattle.agv_store_floor.specs.Floors.{Keyed, Knows, world_at}
+use Rattle.agv_store_schema.specs.Connections.{IsClean, IsOpen}
+use Rattle.agv_world_core.specs.declared.fault.Fault.{Fault}
+use Rattle.agv_world_core.specs.declared.fault.Fault.TheVariants as machine
 use Rattle.agv_face.specs.Bytes.{IsCut, IsPutWhole, IsRead}
 use Rattle.agv_face.specs.StreamEnd.{IsCounted, IsStreamEnd, failed_at_end, most_reads}
 use Rattle.sqlite.specs.Held.{state}
 use Rattle.sqlite.specs.State.{Survives}
-use Rattle.agv_http.specs.request.Cut.{Cut, faulty}
-use Rattle.agv_http.specs.request.Fronts.{HasNext}
+use Rattle.agv_face_http.specs.request.Cut.{Cut, faulty}
+use Rattle.agv_face_http.specs.request.Fronts.{HasNext}
 use Rattle.agv_face.specs.Nexts.{IsNext, IsNextFault, LeavesNext}
 use Rattle.agv_face.specs.StreamCalls.{AreDone, AreDoneOrNext}
 use Rattle.agv_face.specs.Refusals.{IsRefused, refusal_for}

@@ -5,17 +5,17 @@ use Rattle.std.proofs.KnownBytes.{Appends-nil, Consumes-nil, Consumes-trans}
 use Rattle.sqlite_trees.specs.declared.store.Store.{Ghosts}
 use Rattle.agv_header.specs.declared.refusal.Refusal.{Refusal}
 use Rattle.agv_header.specs.declared.refusal.Refusal.TheVariants as refusal
-use Rattle.agv_http.specs.request.Cut.{Cut, at_end, no_more}
-use Rattle.agv_http.specs.request.Fronts.{Begins, GoesOnBy, HasNext}
-use Rattle.agv_http.specs.request.Heard.{HasRequest}
-use Rattle.agv_http.specs.Output.{answers_to, calls_of, world_after}
-use Rattle.agv_http.specs.request.Requests.{Request}
-use Rattle.agv_http.specs.StreamEnds.{HasCallNext, HasMachineFault, HasRequestNext, IsOfMachine}
-use Rattle.agv_http.specs.declared.request.heard.RequestRef.{RequestRef}
-use Rattle.agv_keyed_floor.specs.Floors.{Keyed, world_at}
-use Rattle.agv_schema.specs.SchemaNumbers.{desk_seats}
-use Rattle.agv_schema.specs.Connections.{IsClean}
-use Rattle.agv_world.specs.Worlds.{World}
+use Rattle.agv_face_http.specs.request.Cut.{Cut, at_end, no_more}
+use Rattle.agv_face_http.specs.request.Fronts.{Begins, GoesOnBy, HasNext}
+use Rattle.agv_face_http.specs.request.Heard.{HasRequest}
+use Rattle.agv_face_http.specs.Output.{answers_to, calls_of, world_after}
+use Rattle.agv_face_http.specs.request.Requests.{Request}
+use Rattle.agv_face_http.specs.StreamEnds.{HasCallNext, HasMachineFault, HasRequestNext, IsOfMachine}
+use Rattle.agv_face_http.specs.declared.request.heard.RequestRef.{RequestRef}
+use Rattle.agv_store_floor.specs.Floors.{Keyed, world_at}
+use Rattle.agv_store_schema.specs.SchemaNumbers.{desk_seats}
+use Rattle.agv_store_schema.specs.Connections.{IsClean}
+use Rattle.agv_world_core.specs.Worlds.{World}
 use Rattle.agv_face.specs.Bytes.{IsRead}
 use Rattle.agv_face.specs.StreamEnd.{IsInput}
 use Rattle.agv_face.specs.Replies.{IsLaterDesk, call_of_lent}

@@ -3,20 +3,20 @@ use Rattle.std.proofs.Common.{◌≡◌, ℕ, Bool, true, false, List, [], ◌�
 use Rattle.std.specs.Io.KnownBytes.{Consumes, IsAtEnd}
 use Rattle.std.specs.List.{cons_option}
 use Rattle.agv_desk.specs.Outcomes.{Outcome, after, answer_of}
+use Rattle.agv_desk.specs.Reports.{served}
 use Rattle.agv_desk.specs.declared.call.Call.{Call}
 use Rattle.agv_header.specs.declared.refusal.Refusal.{Refusal}
-use Rattle.agv_http.specs.answers.Answers.{answer_text}
-use Rattle.agv_http.specs.request.Cut.{Cut, at_end}
-use Rattle.agv_http.specs.request.Fronts.{GoesOn}
-use Rattle.agv_http.specs.request.Heard.{Follows, IsHeard, IsLent}
-use Rattle.agv_http.specs.Output.{answer_to, answers_to, timed_call, call_of_routed, call_of_request, calls_of, outcome_by, outcome_for, world_after}
-use Rattle.agv_http.specs.request.Requests.{Request}
-use Rattle.agv_http.specs.routing.Table.{route_at}
-use Rattle.agv_http.specs.declared.request.heard.Heard.{Heard}
-use Rattle.agv_http.specs.declared.request.heard.RequestRef.{RequestRef}
-use Rattle.agv_reports.specs.Reports.{report_of}
-use Rattle.agv_schema.specs.SchemaNumbers.{desk_seats}
-use Rattle.agv_world.specs.Worlds.{World}
+use Rattle.agv_face_http.specs.answers.Answers.{answer_text}
+use Rattle.agv_face_http.specs.request.Cut.{Cut, at_end}
+use Rattle.agv_face_http.specs.request.Fronts.{GoesOn}
+use Rattle.agv_face_http.specs.request.Heard.{Follows, IsHeard, IsLent}
+use Rattle.agv_face_http.specs.Output.{answer_to, answers_to, timed_call, call_of_routed, call_of_request, calls_of, outcome_by, outcome_for, world_after}
+use Rattle.agv_face_http.specs.request.Requests.{Request}
+use Rattle.agv_face_http.specs.routing.Table.{route_at}
+use Rattle.agv_face_http.specs.declared.request.heard.Heard.{Heard}
+use Rattle.agv_face_http.specs.declared.request.heard.RequestRef.{RequestRef}
+use Rattle.agv_store_schema.specs.SchemaNumbers.{desk_seats}
+use Rattle.agv_world_core.specs.Worlds.{World}
 use Rattle.agv_face.specs.Replies.{call_of_lent, text_for}
 
 -- ---- the laws that are cited
@@ -56,7 +56,7 @@ outcome_is world at request lent is =
 
 text_is : (world : World) (at : ℕ) (request : Request) (lent : RequestRef) → IsLent request lent → text_for world at lent ≡ answer_to desk_seats world at request
 text_is world at request lent is =
-    ap₂ (λ (o : Outcome) (close : Bool). answer_text (answer_of o) (report_of world (answer_of o)) close) (outcome_is world at request lent is) is.close
+    ap₂ (λ (o : Outcome) (close : Bool). answer_text (served world (answer_of o)) close) (outcome_is world at request lent is) is.close
 
 -- ---- no request, one, and one behind others
 

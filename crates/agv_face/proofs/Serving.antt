@@ -1,5 +1,5 @@
--- A call is served, and then its report is asked for.
-use Rattle.std.proofs.Common.{◌≡◌, ◌≤◌, ◌⊎◌, ℕ, Bool, true, false, List, [], length, Result, Ok, Err, OnErr, OnOk, inl, inr, refl, sym, ap, ◌∙◌, subst, arith}
+-- What one request leaves of a desk, and what is answered.
+use Rattle.std.proofs.Common.{◌≡◌, ◌≤◌, ◌⊎◌, ℕ, Bool, true, false, List, length, Result, Ok, Err, IfOk, OnErr, OnOk, inl, inr, refl, sym, ap, ◌∙◌, subst, arith}
 use Rattle.std.proofs.lemmas.Bool.{both_ways}
 use Rattle.sqlite.specs.Effect.{Database}
 use Rattle.sqlite.specs.Held.{Held, state}
@@ -7,131 +7,124 @@ use Rattle.sqlite.specs.State.{State, Survives}
 use Rattle.sqlite_trees.specs.Tree.{Trees}
 use Rattle.sqlite_trees.specs.declared.store.Store.{Ghosts}
 use Rattle.agv_desk.specs.Outcomes.{after, answer_of}
+use Rattle.agv_desk.specs.Reports.{served}
 use Rattle.agv_desk.specs.Step.{step}
 use Rattle.agv_desk.specs.Unchanged.{ChangesNothing, only_tells}
 use Rattle.agv_desk.specs.declared.answer.Answer.{Answer}
 use Rattle.agv_desk.specs.declared.answer.Answer.TheVariants as answer
 use Rattle.agv_desk.specs.declared.call.Call.{Call}
 use Rattle.agv_header.specs.declared.refusal.Refusal.{Refusal}
-use Rattle.agv_http.specs.answers.Answers.{answer_text}
-use Rattle.agv_http.specs.bodies.BodyCalls.{call_of_body}
-use Rattle.agv_http.specs.Output.{call_of_routed, outcome_by}
-use Rattle.agv_http.specs.request.Requests.{most_body}
-use Rattle.agv_http.specs.answers.Sizes.{is_outcome, most_answer}
-use Rattle.agv_http.specs.routing.Table.{route_at}
-use Rattle.agv_http.specs.declared.request.heard.RequestRef.{RequestRef}
-use Rattle.agv_http.specs.declared.routing.route.Route.{Route}
-use Rattle.agv_reports.specs.Reports.{names_report, report_of}
-use Rattle.agv_keyed_floor.specs.Floors.{Keyed, Knows, world_at}
-use Rattle.agv_store.specs.Serving.{LeavesCall, world_after}
-use Rattle.agv_row_queries.specs.WorldAnswers.{HasWorld}
-use Rattle.agv_schema.proofs.Later.{later_refl, later_trans}
-use Rattle.agv_table_reading.specs.WorldIn.{world_in}
-use Rattle.agv_schema.specs.DeskRows.{Placing}
-use Rattle.agv_schema.specs.SchemaNumbers.{desk_seats}
-use Rattle.agv_world.specs.Worlds.{World}
-use Rattle.agv_http.specs.request.Heard.{IsHeard}
-use Rattle.agv_http.specs.declared.request.heard.Heard.TheVariants as heard
-use Rattle.agv_world.specs.declared.fault.Fault.{Fault}
-use Rattle.agv_world.specs.declared.fault.Fault.TheVariants as machine
+use Rattle.agv_face_http.specs.answers.Answers.{answer_text}
+use Rattle.agv_face_http.specs.bodies.BodyCalls.{call_of_body}
+use Rattle.agv_face_http.specs.Output.{call_of_routed, outcome_by}
+use Rattle.agv_face_http.specs.request.Requests.{most_body}
+use Rattle.agv_face_http.specs.answers.Sizes.{most_answer}
+use Rattle.agv_face_http.specs.routing.Table.{route_at}
+use Rattle.agv_face_http.specs.declared.request.heard.RequestRef.{RequestRef}
+use Rattle.agv_face_http.specs.declared.routing.route.Route.{Route}
+use Rattle.agv_store_floor.specs.Floors.{Keyed, Knows, world_at}
+use Rattle.agv_store.specs.Serving.{IsServedBy, LeavesAll, LeavesCall}
+use Rattle.agv_store_floor.specs.Flags.{EndsAs}
+use Rattle.agv_store_schema.specs.Connections.{IsClean}
+use Rattle.agv_world_core.specs.Asks.{failed_by}
+use Rattle.agv_store_read.specs.WorldAnswers.{HasWorld}
+use Rattle.agv_store_schema.proofs.Later.{later_refl, later_trans}
+use Rattle.agv_store_read_tables.specs.WorldIn.{world_in}
+use Rattle.agv_store_schema.specs.DeskRows.{Placing}
+use Rattle.agv_store_schema.specs.SchemaNumbers.{desk_seats}
+use Rattle.agv_world_core.specs.Worlds.{World}
+use Rattle.agv_face_http.specs.request.Heard.{IsHeard}
+use Rattle.agv_face_http.specs.declared.request.heard.Heard.TheVariants as heard
+use Rattle.agv_world_core.specs.declared.fault.Fault.{Fault}
+use Rattle.agv_world_core.specs.declared.fault.Fault.TheVariants as machine
 use Rattle.agv_face.specs.Nexts.{IsNextFault}
 use Rattle.agv_face.specs.Replies.{ComesOfCall, IsCallAnswered, IsLaterDesk, IsReached, LeavesRequest, call_of_lent}
-use Rattle.agv_face.specs.declared.reply.Reply.{Reply}
 
 -- ---- the laws that are cited
 
 abbrev pub DatabaseTells : Type 0
 DatabaseTells = (desk : Placing) (db : Database) (world : World) → HasWorld desk db world → world_in db ≡ world
 
-abbrev pub TellsOutcomes : Type 0
-TellsOutcomes = (seats : ℕ) (world : World) (at : ℕ) (made : Call) → only_tells made ≡ false → is_outcome (answer_of (step seats world at made)) ≡ true
-
 abbrev pub TellsWithoutChange : Type 0
 TellsWithoutChange = (seats : ℕ) (world : World) (at : ℕ) (call : Call) → only_tells call ≡ true → ChangesNothing world (step seats world at call)
-
-abbrev pub GivesNamed : Type 0
-GivesNamed = (world : World) (told : Answer) → names_report told ≡ false → report_of world told ≡ []
 
 -- ---- a world that is known
 
 pub world_known : {S : Type 0} (g : Ghosts S) (held : Held S) (world : World) → DatabaseTells → Knows g held world → world_at g held ≡ world
 world_known g held world tells knows = tells knows.at (state g held).now world knows.has
 
--- ---- a call that is answered by a report only tells
+-- ---- a call is served
 
-names_none : (told : Answer) → is_outcome told ≡ true → names_report told ≡ false
-names_none (answer.Refused r) is = refl
-names_none answer.Done is = refl
-names_none (answer.Update n) is = refl
-names_none (answer.Instructed n) is = refl
-names_none (answer.Accepted accepted) is = refl
-names_none answer.NoMessage is = refl
-names_none (answer.Counted moved unknown) is = refl
-names_none (answer.Order header order) is = refl
-names_none (answer.Instant header instant) is = refl
-names_none (answer.Load load place job) is = refl
-names_none (answer.Vehicle key row order) is = refl
-names_none answer.StockReport is = absurd (let e : false ≡ true = is in cc)
-names_none answer.HoldReport is = absurd (let e : false ≡ true = is in cc)
-names_none answer.LoadsExport is = absurd (let e : false ≡ true = is in cc)
+had_worked : (b : Bool) → (b ≡ true → ⊥) → b ≡ false
+had_worked true never = absurd (never refl)
+had_worked false never = refl
 
-module _ (outcomes : TellsOutcomes) (changes_none : TellsWithoutChange) (gives : GivesNamed) (world : World) (at : ℕ) (call : Call) (told : Answer) (is : told ≡ answer_of (step desk_seats world at call)) where
-  only_asks : names_report told ≡ true → (b : Bool) → only_tells call ≡ b → b ≡ true
-  only_asks named true same = refl
-  only_asks named false same =
-      let none : names_report told ≡ false = names_none told (let Outcome : Answer → Type 0 = λ a. is_outcome a ≡ true in subst Outcome (sym is) (outcomes desk_seats world at call same)) in
-      absurd (both_ways (names_report told) none named)
+module _ {S : Type 0} (g : Ghosts S) (old new : Keyed S) (at : ℕ) (call : Call) where
+  call_answered : DatabaseTells → (answer : Answer) → IsServedBy g old.held new.held at call answer → IsCallAnswered (world_at g old.held) (world_at g new.held) at (Ok call) answer
+  call_answered tells answer served = record { answer_is = served.answer_is; world_is = world_known g new.held _ tells served.knows }
 
-  pub stays : names_report told ≡ true → world_after world at call ≡ world
-  stays named = (changes_none desk_seats world at call (only_asks named (only_tells call) refl)).0
+  pub answered : DatabaseTells → (r : Result Answer Fault) → IfOk r (IsServedBy g old.held new.held at call) → IfOk r (IsCallAnswered (world_at g old.held) (world_at g new.held) at (Ok call))
+  answered tells (Ok answer) served = call_answered tells answer served
+  answered tells (Err why) served = tt
 
-  by_name : (b : Bool) → names_report told ≡ b → report_of (world_after world at call) told ≡ report_of world told
-  by_name true named = ap (λ (w : World). report_of w told) (stays named)
-  by_name false named = gives (world_after world at call) told named ∙ sym (gives world told named)
+  pub world_left : (r : Result Answer Fault) → OnErr r (LeavesAll g old.held new.held) → OnErr r (world_at g new.held ≡ world_at g old.held)
+  world_left (Ok answer) left = tt
+  world_left (Err why) left = ap world_in left
 
-  pub same_report : report_of (world_after world at call) told ≡ report_of world told
-  same_report = by_name (names_report told) refl
+  pub failed_so : (r : Result Answer Fault) → EndsAs r new.failed → (old.failed ≡ true → new.failed ≡ true) → new.failed ≡ failed_by r old.failed
+  failed_so (Ok answer) ends fails = ends ∙ sym (had_worked old.failed (λ failed. both_ways new.failed ends (fails failed)))
+  failed_so (Err machine.Memory) ends fails = ends ∙ sym (had_worked old.failed (λ failed. both_ways new.failed ends (fails failed)))
+  failed_so (Err machine.Storage) ends fails = ends
+
+  reached_one : DatabaseTells → (answer : Answer) → Knows g old.held (world_at g old.held) → IsServedBy g old.held new.held at call answer
+      → Knows g old.held (world_at g old.held) × Knows g new.held (world_at g new.held)
+  reached_one tells answer knew served = (knew, subst (λ (world : World). Knows g new.held world) (sym (world_known g new.held _ tells served.knows)) served.knows)
+
+  pub reached : DatabaseTells → (r : Result Answer Fault) → (IsClean g new.held → OnOk r (Knows g old.held (world_at g old.held))) → (IsClean g new.held → IfOk r (IsServedBy g old.held new.held at call))
+      → OnOk r (IsReached g old new (Ok call))
+  reached tells (Ok answer) knew served = λ clean. reached_one tells answer (knew clean) (served clean)
+  reached tells (Err why) knew served = tt
 
 -- ---- a request that is refused before it is a call
 
-pub refused_so : (world : World) (at : ℕ) (call : Result Call Refusal) (why : Refusal) (reply : Reply) → call ≡ Err why → reply.answer ≡ answer.Refused why → reply.report.items ≡ [] → IsCallAnswered world world at call reply
+pub refused_so : (world : World) (at : ℕ) (call : Result Call Refusal) (why : Refusal) (told : Answer) → call ≡ Err why → told ≡ answer.Refused why → IsCallAnswered world world at call told
 unfolding answer_of after
-refused_so world at call why reply is told none =
-    let So : Result Call Refusal → Type 0 = λ c. IsCallAnswered world world at c reply in
-    subst So (sym is) (record { answer_is = told; report_is = none ∙ sym (ap (λ (a : Answer). report_of world a) told); world_is = refl })
+refused_so world at call why told is refused =
+    let So : Result Call Refusal → Type 0 = λ c. IsCallAnswered world world at c told in
+    subst So (sym is) (record { answer_is = refused; world_is = refl })
 
 -- ---- after a commit there is memory for the answer
 
 abbrev pub OutcomesFit : Answer → Type 0
-OutcomesFit told = (seats : ℕ) (world : World) (at : ℕ) (route : Route) (body : List ℕ) (made : Call) (report : List ℕ) (close : Bool)
-    → call_of_body route body ≡ Ok made → length body ≤ most_body → only_tells made ≡ false → told ≡ answer_of (step seats world at made)
-    → length (answer_text told report close) ≤ most_answer
+OutcomesFit told = (seats : ℕ) (world : World) (at : ℕ) (route : Route) (body : List ℕ) (made : Call) (close : Bool)
+    → call_of_body route body ≡ Ok made → length body ≤ most_body → only_tells made ≡ false → told ≡ served world (answer_of (step seats world at made))
+    → length (answer_text told close) ≤ most_answer
 
 abbrev pub FitsBuffer : Answer → Type 0
-FitsBuffer told = (report : List ℕ) (close : Bool) → length (answer_text told report close) ≤ most_answer
+FitsBuffer told = (close : Bool) → length (answer_text told close) ≤ most_answer
 
 module _ (changes_none : TellsWithoutChange) (told : Answer) (fits : OutcomesFit told) (world world_then : World) (at : ℕ) (body : List ℕ) (short : length body ≤ most_body) where
-  of_call : (route : Route) (made : Call) → call_of_body route body ≡ Ok made → told ≡ answer_of (step desk_seats world at made) → world_then ≡ after world (step desk_seats world at made)
+  of_call : (route : Route) (made : Call) → call_of_body route body ≡ Ok made → told ≡ served world (answer_of (step desk_seats world at made)) → world_then ≡ after world (step desk_seats world at made)
       → (b : Bool) → only_tells made ≡ b → (world_then ≡ world) ⊎ FitsBuffer told
   of_call route made is so leads true asks = inl (leads ∙ (changes_none desk_seats world at made asks).0)
-  of_call route made is so leads false asks = inr (λ report close. fits desk_seats world at route body made report close is short asks so)
+  of_call route made is so leads false asks = inr (λ close. fits desk_seats world at route body made close is short asks so)
 
-  of_read : (route : Route) (read : Result Call Refusal) → call_of_body route body ≡ read → told ≡ answer_of (outcome_by desk_seats world at read) → world_then ≡ after world (outcome_by desk_seats world at read)
+  of_read : (route : Route) (read : Result Call Refusal) → call_of_body route body ≡ read → told ≡ served world (answer_of (outcome_by desk_seats world at read)) → world_then ≡ after world (outcome_by desk_seats world at read)
       → (world_then ≡ world) ⊎ FitsBuffer told
   unfolding after
   of_read route (Err why) is so leads = inl leads
   of_read route (Ok made) is so leads = of_call route made is so leads (only_tells made) refl
 
-  of_route : (route : Result Route Refusal) → told ≡ answer_of (outcome_by desk_seats world at (call_of_routed body route)) → world_then ≡ after world (outcome_by desk_seats world at (call_of_routed body route))
+  of_route : (route : Result Route Refusal) → told ≡ served world (answer_of (outcome_by desk_seats world at (call_of_routed body route))) → world_then ≡ after world (outcome_by desk_seats world at (call_of_routed body route))
       → (world_then ≡ world) ⊎ FitsBuffer told
   unfolding after
   of_route (Err why) so leads = inl leads
   of_route (Ok route) so leads = of_read route (call_of_body route body) refl so leads
 
-pub stays_or_fits : TellsWithoutChange → (world world_then : World) (at : ℕ) (request : RequestRef) (reply : Reply) → OutcomesFit reply.answer → length request.body.now ≤ most_body
-    → IsCallAnswered world world_then at (call_of_lent request) reply → (world_then ≡ world) ⊎ FitsBuffer reply.answer
-stays_or_fits changes_none world world_then at request reply fits short served =
-    of_route changes_none reply.answer fits world world_then at request.body.now short (route_at request.method request.target.now) served.answer_is served.world_is
+pub stays_or_fits : TellsWithoutChange → (world world_then : World) (at : ℕ) (request : RequestRef) (told : Answer) → OutcomesFit told → length request.body.now ≤ most_body
+    → IsCallAnswered world world_then at (call_of_lent request) told → (world_then ≡ world) ⊎ FitsBuffer told
+stays_or_fits changes_none world world_then at request told fits short served =
+    of_route changes_none told fits world world_then at request.body.now short (route_at request.method request.target.now) served.answer_is served.world_is
 
 -- ---- moments of a desk
 
@@ -177,11 +170,3 @@ by_either (inr b) left right = right b
 pub on_err : {T E P : Type 0} (r : Result T E) → P → OnErr r P
 on_err (Ok done) holds = tt
 on_err (Err why) holds = holds
-
-pub by_both : {P : Type 0} → (b : Bool) → (b ≡ true → P) → (b ≡ false → P) → P
-by_both true one other = one refl
-by_both false one other = other refl
-
-pub true_where : (b : Bool) → (b ≡ false → ⊥) → b ≡ true
-true_where true never = refl
-true_where false never = absurd (never refl)

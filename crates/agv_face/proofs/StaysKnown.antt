@@ -9,19 +9,19 @@ use Rattle.sqlite.specs.State.{Survives}
 use Rattle.agv_desk.specs.Outcomes.{after}
 use Rattle.agv_desk.specs.declared.call.Call.{Call}
 use Rattle.agv_header.specs.declared.refusal.Refusal.{Refusal}
-use Rattle.agv_http.specs.request.Fronts.{HasNext}
-use Rattle.agv_http.specs.request.Heard.{IsHeard, IsLent}
-use Rattle.agv_http.specs.request.Requests.{Request}
-use Rattle.agv_http.specs.Output.{calls_of, outcome_by, timed_call, world_after}
-use Rattle.agv_http.specs.StreamEnds.{HasRequestNext}
-use Rattle.agv_http.specs.declared.request.heard.Heard.TheVariants as heard
-use Rattle.agv_http.specs.declared.request.heard.RequestRef.{RequestRef}
-use Rattle.agv_schema.specs.Connections.{IsClean}
-use Rattle.agv_schema.specs.SchemaNumbers.{desk_seats}
-use Rattle.agv_keyed_floor.specs.Floors.{Keyed, Knows, world_at}
+use Rattle.agv_face_http.specs.request.Fronts.{HasNext}
+use Rattle.agv_face_http.specs.request.Heard.{IsHeard, IsLent}
+use Rattle.agv_face_http.specs.request.Requests.{Request}
+use Rattle.agv_face_http.specs.Output.{calls_of, outcome_by, timed_call, world_after}
+use Rattle.agv_face_http.specs.StreamEnds.{HasRequestNext}
+use Rattle.agv_face_http.specs.declared.request.heard.Heard.TheVariants as heard
+use Rattle.agv_face_http.specs.declared.request.heard.RequestRef.{RequestRef}
+use Rattle.agv_store_schema.specs.Connections.{IsClean}
+use Rattle.agv_store_schema.specs.SchemaNumbers.{desk_seats}
+use Rattle.agv_store_floor.specs.Floors.{Keyed, Knows, world_at}
 use Rattle.agv_store.specs.Running.{HasDatabase}
 use Rattle.agv_store.specs.Serving.{FoundIn, LeavesCall}
-use Rattle.agv_world.specs.Worlds.{World}
+use Rattle.agv_world_core.specs.Worlds.{World}
 use Rattle.agv_face.specs.Nexts.{LeavesNext}
 use Rattle.agv_face.specs.Replies.{IsReached, LeavesRequest, call_of_lent}
 use Rattle.agv_face.specs.StreamCalls.{AreDone, AreDoneOrNext}

@@ -5,18 +5,18 @@ use Rattle.std.proofs.KnownBytes.{Appends-trans, Consumes-kept}
 use Rattle.sqlite_trees.specs.declared.store.Store.{Ghosts}
 use Rattle.agv_header.specs.declared.refusal.Refusal.{Refusal}
 use Rattle.agv_desk.specs.Outcomes.{after}
-use Rattle.agv_http.specs.request.Cut.{Cut, at_end, closed, faulty}
-use Rattle.agv_http.specs.request.Fronts.{GoesOnBy, HasNext, IsSoFar}
-use Rattle.agv_http.specs.request.Heard.{IsHeard}
-use Rattle.agv_http.specs.Output.{answers_to, calls_of, outcome_by, refusal_text, world_after}
-use Rattle.agv_http.specs.request.Requests.{Request}
-use Rattle.agv_http.specs.StreamEnds.{HasMachineFault, IsLastRefusal, IsNextAnswer, IsReadFault, IsWriteFault}
-use Rattle.agv_http.specs.declared.request.heard.Heard.TheVariants as heard
-use Rattle.agv_http.specs.declared.request.heard.RequestRef.{RequestRef}
-use Rattle.agv_keyed_floor.specs.Floors.{Keyed, Knows, world_at}
-use Rattle.agv_schema.specs.SchemaNumbers.{desk_seats}
-use Rattle.agv_schema.specs.Connections.{IsClean, IsOpen}
-use Rattle.agv_world.specs.Worlds.{World}
+use Rattle.agv_face_http.specs.request.Cut.{Cut, at_end, closed, faulty}
+use Rattle.agv_face_http.specs.request.Fronts.{GoesOnBy, HasNext, IsSoFar}
+use Rattle.agv_face_http.specs.request.Heard.{IsHeard}
+use Rattle.agv_face_http.specs.Output.{answers_to, calls_of, outcome_by, refusal_text, world_after}
+use Rattle.agv_face_http.specs.request.Requests.{Request}
+use Rattle.agv_face_http.specs.StreamEnds.{HasMachineFault, IsLastRefusal, IsNextAnswer, IsReadFault, IsWriteFault}
+use Rattle.agv_face_http.specs.declared.request.heard.Heard.TheVariants as heard
+use Rattle.agv_face_http.specs.declared.request.heard.RequestRef.{RequestRef}
+use Rattle.agv_store_floor.specs.Floors.{Keyed, Knows, world_at}
+use Rattle.agv_store_schema.specs.SchemaNumbers.{desk_seats}
+use Rattle.agv_store_schema.specs.Connections.{IsClean, IsOpen}
+use Rattle.agv_world_core.specs.Worlds.{World}
 use Rattle.agv_face.specs.Bytes.{IsCut}
 use Rattle.agv_face.specs.StreamEnd.{HaveCome, IsEnd, IsInput, Leaves}
 use Rattle.agv_face.specs.Replies.{IsAnswered, IsLaterDesk, call_of_lent, text_for}

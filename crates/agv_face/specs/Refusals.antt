@@ -3,9 +3,9 @@ use Rattle.std.specs.Prelude.{◌≡◌, ◌+◌, ℕ, List, Option, Result, Ok,
 use Rattle.std.specs.Io.KnownBytes.{Appends}
 use Rattle.agv_header.specs.declared.refusal.Refusal.{Refusal}
 use Rattle.agv_header.specs.declared.refusal.Refusal.TheVariants as refusal
-use Rattle.agv_http.specs.Output.{refusal_text}
-use Rattle.agv_world.specs.declared.fault.Fault.{Fault}
-use Rattle.agv_world.specs.declared.fault.Fault.TheVariants as machine
+use Rattle.agv_face_http.specs.Output.{refusal_text}
+use Rattle.agv_world_core.specs.declared.fault.Fault.{Fault}
+use Rattle.agv_world_core.specs.declared.fault.Fault.TheVariants as machine
 use Rattle.agv_face.specs.Bytes.{IsCut}
 use Rattle.agv_face.specs.CountingIo.{inner_of, FailedOnce, FailedNever}
 use Rattle.agv_face.specs.declared.stream_end.Ended.TheVariants as ended
@@ -14,12 +14,12 @@ use Rattle.agv_face.specs.declared.stream_end.StreamFault.{StreamFault}
 use Rattle.agv_face.specs.declared.stream_end.StreamFault.TheVariants as fault
 use Rattle.agv_face.specs.declared.counting_io.CountingIo.{CountingIo}
 
--- the refusal
+-- the refusal for a fault
 abbrev pub refusal_for : Fault → Refusal
 refusal_for machine.Memory = refusal.Memory
 refusal_for machine.Storage = refusal.Storage
 
--- behind so many answers it was written, as one answer more, or cut
+-- the refusal was written after this many answers, whole or cut short
 module _ {W : Type 0} (contents : W → Option (List ℕ)) (writer writer_then : CountingIo W) (why : Fault) (answers : ℕ) where
   abbrev pub IsRefused : Result Served StreamFault → Type 0
   IsRefused (Ok served) =

@@ -1,4 +1,4 @@
-//! Bytes that come from a reader, and bytes that go to a writer.
+//! Reading bytes from a reader, and writing bytes to a writer.
 ghost use Rattle.std.specs.Prelude.{◌≡◌, ◌≤◌, ◌<◌, ◌+◌, ◌++◌, drop, length, vec_len, vec_capacity, IfOk, OnErr};
 ghost use Rattle.std.specs.Io.KnownBytes.{Keeps};
 ghost use Rattle.agv_face.specs.Bytes.{IsPutWhole, IsRead};
@@ -10,14 +10,15 @@ use std::io::{Read, Write};
 /// The longest request, its head and its body together, in bytes: no more are ever buffered.
 pub(crate) const LONGEST_REQUEST: usize = 73_728;
 
-/// The most bytes that one read requests.
+/// The most bytes that one read asks for.
 const ONE_READ: usize = 4096;
 
 /// The reader failed.
 #[derive(Clone, Copy)]
 pub(crate) struct NotRead;
 
-/// Writes all the bytes, and returns whether they were written. A write that takes none is a fault, and so is any error.
+/// Writes all the bytes, and returns whether they were written. A write that takes no byte is a failure, and so is any
+/// error.
 pub fn write_whole<W: Write>(writer: &mut CountingIo<W>, bytes: &[u8]) -> bool
     ensures { IsPutWhole W.contents writer.old writer.new bytes.now result }
 {
@@ -32,7 +33,7 @@ pub fn write_whole<W: Write>(writer: &mut CountingIo<W>, bytes: &[u8]) -> bool
     true
 }
 
-/// The bytes after the first `n`.
+/// Returns the bytes after the first `n`.
 pub(crate) fn behind(buf: &Vec<u8>, n: usize) -> &[u8]
     requires { n ≤ vec_len buf.now }
     ensures { result.now ≡ drop n buf.now.items }
@@ -40,7 +41,7 @@ pub(crate) fn behind(buf: &Vec<u8>, n: usize) -> &[u8]
     &buf[n..]
 }
 
-/// Drops the first bytes.
+/// Removes the first `n` bytes.
 pub(crate) fn drop_front(buf: &mut Vec<u8>, n: usize)
     requires { n ≤ vec_len buf.old }
     ensures items { buf.new.items ≡ drop n buf.old.items }
@@ -50,7 +51,7 @@ pub(crate) fn drop_front(buf: &mut Vec<u8>, n: usize)
     buf.truncate(buf.len() - n);
 }
 
-/// One read, whose bytes go to the end of a buffer that has memory for some more of a request: `false` at the end of the
+/// Reads once, and appends the bytes to a buffer that has room for more of a request. Returns `false` at the end of the
 /// input.
 pub(crate) fn read_some<R: Read>(
     reader: &mut CountingIo<R>,
@@ -75,7 +76,7 @@ pub(crate) fn read_some<R: Read>(
     }
 }
 
-/// Puts bytes to the end of a buffer that has memory for them.
+/// Appends bytes to a buffer that has capacity for them.
 fn put_reserved(buf: &mut Vec<u8>, bytes: &[u8])
     requires { vec_len buf.old + length bytes.now ≤ vec_capacity buf.old }
     ensures items { buf.new.items ≡ buf.old.items ++ bytes.now }

@@ -1,14 +1,14 @@
-//! From a request to the call of the desk that it is.
+//! From a request to the call of the desk that it makes.
 ghost use Rattle.std.specs.Prelude.{◌≡◌, Ok, IfOk, IfErr};
-ghost use Rattle.agv_json.specs.Body.{IsFaultOf};
+ghost use Rattle.agv_message_json.specs.Body.{IsFaultOf};
 ghost use Rattle.agv_face.specs.Replies.{call_of_lent};
 
 use agv_desk::Call;
-use agv_http::{RequestRef, Routes};
-use agv_json::BodyFault;
+use agv_face_http::{RequestRef, Routes};
+use agv_message_json::BodyFault;
 use std::alloc::Global;
 
-/// The call of the desk that the request is, or why it is refused before it is one.
+/// Returns the call of the desk that the request makes, or why it is refused before it is a call.
 pub(crate) fn call_in(
     alloc: Global,
     routes: &Routes,
@@ -18,7 +18,7 @@ pub(crate) fn call_in(
     ensures err { IfErr result (λ fault. IsFaultOf fault (call_of_lent request.now)) }
 {
     match routes.route_of(&request.method, request.target) {
-        Ok(route) => agv_http::call_of(alloc, &route, request.body),
+        Ok(route) => agv_face_http::call_of(alloc, &route, request.body),
         Err(refusal) => Err(BodyFault::Refused(refusal)),
     }
 }

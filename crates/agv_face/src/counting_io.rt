@@ -1,4 +1,4 @@
-//! A reader or a writer whose failures are counted.
+//! A reader or a writer whose calls and failures are counted.
 ghost use Rattle.std.specs.Prelude.{◌≡◌, ◌==◌, ◌&&◌, ◌<◌, ◌⊎◌, not, length, IfOk, OnOk, OnErr, if◌then◌else◌};
 ghost use Rattle.std.specs.Io.{ReadsAtMost, WritesAtMost};
 ghost use Rattle.std.specs.Io.KnownBytes.{Keeps, ReadConsumes, WriteAppends};
@@ -8,9 +8,9 @@ use std::io::{self, Read, Write};
 
 /// A reader or a writer, with the number of its calls so far and of those that failed.
 ///
-/// A call fails where it answers an error, and a write also where it takes no byte of some. So a
-/// clause can say that a stream ended with a fault of its reader because the reader failed. Both
-/// numbers stay at `u64::MAX` once they are there.
+/// A call fails where it returns an error, and a write also where it takes none of at least one byte. So a clause can
+/// say that a stream ended with a fault of its reader because the reader failed. Both numbers stay at `u64::MAX` once
+/// they reach it.
 #[derive(Drop)]
 pub struct CountingIo<T> {
     inner: T,
@@ -21,7 +21,7 @@ pub struct CountingIo<T> {
 impl<T> CountingIo<T> {
     ghost use Rattle.agv_face.specs.CountingIo.{inner_of, calls_of, failures_of};
 
-    /// The reader or the writer, before its first call.
+    /// Wraps a reader or a writer, with no calls yet.
     pub fn new(inner: T) -> CountingIo<T>
         ensures inner { inner_of result ≡ inner }
         ensures calls { calls_of result ≡ 0 }
@@ -34,21 +34,21 @@ impl<T> CountingIo<T> {
         }
     }
 
-    /// The reader or the writer.
+    /// Returns the wrapped reader or writer.
     pub fn inner(&self) -> &T
         ensures { result.now ≡ inner_of self.now }
     {
         &self.inner
     }
 
-    /// How many calls it had.
+    /// Returns the number of its calls.
     pub fn calls(&self) -> u64
         ensures { result ≡ calls_of self.now }
     {
         self.calls
     }
 
-    /// How many of its calls failed.
+    /// Returns the number of its failed calls.
     pub fn failures(&self) -> u64
         ensures { result ≡ failures_of self.now }
     {
@@ -120,14 +120,14 @@ impl<W: Write> Write for CountingIo<W> {
     }
 }
 
-/// One more, up to `u64::MAX`.
+/// Adds one, up to `u64::MAX`.
 fn add_one(number: &mut u64)
     ensures { number.new ≡ counted number.old 1 }
 {
     *number = number.saturating_add(1);
 }
 
-/// Whether a write that took this many of the bytes took none, where there were some.
+/// Returns whether a write that took `n` of the bytes took none of at least one byte.
 fn took_none(n: usize, bytes: &[u8]) -> bool
     ensures { result ≡ (n == 0 && not (length bytes.now == 0)) }
 {

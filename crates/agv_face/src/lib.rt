@@ -1,25 +1,25 @@
-//! The face of the desk: a stream of requests is served by a desk over its tables, and the answers are written.
+//! Serving a stream of HTTP requests by a desk over its tables, and writing the answers.
 //!
-//! A reader gives bytes, cut as it likes. `agv_http` finds the next request in what has come so far, and which call of
-//! the desk it is; `agv_store` serves the call, whose changes are committed before it is answered, and gives the report
-//! that the answer names; and the answer's bytes are written before the next request is looked at. [`serve_stream`] does
-//! so to the end of the stream, in memory that is reserved before the first call: 73,728 bytes for the longest request and
-//! 131,072 for the answer to any call that changes something. [`serve_stream_within`] takes the most reads beside.
-//! Both take their reader and their writer as [`CountingIo`], so that a clause can say why a stream ended.
+//! A reader gives bytes, cut as it likes. `agv_face_http` finds the next request in what has arrived so far, and the
+//! call of the desk that it makes. `agv_store` serves the call and commits its changes before it is answered; an answer
+//! that is a report has its bytes. The answer's bytes are written before the next request is parsed. [`serve_stream`]
+//! does so to the end of the stream, in memory that is reserved before the first call: 73,728 bytes for the longest
+//! request and 131,072 for the answer to any call that changes something. [`serve_stream_within`] also takes the most
+//! reads. Both take their reader and their writer as [`CountingIo`], so that a clause can say why a stream ended.
 //!
-//! - `specs/StreamEnd.antt` says how a stream ends: what has come of its input, what is written, and which world the desk
-//!   then knows, whatever the reads and writes are cut into. It is the theorem of this crate; what is written at each end
-//!   is defined by `agv_http` (its `StreamEnds`), whose module `laws::streams` joins the requests of a stream to lists of
-//!   calls, so that what `agv_desk` says of these holds of streams.
-//! - `specs/StreamCalls.antt` says what the calls of a stream make of the desk, and what a crash leaves of its tables;
-//!   [`laws`] joins a stream to what `agv_desk` says of lists of calls.
-//! - `specs/Replies.antt` says what one request comes to, `specs/Nexts.antt` the next one of a buffer, `specs/Bytes.antt`
-//!   bytes that are read or written, `specs/Refusals.antt` the refusal for a fault of the machine, and
-//!   `specs/CountingIo.antt` has the words on failures.
-//! - The readers and writers of one request and its answer are those of `agv_http`, and stand here too: [`read_request`],
-//!   [`Routes`], [`call_of`], [`answer_bytes`], [`put_answer`].
-//! - One request is followed from `stream` to `next` (what the buffer begins with), `reply` (its answer) and `call` (which
-//!   call it is).
+//! - `specs/StreamEnd.antt` specifies how a stream ends, however the reads and writes are cut: which input arrived,
+//!   what was written, and which world the desk then knows. It is the theorem of this crate. What is written at each
+//!   end is defined by `agv_face_http` (its `StreamEnds`), whose module `laws::streams` relates the requests of a
+//!   stream to lists of calls, so that the laws of `agv_desk` on these hold for streams.
+//! - `specs/StreamCalls.antt` specifies what the calls of a stream do to the desk, and what a crash leaves of its
+//!   tables; [`laws`] relates a stream to the laws of `agv_desk` on lists of calls.
+//! - `specs/Replies.antt` specifies one request and its answer, `specs/Nexts.antt` the next request of a buffer,
+//!   `specs/Bytes.antt` reading and writing bytes, `specs/Refusals.antt` the refusal for a fault of the machine, and
+//!   `specs/CountingIo.antt` counted calls and failures.
+//! - The functions for one request and its answer are those of `agv_face_http`, re-exported here: [`read_request`] with
+//!   [`Heard`], [`Routes`] with the parts of a [`Route`], [`call_of`], [`answer_bytes`], [`put_answer`].
+//! - A request goes from `stream` to `next` (what the buffer begins with), `reply` (its answer) and `call` (which call
+//!   it makes).
 #![tactic(auto)]
 
 mod bytes;
@@ -31,7 +31,10 @@ mod reply;
 mod stream;
 mod stream_end;
 
-pub use agv_http::{Heard, Route, Routes, answer_bytes, call_of, put_answer, read_request};
+pub use agv_face_http::{
+    FixedRoute, Heard, NamedRoute, RequestRef, Route, Routes, VehicleRoute, answer_bytes, call_of,
+    put_answer, read_request,
+};
 pub use bytes::write_whole;
 pub use counting_io::CountingIo;
 pub use stream::{serve_stream, serve_stream_within};

@@ -1,40 +1,40 @@
-//! The next request of a buffer is answered.
+//! Answering the next request of a buffer.
 ghost use Rattle.std.specs.Prelude.{◌≡◌, ◌≤◌, [], IfErr, IfOk, OnErr, vec_capacity};
-ghost use Rattle.agv_world.specs.Asks.{failed_by};
-ghost use Rattle.agv_http.specs.Output.{refusal_text};
-ghost use Rattle.agv_http.specs.answers.Sizes.{most_answer};
+ghost use Rattle.agv_world_core.specs.Asks.{failed_by};
+ghost use Rattle.agv_face_http.specs.Output.{refusal_text};
+ghost use Rattle.agv_face_http.specs.answers.Sizes.{most_answer};
 ghost use Rattle.sqlite.specs.Held.{state};
 ghost use Rattle.sqlite.specs.State.{Survives};
-ghost use Rattle.agv_keyed_floor.specs.Floors.{world_at};
-ghost use Rattle.agv_schema.specs.Connections.{IsClean, IsOpen};
+ghost use Rattle.agv_store_floor.specs.Floors.{world_at};
+ghost use Rattle.agv_store_schema.specs.Connections.{IsClean, IsOpen};
 ghost use Rattle.agv_face.specs.Nexts.{IsNext, IsNextFault, LeavesNext};
 ghost use Rattle.agv_face.specs.Replies.{IsLaterDesk};
 
 use crate::reply::answer_request;
 use agv_desk::Answer;
+use agv_face_http::laws::sizes::{bodies_fit, refusals_fit};
+use agv_face_http::{Heard, Routes, put_answer, read_request};
 use agv_header::{Moment, Refusal};
-use agv_http::laws::sizes::{bodies_fit, refusals_fit};
-use agv_http::{Heard, Routes, put_answer, read_request};
 use agv_store::Desk;
-use agv_world::Fault;
+use agv_world_core::Fault;
 use sqlite::Alter;
 use std::alloc::Global;
 
-/// What became of the next request of a buffer.
+/// The outcome of serving the next request of a buffer.
 #[derive(Clone, Copy)]
 pub(crate) enum Next {
-    /// More bytes have to come first.
+    /// More bytes are needed.
     Need,
-    /// The input is at its end.
+    /// The input has ended.
     End,
-    /// A request that was served, with its number of bytes: it is the last of its stream, or not.
+    /// A request was served; its number of bytes, and whether it is the last of its stream.
     Request { len: usize, close: bool },
-    /// There is none, but this fault of HTTP.
+    /// There is no request, but this fault of HTTP.
     Fault(Refusal),
 }
 
-/// Serves the next request of the buffer, where it has come whole, and puts the bytes of its answer into `out`; those of
-/// the refusal where there is a fault of HTTP. `ended` says that no byte follows.
+/// Serves the next request of the buffer, if it has arrived whole, and writes the bytes of its answer to `out`, or
+/// those of the refusal of a fault of HTTP. `ended` says that no byte follows.
 pub(crate) fn serve_request<S: Alter + Drop>(
     alloc: Global,
     routes: &Routes,
@@ -70,7 +70,7 @@ pub(crate) fn serve_request<S: Alter + Drop>(
     }
 }
 
-/// Puts the bytes of the refusal after which the stream ends into `out`, which has memory for them.
+/// Writes the bytes of the refusal after which the stream ends to `out`, which has capacity for them.
 fn refuse(why: &Refusal, out: &mut Vec<u8>)
     requires empty { out.old.items ≡ [] }
     requires capacity { most_answer ≤ vec_capacity out.old }
@@ -78,7 +78,7 @@ fn refuse(why: &Refusal, out: &mut Vec<u8>)
     ensures grown { vec_capacity out.old ≤ vec_capacity out.new }
 {
     refusals_fit(why);
-    match put_answer(&Answer::Refused(*why), &[], true, out) {
+    match put_answer(&Answer::Refused(*why), true, out) {
         Ok(()) => {}
         Err(_) => unreachable!(),
     }

@@ -1,35 +1,35 @@
-//! A stream of requests is served, one after another.
+//! Serving a stream of requests, one after another.
 ghost use Rattle.std.specs.Prelude.{◌≡◌, ◌<◌, ◌≤◌, [], IfOk, vec_capacity};
 ghost use Rattle.agv_face.specs.StreamEnd.{EndsFailed, IsCounted, IsStreamEnd, most_reads};
 ghost use Rattle.agv_face.specs.Refusals.{IsRefused};
 ghost use Rattle.agv_face.specs.Replies.{IsLaterDesk};
 ghost use Rattle.agv_face.specs.CountingIo.{HadCallsAtMost};
-ghost use Rattle.agv_http.specs.answers.Sizes.{most_answer};
+ghost use Rattle.agv_face_http.specs.answers.Sizes.{most_answer};
 
 use crate::bytes::{LONGEST_REQUEST, behind, drop_front, read_some, write_whole};
 use crate::counting_io::CountingIo;
 use crate::next::{Next, serve_request};
 use crate::stream_end::{Ended, Served, StreamFault};
+use agv_face_http::laws::streams::{answers_in_turn, hears_how_it_goes_on};
+use agv_face_http::{Routes, memory_answer, storage_answer};
 use agv_header::{Memory, Moment, Refusal};
-use agv_http::laws::streams::{answers_in_turn, hears_how_it_goes_on};
-use agv_http::{Routes, memory_answer, storage_answer};
 use agv_store::Desk;
 use agv_store::laws::crashes_leave_before_or_after;
-use agv_world::Fault;
+use agv_world_core::Fault;
 use sqlite::Alter;
 use std::alloc::Global;
 use std::io::{Read, Write};
 
-/// The most reads of a stream, where its caller sets no other number.
+/// The most reads of a stream whose caller sets no limit.
 const MAX_READS: u64 = 16_777_216;
 
-/// The most reads that a stream can have at all. So there are fewer answers than a `u64` can count.
+/// The most reads that any stream may have, so that a `u64` can count the answers.
 const READS_AT_ALL: u64 = 4_503_599_627_370_495;
 
-/// The bytes that are reserved for an answer: they hold each answer to a call that changes something.
+/// The bytes that are reserved for an answer: enough for each answer to a call that changes something.
 const LONGEST_ANSWER: usize = 131_072;
 
-/// What a stream keeps in memory: the table of routes, the bytes that have come and aren't served yet, and the bytes of the
+/// The memory of a stream: the table of routes, the bytes that have arrived and aren't served yet, and the bytes of the
 /// next answer.
 #[derive(Drop)]
 struct Buffers {
@@ -55,31 +55,32 @@ pub fn serve_stream<S: Alter + Drop, R: Read, W: Write>(
     serve_stream_within(alloc, desk, at, reader, writer, MAX_READS)
 }
 
-/// Serves a stream of requests, each at this moment, with at most this many reads: a number above 4,503,599,627,370,495
-/// counts as that.
+/// Serves a stream of requests, each at this moment, with at most this many reads, and never more than
+/// 4,503,599,627,370,495.
 ///
-/// Memory for the longest request and for the answer to each call that changes something is reserved before the first call.
-/// Each request is served once it has arrived completely, and its answer is written before the next one is read. A call is
-/// committed before it is answered.
+/// Memory for the longest request and for the answer to each call that changes something is reserved before the first
+/// call. Each request is served once it has arrived completely, and its answer is written before the next one is read.
+/// A call is committed before it is answered.
 ///
-/// `IsStreamEnd` (`specs/StreamEnd.antt`) says for each end which input has arrived, what was written, and which world the
-/// desk then knows: the output of `agv_http`, complete, or a prefix of it, or a prefix of it and the refusal for a fault of
-/// the machine. Where the store has failed as the stream ends, `failed` says by which end. No clause says that an answer is
-/// written before more is read; a test does.
+/// `IsStreamEnd` (`specs/StreamEnd.antt`) specifies for each end which input has arrived, what was written, and which
+/// world the desk then knows. What was written is the output of `agv_face_http`, complete, or a prefix of it, or a
+/// prefix of it and the refusal for a fault of the machine. Whether the store has failed as the stream ends follows
+/// from the end (`failed`). No clause says that an answer is written before more is read; a test does.
 ///
-/// Which requests were answered, and how many, holds whatever the disk answers (`counts`). It says besides what their calls
-/// have made of the desk (`specs/StreamCalls.antt`): a call is answered only by a desk that knew a lawful world, and a
-/// crash leaves the rows of the world after the requests that were answered; after a fault of the machine possibly those
-/// after one more request. A request whose answer is cut is done. At each other end, where a call was answered, the store
-/// is open, and the desk knows the world that is left; where none was, the desk is as it was.
+/// Which requests were answered, and how many, is specified whatever the disk answers (`counts`), and so is what their
+/// calls did to the desk (`specs/StreamCalls.antt`): a call is answered only by a desk that knew a lawful world, and a
+/// crash leaves the rows of the world after the requests that were answered, or after a fault of the machine possibly
+/// those after one more request. A request whose answer is cut short is done. At each other end, the store is open and
+/// the desk knows the world afterwards if a call was answered; otherwise the desk is unchanged.
 ///
-/// However the stream ends, the store is still open if it was open before, unless its disk had a fault meanwhile, and if it
-/// is open it was open before: so another stream can go on from the world that is known (`later`, and
-/// [`laws::streams_leave_the_store_open`](crate::laws::streams_leave_the_store_open)). A desk that had failed before stays
-/// as it is and serves no call: the first one is answered `Storage`, and the stream ends.
+/// However the stream ends, the store is still open if it was open before, unless its disk had a fault meanwhile, and
+/// if it is open it was open before: so another stream can go on from the world that is known (`later`, and
+/// [`laws::streams_leave_the_store_open`](crate::laws::streams_leave_the_store_open)). A desk that had failed before is
+/// unchanged and serves no call: the first one is answered `Storage`, and the stream ends.
 ///
 /// # Errors
-/// `Read` where a read failed, or the most reads were made and one more is needed. `Write` where a write failed or took no
+/// `Read` where a read failed, or the most reads were made and one more is needed. `Write` where a write failed or took
+/// no byte. The desk can go on after both.
 /// byte. The desk can go on after both.
 pub fn serve_stream_within<S: Alter + Drop, R: Read, W: Write>(
     alloc: Global,
@@ -109,7 +110,7 @@ pub fn serve_stream_within<S: Alter + Drop, R: Read, W: Write>(
     }
 }
 
-/// Reserves all that a stream needs before its first call.
+/// Reserves the memory that a stream needs, before its first call.
 fn reserve(alloc: Global) -> Result<Buffers, Memory>
     ensures none { IfOk result (λ buffers. buffers.input.items ≡ []) }
     ensures input { IfOk result (λ buffers. 73728 ≤ vec_capacity buffers.input) }
@@ -148,7 +149,7 @@ fn serve_requests<S: Alter + Drop, R: Read, W: Write>(
     let mut ended = false;
     let mut reads = 0;
     let mut answers = 0;
-    // This many of the bytes that have come are served; they are dropped before the next read.
+    // The number of arrived bytes that are served; they are dropped before the next read.
     let mut served = 0;
     loop {
         let next = serve_request(
@@ -207,7 +208,7 @@ fn serve_requests<S: Alter + Drop, R: Read, W: Write>(
     }
 }
 
-/// Ends a stream, after this many answers, with the refusal for a fault of the machine. It takes no memory.
+/// Ends a stream, after this many answers, with the refusal for a fault of the machine. It allocates nothing.
 fn refuse<W: Write>(
     writer: &mut CountingIo<W>,
     fault: Fault,

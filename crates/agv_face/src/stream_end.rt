@@ -8,23 +8,23 @@ use thiserror::Error;
 pub enum Ended {
     /// The input ended, with no byte after the last request.
     End,
-    /// A request was the last of its stream: HTTP/1.0, or an element `close` in a Connection line. What follows it isn't
-    /// looked at.
+    /// A request was the last of its stream: HTTP/1.0, or an element `close` in a Connection line. What follows it
+    /// is ignored.
     Close,
-    /// The last answer was this refusal: of a fault of HTTP (`BadHead`, `NoLength`, `TooLarge`, `Coding`), or of one of the
+    /// The last answer was this refusal of a fault of HTTP (`BadHead`, `NoLength`, `TooLarge`, `Coding`) or of the
     /// machine (`Memory`, `Storage`).
     Refused(Refusal),
 }
 
-/// How a stream ended that was served to its end.
+/// The outcome of a stream that was served to its end.
 #[derive(Clone, Copy, Debug, PartialEq, Eq)]
 pub struct Served {
-    /// How many answers were written, the last refusal among them.
+    /// How many answers were written, including the last refusal.
     pub answers: u64,
     pub ended: Ended,
 }
 
-/// Why a stream was left before its end. The desk can go on.
+/// Why the serving of a stream stopped before its end. The desk can go on.
 #[derive(Clone, Copy, Debug, PartialEq, Eq, Error)]
 pub enum StreamFault {
     /// A read failed, or the stream has had the most reads and needs one more.
@@ -33,7 +33,7 @@ pub enum StreamFault {
         /// How many answers were written: those to all requests that had arrived completely.
         answers: u64,
     },
-    /// A write failed, or took no byte. The call whose answer was cut is done.
+    /// A write failed, or took no byte. The call whose answer was cut short is done.
     #[error("a write failed, behind {answers} answers")]
     Write {
         /// How many answers were written whole.

@@ -1,25 +1,25 @@
--- The civil calendar (Gregorian) from 1970 to 2099: which date a day is, counted off in whole years and then whole months.
+-- The Gregorian calendar from 1970 to 2099: the date of a day, found by counting off whole years and then whole months.
 use Rattle.std.specs.Prelude.{ℕ, ◌+◌, ◌-◌, ◌%◌, Bool, not, ◌&&◌, ◌||◌, ◌==◌, nat_lt, if◌then◌else◌, List, [], ◌∷◌, map}
 use Rattle.std.specs.List.{range_with_len}
 
--- every fourth year, but of the centuries only every fourth
+-- whether the year is a leap year: divisible by 4, and a century only if divisible by 400
 abbrev pub is_leap_year : ℕ → Bool
 is_leap_year year = (year % 4 == 0) && (not (year % 100 == 0) || (year % 400 == 0))
 
--- a leap year has a day more
+-- the days of the year: 366 in a leap year, otherwise 365
 abbrev pub days_in_year : ℕ → ℕ
 days_in_year year = if is_leap_year year then 366 else 365
 
--- from January to December
+-- the days of each month of the year, from January to December
 abbrev pub month_lengths : ℕ → List ℕ
 month_lengths year =
     31 ∷ (if is_leap_year year then 29 else 28) ∷ 31 ∷ 30 ∷ 31 ∷ 30 ∷ 31 ∷ 31 ∷ 30 ∷ 31 ∷ 30 ∷ 31 ∷ []
 
--- from 1970 to 2099
+-- the days of each year, from 1970 to 2099
 unfoldable pub year_lengths : List ℕ
 year_lengths = map days_in_year (range_with_len 1970 130)
 
--- a day in stretches of days that follow one another: how many whole stretches lie before it, and how many days of its own
+-- the number of whole stretches (lengths in days) that lie before a day, and the day's number within its own stretch
 unfoldable pub count_off : List ℕ → ℕ → ℕ × ℕ
 count_off [] day = (0, day)
 count_off (days ∷ more) day =
@@ -32,7 +32,7 @@ pub record CivilDate : Type 0 where
   pub month : ℕ
   pub day : ℕ
 
--- the date of a day, which is numbered from 0 for 1970-01-01: count off whole years, and then whole months
+-- the date of a day, numbered from 0 for 1970-01-01
 unfoldable pub date_of : ℕ → CivilDate
 date_of day =
     let years = count_off year_lengths day in

@@ -7,11 +7,11 @@ use Rattle.agv_header.specs.declared.key.Thing.{Thing}
 use Rattle.agv_header.specs.declared.key.Thing.TheVariants.{Node, Edge}
 use Rattle.agv_header.specs.declared.key.VehicleKey.{VehicleKey}
 
--- the manufacturers decide, and where they are equal the serial numbers
+-- vehicles are compared by manufacturer, and then by serial number
 abbrev pub key_cmp : VehicleKey → VehicleKey → Ordering
 key_cmp a b = ordering_then (name_cmp a.manufacturer b.manufacturer) (name_cmp a.serial b.serial)
 
--- nodes come before edges
+-- the rank of the kind: nodes come before edges
 abbrev pub kind_rank : Thing → ℕ
 kind_rank (Node _) = 0
 kind_rank (Edge _) = 1
@@ -21,6 +21,6 @@ abbrev pub thing_name : Thing → List ℕ
 thing_name (Node name) = name
 thing_name (Edge name) = name
 
--- nodes before edges, and each by name
+-- things are compared by kind, nodes before edges, and then by name
 abbrev pub thing_cmp : Thing → Thing → Ordering
 thing_cmp a b = ordering_then (nat_cmp (kind_rank a) (kind_rank b)) (name_cmp (thing_name a) (thing_name b))

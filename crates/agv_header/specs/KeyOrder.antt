@@ -14,12 +14,13 @@ pub key_cmp-total : IsTotalOrder key_cmp
 key_cmp-total =
     then_total (on_total (λ (key : VehicleKey). key.manufacturer) nat_list_cmp_total) (on_total (λ (key : VehicleKey). key.serial) nat_list_cmp_total)
 
--- where the first decides, and then the second, only what ties in both ties
+-- a lexicographic comparison is `Equal` only if both of its parts are
 pub both_equal : (a b : Ordering) → ordering_then a b ≡ Equal → (a ≡ Equal) × (b ≡ Equal)
 both_equal Less b e = cc
 both_equal Equal b e = (refl, e)
 both_equal Greater b e = cc
 
+-- names that tie are equal
 names_apart : IsAntisymmetric (slice_cmp nat_cmp)
 names_apart = slice_cmp-IsAntisymmetric nat_cmp-IsAntisymmetric
 
@@ -31,11 +32,11 @@ key_cmp-IsAntisymmetric a b tied =
     let serial : a.serial ≡ b.serial = names_apart _ _ both.1 in
     λ i. record { manufacturer = manufacturer i; serial = serial i }
 
--- as `==` compares keys
+-- how `==` compares keys: by both names' bytes
 abbrev pub key_eq : VehicleKey → VehicleKey → Bool
 key_eq a b = pointwise nat_eq a.manufacturer b.manufacturer && pointwise nat_eq a.serial b.serial
 
--- `==` holds of just the keys that tie
+-- `==` holds of exactly the keys that tie
 pub key_cmp-ties : (a b : VehicleKey) → key_eq a b ≡ eq_by_cmp key_cmp a b
 key_cmp-ties a b =
     both_tied _ _ (slice_cmp nat_cmp a.manufacturer b.manufacturer) (slice_cmp nat_cmp a.serial b.serial) (texts_ties a.manufacturer b.manufacturer) (texts_ties a.serial b.serial)

@@ -1,4 +1,4 @@
--- How much the desk keeps at most (this project's profile).
+-- The most of each thing that the desk keeps (this project's profile).
 use Rattle.std.specs.Prelude.{ℕ}
 
 -- the most vehicles

@@ -5,20 +5,20 @@ use Rattle.agv_header.specs.declared.refusal.Refusal.TheVariants as refusal
 use Rattle.agv_header.specs.declared.refusal.Verb.{Verb}
 use Rattle.agv_header.specs.declared.refusal.Verb.TheVariants as verb
 
--- the name of a method, as the first line of a request has it (RFC 9110, section 9)
+-- the name of a method, as the request line has it (RFC 9110, section 9)
 abbrev pub verb_text : Verb → List ℕ
 verb_text verb.Get = codes "GET"
 verb_text verb.Post = codes "POST"
 verb_text verb.Put = codes "PUT"
 verb_text verb.Delete = codes "DELETE"
 
--- what is told of a refusal: its number, its name, and the status code of its answer
+-- a row of the table: a refusal's number, its name, and the status code of its answer
 pub record Row : Type 0 where
   pub number : ℕ
   pub name : List ℕ
   pub status : ℕ
 
--- a row of the table
+-- makes a row of the table
 abbrev pub row : ℕ → List ℕ → ℕ → Row
 row n name status = record { number = n; name = name; status = status }
 
@@ -85,14 +85,14 @@ row_of refusal.OnVehicle = row 81 (codes "OnVehicle") 409
 row_of refusal.Memory = row 90 (codes "Memory") 503
 row_of refusal.Storage = row 91 (codes "Storage") 503
 
--- its number, from the table
+-- the number of a refusal
 abbrev pub number_of : Refusal → ℕ
 number_of r = (row_of r).number
 
--- its name, from the table
+-- the name of a refusal
 abbrev pub name_of : Refusal → List ℕ
 name_of r = (row_of r).name
 
--- its status code, from the table
+-- the status code of a refusal's answer
 abbrev pub status_of : Refusal → ℕ
 status_of r = (row_of r).status

@@ -17,13 +17,13 @@ four_digits n = two_digits (n / 100) ++ two_digits (n % 100)
 abbrev pub date_text : CivilDate → List ℕ
 date_text date = four_digits date.year ++ codes "-" ++ two_digits date.month ++ codes "-" ++ two_digits date.day
 
--- `11:40:03.12`, of hundredths of a second since midnight
+-- a time of day, given in hundredths of a second since midnight, as `11:40:03.12`
 abbrev pub time_text : ℕ → List ℕ
 time_text hundredths =
     two_digits (hundredths / 360000) ++ codes ":" ++ two_digits (hundredths / 6000 % 60)
     ++ codes ":" ++ two_digits (hundredths / 100 % 60) ++ codes "." ++ two_digits (hundredths % 100)
 
--- the text of a moment, of which what is less than a hundredth of a second is cut off
+-- the text of a moment, cut off to hundredths of a second
 unfoldable pub stamp_of : ℕ → List ℕ
 stamp_of ms =
     date_text (date_of (ms / 86400000)) ++ codes "T" ++ time_text (ms % 86400000 / 10) ++ codes "Z"
@@ -33,6 +33,6 @@ abbrev pub moment_of_nanos : ℤ → Option ℕ
 moment_of_nanos (pos ns) = moment_at (pos (ns / 1000000))
 moment_of_nanos (negsuc _) = None
 
--- the moment that a text says, as `jiff` reads a timestamp, if it says one
+-- the moment that a text says as `jiff` reads timestamps, if it says one
 unfoldable pub moment_said : List ℕ → Option ℕ
 moment_said text = option_and_then moment_of_nanos (result_ok (parse_timestamp text))

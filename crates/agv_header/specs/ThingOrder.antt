@@ -19,7 +19,7 @@ thing_cmp-IsAntisymmetric (Node a) (Edge b) tied = cc
 thing_cmp-IsAntisymmetric (Edge a) (Node b) tied = cc
 thing_cmp-IsAntisymmetric (Edge a) (Edge b) tied = ap Edge (slice_cmp-IsAntisymmetric nat_cmp-IsAntisymmetric a b tied)
 
--- as `==` compares things: they are equal where they tie
+-- how `==` compares things: they are equal if they tie
 abbrev pub thing_eq : Thing → Thing → Bool
 thing_eq = eq_by_cmp thing_cmp
 

@@ -11,16 +11,16 @@ topic_name topic.Order = codes "order"
 topic_name topic.InstantActions = codes "instantActions"
 topic_name topic.State = codes "state"
 
--- a topic of this interface, whose major version is 2, by its last three levels
+-- the text of a topic of this interface (major version 2) with the last three levels given
 abbrev pub with_levels : List ℕ → List ℕ → List ℕ → List ℕ
 with_levels manufacturer serial name =
     codes "uagv/v2/" ++ manufacturer ++ codes "/" ++ serial ++ codes "/" ++ name
 
--- `uagv/v2/KIT/0001/order`
+-- the text of a vehicle's topic, as `uagv/v2/KIT/0001/order`
 abbrev pub topic_of : VehicleKey → Topic → List ℕ
 topic_of key t = with_levels key.manufacturer key.serial (topic_name t)
 
--- the text is this topic of a vehicle whose manufacturer and serial number are names
+-- the text is this topic of this vehicle, whose manufacturer and serial number are names
 pub record IsTopicText (text : List ℕ) (key : VehicleKey) (t : Topic) : Type 0 where
   pub manufacturer : IsName key.manufacturer
   pub serial : IsName key.serial

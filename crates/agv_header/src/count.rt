@@ -2,8 +2,8 @@
 ghost use Rattle.std.specs.Prelude.{◌≡◌};
 ghost use Rattle.agv_header.specs.Count.{is_fresh, next_number};
 
-/// Whether a message with header number `n` is newer than the last one: there is none, or `n` is
-/// greater than its number.
+/// Returns whether a message with header number `n` is newer than the last one: if there is none,
+/// or `n` is greater than its number.
 pub fn is_fresh(last: Option<u32>, n: u32) -> bool
     ensures { result ≡ is_fresh last n }
 {
@@ -13,7 +13,7 @@ pub fn is_fresh(last: Option<u32>, n: u32) -> bool
     }
 }
 
-/// The header number after `n`; `None` after 4294967295, the last.
+/// Returns the header number after `n`, or `None` after 4294967295, the last.
 pub fn next_number(n: u32) -> Option<u32>
     ensures { result ≡ next_number n }
 {

@@ -1,9 +1,9 @@
-//! Digits, as files and header lines write numbers with.
+//! Digits, as in the numbers of files and header lines.
 ghost use Rattle.std.specs.Prelude.{◌≡◌};
 ghost use Rattle.std.specs.Char.{is_ascii_digit};
 ghost use Rattle.std.specs.List.{list_all};
 
-/// Whether each of the bytes is a digit of ASCII.
+/// Returns whether each of the bytes is an ASCII digit.
 pub fn are_digits(bytes: &[u8]) -> bool
     ensures { result ≡ list_all is_ascii_digit bytes.now }
 {

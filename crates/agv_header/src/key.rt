@@ -1,12 +1,12 @@
-//! What names a vehicle, and what names a stretch of track.
+//! The keys of vehicles, and of the nodes and edges of the layout.
 ghost use Rattle.std.specs.Cmp.{IsTotalOrder};
 ghost use Rattle.std.specs.FinMap.{IsAntisymmetric};
 
 use crate::Name;
 use std::cmp::Ordering;
 
-/// A vehicle: its manufacturer, then its serial number. Keys are ordered by the manufacturer's
-/// bytes, then by the serial number's.
+/// The key of a vehicle: its manufacturer and its serial number. Keys are ordered by the
+/// manufacturer's bytes, then by the serial number's.
 #[derive(Clone, Copy, Debug, PartialEq, Eq)]
 pub struct VehicleKey {
     pub manufacturer: Name,
@@ -49,15 +49,15 @@ impl Ord for VehicleKey {
 impl VehicleKey {
     ghost use Rattle.agv_header.specs.Key.{key_cmp};
 
-    /// The order of keys is total, and only equal keys tie: a finite map can be kept by it.
+    /// Proves that the order of keys is total, and that only equal keys tie, as a finite map needs.
     pub fn order_law()
         ensures total { IsTotalOrder key_cmp }
         ensures apart { IsAntisymmetric key_cmp }
     {}
 }
 
-/// A stretch of track that at most one vehicle holds: a node or an edge of the layout. Nodes come
-/// before edges, and each by their names' bytes.
+/// A node or an edge of the layout, which at most one vehicle holds. Nodes come before edges, and
+/// each kind is ordered by its names' bytes.
 #[derive(Clone, Copy, Debug)]
 pub enum Thing {
     Node(Name),
@@ -123,7 +123,7 @@ impl Ord for Thing {
 impl Thing {
     ghost use Rattle.agv_header.specs.Key.{thing_cmp};
 
-    /// The order of things is total, and only equal things tie: a finite map can be kept by it.
+    /// Proves that the order of things is total, and that only equal things tie, as a finite map needs.
     pub fn order_law()
         ensures total { IsTotalOrder thing_cmp }
         ensures apart { IsAntisymmetric thing_cmp }

@@ -1,14 +1,14 @@
-//! What every layer of the desk speaks of: names, vehicles, topics, moments and refusals.
+//! The types that all layers of the desk share: names, vehicles, topics, moments and refusals.
 //!
 //! - [`Name`] is the name of a load, node, edge, station, job, order, reference, manufacturer or
 //!   vehicle. [`Name::read`] accepts exactly the texts of 1 to 32 bytes of `A-Z a-z 0-9 _ . : -`, and
 //!   [`Name::of_bytes`] the same bytes. [`are_digits`] tests for digits.
-//! - [`VehicleKey`] names a vehicle, and [`Thing`] a node or an edge of the layout. The order of
-//!   each can keep a map: it is total, and only equal ones tie.
-//! - [`topic_text`] writes where a vehicle's messages of a kind belong, as
+//! - [`VehicleKey`] names a vehicle, and [`Thing`] a node or an edge of the layout. The orders of
+//!   both are total, and only equal values tie, so they can be keys of maps.
+//! - [`topic_text`] writes the topic of a vehicle's messages of a kind, as
 //!   `uagv/v2/KIT/0001/order`, and [`read_topic`] accepts exactly the texts that it writes.
-//! - [`Moment`] is a time in milliseconds, from 1970 to the end of 2099. [`stamp_text`] is its date
-//!   and time in UTC to the hundredth of a second, and [`read_stamp`] what `jiff` reads.
+//! - [`Moment`] is a time in milliseconds, from 1970 to the end of 2099. [`stamp_text`] writes its
+//!   date and time in UTC to the hundredth of a second, and [`read_stamp`] reads what `jiff` reads.
 //! - [`is_fresh`] and [`next_number`] are the rules of header numbers.
 //! - [`Refusal`] lists every refusal of the desk, each with its number, name and HTTP status.
 //! - [`limits`] has the limits of the desk.

@@ -13,7 +13,7 @@ pub const MAX_LAYOUT_STATIONS: usize = 500;
 /// The most loads that a station has room for.
 pub const MAX_STATION_CAPACITY: u32 = 999;
 
-/// The most edges of the way of a trip.
+/// The most edges of a trip's way.
 pub const MAX_TRIP_EDGES: usize = 200;
 
 /// The most acts of a trip, and so the most stops of an order.

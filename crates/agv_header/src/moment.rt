@@ -28,7 +28,7 @@ impl Model for Moment {
 }
 
 impl Moment {
-    /// The moment at that many milliseconds since 1970-01-01T00:00:00Z; `None` where the number is
+    /// Returns the moment at `ms` milliseconds since 1970-01-01T00:00:00Z, or `None` if the number is
     /// below 0 or above 4102444799999.
     pub fn of(ms: i64) -> Option<Moment>
         ensures { result ≡ moment_at ms }
@@ -39,7 +39,7 @@ impl Moment {
         }
     }
 
-    /// Its milliseconds since 1970-01-01T00:00:00Z, from 0 to 4102444799999.
+    /// Returns its milliseconds since 1970-01-01T00:00:00Z, from 0 to 4102444799999.
     pub fn ms(self) -> i64
         ensures value { result ≡ pos self }
         ensures range { IsMoment self }

@@ -11,7 +11,7 @@ use std::marker::Model;
 use std::{fmt, str};
 use thiserror::Error;
 
-/// The most bytes that a name has.
+/// The most bytes of a name.
 const LONGEST: usize = 32;
 
 /// A name: 1 to 32 bytes of `A-Z a-z 0-9 _ . : -`. In a clause it is the list of its bytes.
@@ -37,7 +37,8 @@ impl Model for Name {
     ghost inverse_ok = { padded-shown };
 }
 
-/// The text is no name: it is empty, longer than 32 bytes, or has a byte that no name has.
+/// The error of a text that is no name: it is empty, longer than 32 bytes, or has a byte that no name
+/// has.
 #[derive(Clone, Copy, Debug, PartialEq, Eq, Error)]
 #[error("the text is no name: 1 to 32 bytes of A-Z a-z 0-9 _ . : -")]
 pub struct NotName;
@@ -45,8 +46,8 @@ pub struct NotName;
 impl Name {
     /// Reads a name. It takes no memory.
     ///
-    /// `NotName` where the text is empty, has more than 32 bytes, or has a byte that is no letter,
-    /// digit, `_`, `.`, `:` or `-` of ASCII.
+    /// Returns `NotName` if the text is empty, has more than 32 bytes, or has a byte that is no ASCII
+    /// letter or digit and not `_`, `.`, `:` or `-`.
     pub fn read(text: &str) -> Result<Name, NotName>
         ensures kept { IfOk result (λ name. name ≡ text.now) }
         ensures exact { IsOk result ↔ IsName text.now }
@@ -54,9 +55,8 @@ impl Name {
         Name::of_bytes(text.as_bytes()).ok_or(NotName)
     }
 
-    /// The name that the bytes spell. It takes no memory.
-    ///
-    /// None where they are no text that [`Name::read`] reads.
+    /// Returns the name with these bytes, or `None` if [`Name::read`] would read no name from them. It
+    /// takes no memory.
     pub fn of_bytes(bytes: &[u8]) -> Option<Name>
         ensures { result ≡ as_name bytes.now }
     {
@@ -71,7 +71,7 @@ impl Name {
         })
     }
 
-    /// The bytes of the name: 1 to 32, all ASCII.
+    /// Returns the bytes of the name: 1 to 32, all ASCII.
     pub fn as_bytes(&self) -> &[u8]
         ensures bytes { result.now ≡ self.now }
         ensures name { IsName self.now }
@@ -79,7 +79,7 @@ impl Name {
         &self.bytes[..self.len]
     }
 
-    /// The name as text.
+    /// Returns the name as text.
     pub fn as_str(&self) -> &str
         ensures text { result.now ≡ self.now }
         ensures name { IsName self.now }
@@ -143,18 +143,21 @@ impl fmt::Debug for Name {
     }
 }
 
+/// Returns whether the bytes are a name.
 fn spells_name(bytes: &[u8]) -> bool
     ensures { result ≡ is_name bytes.now }
 {
     !bytes.is_empty() && bytes.len() <= LONGEST && are_allowed(bytes)
 }
 
+/// Returns whether each of the bytes may be in a name.
 fn are_allowed(bytes: &[u8]) -> bool
     ensures { result ≡ list_all is_name_byte bytes.now }
 {
     bytes.iter().all(|byte| is_allowed(*byte))
 }
 
+/// Returns whether a name may have the byte.
 fn is_allowed(byte: u8) -> bool
     ensures { result ≡ is_name_byte byte }
 {

@@ -17,7 +17,7 @@ pub enum Verb {
 impl Verb {
     ghost use Rattle.agv_header.specs.Refusal.{verb_text};
 
-    /// Its name, as HTTP writes it. Its case counts.
+    /// Returns its name, as HTTP writes it. Its case counts.
     pub fn name(self) -> &'static str
         ensures { result.now ≡ verb_text self }
     {
@@ -33,7 +33,7 @@ impl Verb {
 /// Why the desk refuses a request. The numbers never change.
 #[derive(Clone, Copy, Debug, PartialEq, Eq)]
 pub enum Refusal {
-    // The face of HTTP; each of the first four ends the stream.
+    // The HTTP request; each of the first four ends the stream.
     /// The head of the request can't be read.
     BadHead,
     /// A PUT or POST without Content-Length.
@@ -50,7 +50,7 @@ pub enum Refusal {
     // The body.
     /// The body is no JSON text.
     BadJson,
-    /// A number with a fraction or an exponent, or beyond 64 bits.
+    /// A number has a fraction or an exponent, or is beyond 64 bits.
     Fraction,
     /// A state with a position, a velocity or a trajectory.
     Position,
@@ -58,11 +58,11 @@ pub enum Refusal {
     BadBody,
     /// The body isn't the CSV table that the call takes.
     BadCsv,
-    /// A message of another major version than 2.
+    /// The message's major version isn't 2.
     Version,
-    /// A timestamp that can't be read, or is not from 1970 to 2099.
+    /// The timestamp can't be read, or is not from 1970 to 2099.
     BadTimestamp,
-    /// A message of another vehicle than the path names.
+    /// The message is of another vehicle than the path names.
     WrongVehicle,
 
     // Something is unknown.
@@ -166,28 +166,28 @@ pub enum Refusal {
 impl Refusal {
     ghost use Rattle.agv_header.specs.Refusal.{row, row_of, number_of, name_of, status_of};
 
-    /// Its number, from 1 to 91, which the answer's body has as `refusal`.
+    /// Returns its number, from 1 to 91, which the answer's body has as `refusal`.
     pub fn number(&self) -> u8
         ensures { result ≡ number_of self.now }
     {
         self.row().0
     }
 
-    /// Its name, which the answer's body has as `name`: the name of the variant.
+    /// Returns its name, which the answer's body has as `name`: the name of the variant.
     pub fn name(&self) -> &'static str
         ensures { result.now ≡ name_of self.now }
     {
         self.row().1
     }
 
-    /// The HTTP status of the answer, from 400 to 503.
+    /// Returns the HTTP status of the answer, from 400 to 503.
     pub fn status(&self) -> u16
         ensures { result ≡ status_of self.now }
     {
         self.row().2
     }
 
-    /// Its number, its name and its HTTP status.
+    /// Returns its number, its name and its HTTP status.
     fn row(&self) -> (u8, &'static str, u16)
         ensures { row result.0 result.1.now result.2 ≡ row_of self.now }
     {

@@ -16,10 +16,10 @@ pub enum StampFault {
     Bad,
 }
 
-/// The moment that a text says, as `jiff` reads a timestamp, rounded down to milliseconds. It takes
-/// no memory.
+/// Reads the moment that a text says, as `jiff` reads a timestamp, rounded down to milliseconds. It
+/// takes no memory.
 ///
-/// `Bad` where `jiff` reads no timestamp, or one before 1970 or after 2099.
+/// Returns `Bad` if `jiff` reads no timestamp, or one before 1970 or after 2099.
 #[tactic(auto, unfolding(crate::specs::Stamp::moment_said))]
 pub fn read_stamp(text: &str) -> Result<Moment, StampFault>
     ensures { result ≡ ok_or (moment_said text.now) StampFault.Bad }
@@ -30,6 +30,7 @@ pub fn read_stamp(text: &str) -> Result<Moment, StampFault>
     moment_of(stamp).ok_or(StampFault::Bad)
 }
 
+/// Returns the moment of a timestamp, rounded down to milliseconds, if it is from 1970 to 2099.
 fn moment_of(stamp: Timestamp) -> Option<Moment>
     ensures { result ≡ moment_of_nanos stamp.nanosecond }
 {
@@ -40,8 +41,8 @@ fn moment_of(stamp: Timestamp) -> Option<Moment>
     Moment::of(stamp.as_millisecond())
 }
 
-/// The text of a moment, as `1991-03-11T11:40:03.12Z`: its civil date and time in UTC, with what is
-/// less than a hundredth of a second cut off.
+/// Writes a moment, as `1991-03-11T11:40:03.12Z`: its civil date and time in UTC, cut off to
+/// hundredths of a second.
 pub fn stamp_text(alloc: Global, moment: Moment) -> Result<String, Memory>
     ensures { IfOk result (λ text. string_bytes text ≡ stamp_of moment) }
 {

@@ -1,4 +1,4 @@
-//! Topics: where a message belongs, by vehicle and kind.
+//! Topics, which name the vehicle and the kind of a message.
 ghost use Rattle.std.specs.Prelude.{◌≡◌, ℕ, List, Some, Ok, IfOk, IfSome, IsSomeAnd, string_bytes};
 ghost use Rattle.agv_header.specs.Name.{IsName};
 ghost use Rattle.agv_header.specs.declared.key.VehicleKey.{VehicleKey as Key};
@@ -17,14 +17,15 @@ pub enum Topic {
     State,
 }
 
-/// The text is no topic of the desk.
+/// The error of a text that is no topic of the desk.
 #[derive(Clone, Copy, Debug, PartialEq, Eq, Error)]
 #[error("the text is no topic of the desk")]
 pub struct NotTopic;
 
-/// The vehicle and the topic that a text names, as `uagv/v2/KIT/0001/order`. It takes no memory.
+/// Reads the vehicle and the topic that a text names, as `uagv/v2/KIT/0001/order`. It takes no
+/// memory.
 ///
-/// `NotTopic` where the text is `topic_text` of no vehicle and topic.
+/// Returns `NotTopic` if the text is `topic_text` of no vehicle and topic.
 pub fn read_topic(text: &str) -> Result<(VehicleKey, Topic), NotTopic>
     ensures reads { IfOk result (λ found. IsTopicText text.now found.0 found.1) }
     ensures all { (key : Key) (topic : Kind) → IsTopicText text.now key topic
@@ -33,6 +34,7 @@ pub fn read_topic(text: &str) -> Result<(VehicleKey, Topic), NotTopic>
     named(text).ok_or(NotTopic)
 }
 
+/// Returns the vehicle and the topic that a text names, if it names them.
 fn named(text: &str) -> Option<(VehicleKey, Topic)>
     ensures reads { IfSome result (λ found. IsTopicText text.now found.0 found.1) }
     ensures all { (key : Key) (topic : Kind) → IsTopicText text.now key topic
@@ -46,7 +48,7 @@ fn named(text: &str) -> Option<(VehicleKey, Topic)>
     Some((key, topic_named(name)?))
 }
 
-/// The manufacturer, the serial number and the topic name, as far as the slashes tell.
+/// Splits a text at its slashes into the manufacturer, the serial number and the topic name.
 fn levels(text: &str) -> Option<(&str, &str, &str)>
     ensures reads { IfSome result
         (λ parts. text.now ≡ with_levels parts.0.now parts.1.now parts.2.now) }
@@ -61,6 +63,7 @@ fn levels(text: &str) -> Option<(&str, &str, &str)>
     Some((manufacturer, serial, name))
 }
 
+/// Returns the topic with this name, if there is one.
 fn topic_named(name: &str) -> Option<Topic>
     ensures reads { IfSome result (λ topic. name.now ≡ topic_name topic) }
     ensures all { (topic : Kind) → name.now ≡ topic_name topic → result ≡ Some topic }
@@ -73,7 +76,7 @@ fn topic_named(name: &str) -> Option<Topic>
     }
 }
 
-/// The text of a vehicle's topic: `uagv/v2/MANUFACTURER/SERIAL/` and `order`, `instantActions` or
+/// Writes a vehicle's topic: `uagv/v2/MANUFACTURER/SERIAL/` and `order`, `instantActions` or
 /// `state`.
 pub fn topic_text(alloc: Global, key: &VehicleKey, topic: Topic) -> Result<String, Memory>
     ensures { IfOk result (λ text. string_bytes text ≡ topic_of key.now topic) }
@@ -86,6 +89,7 @@ pub fn topic_text(alloc: Global, key: &VehicleKey, topic: Topic) -> Result<Strin
     )?)
 }
 
+/// Returns the name of a topic.
 fn name_of(topic: Topic) -> &'static str
     ensures { result.now ≡ topic_name topic }
 {

@@ -1,4 +1,4 @@
--- How a layout is stored as the value of a model: the triple of its parts.
+-- The coding of a layout, the value of a model: as the triple of its parts.
 use Rattle.std.specs.Prelude.{ℕ, List, refl}
 use Rattle.std.specs.Coded.{Coded, code_by, coded×, coded_ℕ, coded_list}
 use Rattle.std.specs.FinMap as map
@@ -8,16 +8,16 @@ use Rattle.agv_layout.specs.declared.edge.EdgeEnds.{EdgeEnds}
 use Rattle.agv_layout.specs.declared.station.StationSite.{StationSite}
 use Rattle.agv_layout.specs.Layout.{Layout}
 
--- an edge: its start and its finish
+-- an edge's ends as a pair: its start and its finish
 abbrev pub ends_code : Coded EdgeEnds
 ends_code =
     code_by (List ℕ × List ℕ) (coded× (coded_list coded_ℕ) (coded_list coded_ℕ)) (λ e. (e.start, e.finish)) (λ p. record { start = p.0; finish = p.1 }) (λ _. refl)
 
--- a station: its node and its capacity
+-- a station's site as a pair: its node and its capacity
 abbrev pub site_code : Coded StationSite
 site_code = code_by (List ℕ × ℕ) (coded× (coded_list coded_ℕ) coded_ℕ) (λ s. (s.node, s.capacity)) (λ p. record { node = p.0; capacity = p.1 }) (λ _. refl)
 
--- the nodes, the edges by name and the stations by name
+-- a layout as a triple: the nodes, the edges by name and the stations by name
 abbrev pub layout_code : Coded Layout
 layout_code =
     code_by (set.FinSet name_cmp × (map.FinMap name_cmp EdgeEnds × map.FinMap name_cmp StationSite))

@@ -1,4 +1,4 @@
--- What is read of rows so far, as a layout's parts. No public clause cites this.
+-- The part of a layout that is read from its rows so far. No public clause cites this.
 use Rattle.std.specs.Prelude.{◌≤◌, Bool, ◌&&◌, not, nat_eq, nat_le, is_some}
 use Rattle.std.specs.BTreeSet.{contains}
 use Rattle.std.specs.Cmp.Lexicographic.{pointwise}
@@ -12,7 +12,7 @@ use Rattle.agv_layout.specs.declared.row.LayoutRow.TheVariants as row
 use Rattle.agv_layout.specs.declared.station.StationSite.{StationSite}
 use Rattle.agv_layout.specs.Layout.{Name, Layout, IsEdge, IsStation, Leads, StationFits}
 
--- the parts of a draft
+-- the layout that a draft's parts make
 abbrev pub drawn : Draft → Layout
 drawn draft = record {
   nodes = set.from_list draft.nodes.keys;
@@ -26,7 +26,7 @@ has_id plan (row.Node id) = set.contains plan.nodes id
 has_id plan (row.Edge id start finish) = is_some (map.get plan.edges id)
 has_id plan (row.Station id node capacity) = is_some (map.get plan.stations id)
 
--- with what one more row says
+-- the layout with the row's node, edge or station added
 abbrev pub with_row : Layout → LayoutRow → Layout
 with_row plan (row.Node id) = record { nodes = set.insert plan.nodes id; edges = plan.edges; stations = plan.stations }
 with_row plan (row.Edge id start finish) = record {
@@ -40,12 +40,12 @@ with_row plan (row.Station id node capacity) = record {
   stations = map.insert plan.stations id (record { node = node; capacity = capacity });
 }
 
--- an edge leads from a node of the draft to another
+-- the edge leads from a node of the draft to another
 abbrev pub leads_in_draft : Draft → EdgeEnds → Bool
 leads_in_draft draft ends =
     contains name_cmp draft.nodes ends.start && (contains name_cmp draft.nodes ends.finish && not (pointwise nat_eq ends.start ends.finish))
 
--- a station at a node, with a capacity of 1 to 999
+-- the station is at a node of the draft, and has a capacity of 1 to 999
 abbrev pub stands_in_draft : Draft → StationSite → Bool
 stands_in_draft draft site = contains name_cmp draft.nodes site.node && (nat_le 1 site.capacity && nat_le site.capacity 999)
 
@@ -61,7 +61,7 @@ AllLead plan = (id : Name) (ends : EdgeEnds) → IsEdge plan id ends → Leads p
 abbrev pub AllStand : Layout → Type 0
 AllStand plan = (id : Name) (site : StationSite) → IsStation plan id site → StationFits plan site
 
--- there is a node, and edges and stations are at nodes
+-- there is a node, edges lead from a node to another, and stations are at nodes with a capacity of 1 to 999
 pub record IsWhole (plan : Layout) : Type 0 where
   pub some : HasNode plan
   pub leads : AllLead plan

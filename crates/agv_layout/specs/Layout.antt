@@ -13,29 +13,29 @@ use Rattle.agv_layout.specs.declared.station.Station.{Station}
 abbrev pub Name : Type 0
 Name = List ℕ
 
--- the set of the nodes, what each edge leads from and to, where each station is, and its capacity
+-- a layout: its set of nodes, the ends of each edge, and the node and capacity of each station
 pub record Layout : Type 0 where
   pub nodes : set.FinSet name_cmp
   pub edges : map.FinMap name_cmp EdgeEnds
   pub stations : map.FinMap name_cmp StationSite
 
--- it is a node of the layout
+-- the layout has a node of this name
 abbrev pub IsNode : Layout → Name → Type 0
 IsNode layout id = IsTrue (set.contains layout.nodes id)
 
--- the edge of this name leads so
+-- the layout has an edge of this name, with these ends
 abbrev pub IsEdge : Layout → Name → EdgeEnds → Type 0
 IsEdge layout id ends = map.get layout.edges id ≡ Some ends
 
--- the station of this name is there
+-- the layout has a station of this name, at this site
 abbrev pub IsStation : Layout → Name → StationSite → Type 0
 IsStation layout id site = map.get layout.stations id ≡ Some site
 
--- an edge leads from a node to another node
+-- the edge leads from a node of the layout to another
 abbrev pub Leads : Layout → EdgeEnds → Type 0
 Leads layout ends = IsNode layout ends.start × IsNode layout ends.finish × (ends.start ≢ ends.finish)
 
--- a station is at a node, and its capacity is 1 to 999 loads
+-- the station is at a node of the layout, and its capacity is 1 to 999 loads
 abbrev pub StationFits : Layout → StationSite → Type 0
 StationFits layout site = IsNode layout site.node × (1 ≤ site.capacity) × (site.capacity ≤ 999)
 
@@ -52,15 +52,15 @@ pub record KeepsRules (layout : Layout) : Type 0 where
   pub leads : (id : Name) (ends : EdgeEnds) → IsEdge layout id ends → Leads layout ends
   pub stands : (id : Name) (site : StationSite) → IsStation layout id site → StationFits layout site
 
--- the nodes, each once, in the order of their names
+-- the list has exactly the nodes of the layout, each once, in the order of their names
 pub record AreNodesInOrder (layout : Layout) (ids : List Name) : Type 0 where
   pub ordered : IsStrictlySortedBy name_cmp ids
   pub all : set.from_list ids ≡ layout.nodes
 
--- the edge of this name, with these ends
+-- the edge with this name and these ends
 abbrev pub edge_of : Name → EdgeEnds → Edge
 edge_of id ends = record { id = id; start = ends.start; finish = ends.finish }
 
--- the station of this name, at this site
+-- the station with this name and this site
 abbrev pub station_of : Name → StationSite → Station
 station_of id site = record { id = id; node = site.node; capacity = site.capacity }

@@ -1,4 +1,4 @@
--- What rows give: a layout, or why they give none; and the rows of a layout (this project's profile).
+-- The layout that rows give, or why they give none; and the rows of a layout (this project's profile).
 use Rattle.std.specs.Prelude.{◌&&◌, ◌||◌, not, nat_eq, nat_lt, nat_le, Bool, true, List, [], ◌∷◌, ◌++◌, map, length, Result, Ok, Err, if◌then◌else◌, ⊤}
 use Rattle.std.specs.BTreeMap.{is_at}
 use Rattle.std.specs.Cmp.Lexicographic.{pointwise}
@@ -49,7 +49,7 @@ is_sound rows =
     && (list_all (leads_among (nodes_in rows)) (values_of (edges_in rows))
     && list_all (stands_among (nodes_in rows)) (values_of (stations_in rows))))
 
--- the nodes, edges and stations that stand among the rows
+-- the nodes, edges and stations among the rows
 abbrev pub layout_in : List LayoutRow → Layout
 layout_in rows = record {
   nodes = set.from_list (nodes_in rows);
@@ -57,7 +57,7 @@ layout_in rows = record {
   stations = finite.from_entries (stations_in rows);
 }
 
--- the layout that the rows give; Limit comes before Bad
+-- the layout that the rows give, or the error: Limit is tested before Bad
 unfoldable pub layout_of : List LayoutRow → Result Layout LayoutFault
 layout_of rows = if is_over_limit rows then Err fault.Limit else (if is_sound rows then Ok (layout_in rows) else Err fault.Bad)
 
@@ -69,7 +69,7 @@ edge_row edge = row.Edge edge.0 edge.1.start edge.1.finish
 abbrev pub station_row : Name × StationSite → LayoutRow
 station_row station = row.Station station.0 station.1.node station.1.capacity
 
--- the nodes of a layout, each once, in the order of their names, as the keys of a map are
+-- the nodes of a layout, each once, in the order of their names
 abbrev pub nodes_of : Layout → List Name
 nodes_of layout = finite.keys (finite.from_entries {X = ⊤} {R = name_cmp} (map (λ id. (id, tt)) (set.items layout.nodes)))
 

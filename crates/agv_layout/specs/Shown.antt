@@ -1,10 +1,10 @@
--- How a layout is kept: the nodes, edges and stations, each in the order of their names.
+-- How a layout is stored: its nodes, edges and stations, each in the order of their names.
 use Rattle.std.specs.FinMap as map
 use Rattle.std.specs.FinSet as set
 use Rattle.agv_layout.specs.declared.layout.Layout.TheInside.{Inside}
 use Rattle.agv_layout.specs.Layout.{Layout}
 
--- the set of the nodes, and the maps of the edges and the stations
+-- the layout that the stored parts make
 abbrev pub shown : Inside → Layout
 shown layout = record {
   nodes = set.from_list layout.nodes.keys;

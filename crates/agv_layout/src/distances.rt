@@ -1,4 +1,4 @@
-//! How far the nodes are from a goal: level by level, against the edges.
+//! The distances of nodes from a goal, found level by level against the direction of the edges.
 ghost use Rattle.std.specs.Prelude.{◌≡◌, ◌+◌, ◌≤◌, cond, not, ◌&&◌, ◌||◌, is_some, vec_len, IfOk, OnOk, Some, None, true};
 ghost use Rattle.std.specs.Option.{option_or};
 ghost use Rattle.std.specs.BTreeMap as tree;
@@ -21,13 +21,13 @@ use std::collections::{BTreeMap, BTreeSet};
 /// For each node where an edge finishes, the nodes where such edges start.
 pub(crate) type Arrivals = BTreeMap<Name, Vec<Name>>;
 
-/// How many edges a walk from each node to the goal takes at least.
+/// For each node from which a walk leads to the goal, the least number of edges of such a walk.
 pub(crate) type Distances = BTreeMap<Name, u32>;
 
-/// How far each node is from the goal. A node from which no walk leads there has no distance.
+/// Returns the distance of each node from the goal. A node from which no walk leads there has none.
 ///
-/// Each level has the nodes that are one edge farther than the last, and each node is in one level
-/// alone, so the time is that of the nodes and the edges, each times the depth of a map.
+/// Each level has the nodes that are one edge farther than the last, and each node is in only one
+/// level, so the time is that of the nodes and the edges, each times the depth of a map.
 pub(crate) fn distances_to(
     alloc: Global,
     nodes: &BTreeSet<Name>,
@@ -52,7 +52,7 @@ pub(crate) fn distances_to(
     Ok(distances)
 }
 
-/// The starts of all edges, by their finishes.
+/// Collects the starts of all edges, by their finishes.
 fn arrivals_of(alloc: Global, edges: &BTreeMap<Name, EdgeEnds>) -> Result<Arrivals, Memory>
     ensures all { IfOk result (λ arrivals. (start finish : NameOf) → leads arrivals start finish
         ≡ list_any (is_so start finish) edges.now.entries) }
@@ -77,7 +77,7 @@ fn add_arrival(alloc: Global, arrivals: &mut Arrivals, ends: EdgeEnds) -> Result
     Ok(())
 }
 
-/// The nodes that are one edge farther than a level, each noted with its distance.
+/// Finds the nodes that are one edge farther than a level, and records their distance.
 fn next_level(
     alloc: Global,
     arrivals: &Arrivals,
@@ -99,7 +99,7 @@ fn next_level(
     Ok(found)
 }
 
-/// Notes this distance of the nodes among these that have none yet.
+/// Records this distance for those of the nodes that have none yet, and adds them to `found`.
 fn note_all(
     distances: &mut Distances,
     starts: &[Name],
@@ -119,7 +119,7 @@ fn note_all(
     Ok(())
 }
 
-/// Notes this distance of a node that has none yet.
+/// Records this distance for a node if it has none yet, and adds the node to `found`.
 fn note(
     distances: &mut Distances,
     start: Name,
@@ -141,7 +141,7 @@ fn note(
     Ok(())
 }
 
-/// The nodes where the edges to a node start.
+/// Returns the nodes where the edges to a node start.
 fn starts_of(arrivals: &Arrivals, finish: Name) -> &[Name]
     ensures { result.now ≡ starts_of arrivals.now finish }
 {

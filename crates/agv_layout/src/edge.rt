@@ -2,14 +2,14 @@
 
 use agv_header::Name;
 
-/// Where an edge leads: from its start to its finish.
+/// The ends of an edge, which leads from its start to its finish.
 #[derive(Clone, Copy, Debug, PartialEq, Eq)]
 pub struct EdgeEnds {
     pub start: Name,
     pub finish: Name,
 }
 
-/// An edge and the two nodes that it leads from and to.
+/// An edge and its two nodes.
 #[derive(Clone, Copy, Debug, PartialEq, Eq)]
 pub struct Edge {
     pub id: Name,

@@ -3,7 +3,7 @@
 use std::alloc::{AllocError, AllocFailed};
 use thiserror::Error;
 
-/// Rows that give no layout, or memory that ran out.
+/// Why rows give no layout, or that memory ran out.
 #[derive(Clone, Copy, Debug, PartialEq, Eq, Error)]
 pub enum LayoutFault {
     /// More than 500 nodes, 1,500 edges or 500 stations.

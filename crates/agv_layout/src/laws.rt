@@ -1,5 +1,5 @@
-//! What holds of the definitions that the contracts of this crate cite, whatever the code does.
-//! Each function does nothing: its clause is the law.
+//! Laws of the definitions that the contracts of this crate cite. Each function does nothing: its
+//! clause is the law.
 ghost use Rattle.std.specs.Prelude.{◌≡◌, List, ◌++◌, Ok, Option, length, option_map};
 ghost use Rattle.std.specs.FinSet as set;
 ghost use Rattle.agv_layout.specs.declared.row.LayoutRow.{LayoutRow};
@@ -10,82 +10,82 @@ ghost use Rattle.agv_layout.specs.Rows.{AreNamed, IsEachOnce, IsLayoutOf, IsOver
 ghost use Rattle.std.specs.List.Sorted.{IsPermutation};
 ghost use Rattle.agv_layout.specs.Walk.{IsWalk, IsHops, IsWayTo};
 
-/// The order of rows does not count: rows in another order are too many, bad or a layout where these are,
-/// and then the same layout.
+/// Proves that the order of rows does not count: rows in another order are over the limits, or sound, exactly if these
+/// are, and give the same layout.
 pub fn ignores_order()
     ensures { (rows others : List LayoutRow) → IsPermutation rows others → IsReadAlike rows others }
 {}
 
-/// Rows give one layout at most.
+/// Proves that rows give at most one layout.
 pub fn is_one_layout()
     ensures { (rows : List LayoutRow) (one other : Plan) → IsLayoutOf rows one → IsLayoutOf rows other → one ≡ other }
 {}
 
-/// From a layout back to rows: rows that are each once and have what the layout has are sound, each id in them is
-/// a name, and they are not too many, so they give this layout again.
+/// Proves that rows in which each id is once in its kind, and which have exactly what a layout has, are sound, within
+/// the limits, and named, so that they give this layout again.
 pub fn gives_sound_rows()
     ensures { (rows : List LayoutRow) (layout : Plan) → IsEachOnce rows → IsLayoutOf rows layout → KeepsRules layout
         → (¬ IsOverLimit rows) × IsSound rows × AreNamed rows }
 {}
 
-/// The rows of a layout give it again.
+/// Proves that the rows of a layout give it again.
 pub fn gives_itself()
     ensures { (layout : Plan) → KeepsRules layout → layout_of (rows_in layout) ≡ Ok layout }
 {}
 
-/// The nodes of a layout are listed each once, in the order of their names.
+/// Proves that `nodes_of` lists the nodes of a layout, each once, in the order of their names.
 pub fn lists_its_nodes()
     ensures { (layout : Plan) → AreNodesInOrder layout (nodes_of layout) }
 {}
 
-/// What rows give keeps the rules of a layout.
+/// Proves that a layout given by rows keeps the rules of layouts.
 pub fn rules_law()
     ensures { (rows : List LayoutRow) (layout : Plan) → AreNamed rows → layout_of rows ≡ Ok layout → KeepsRules layout }
 {}
 
-/// The rows of what has no node give no layout.
+/// Proves that the rows of a plan without nodes give no layout.
 pub fn needs_a_node()
     ensures { (empty layout : Plan) → empty.nodes ≡ set.empty → ¬ (layout_of (rows_in empty) ≡ Ok layout) }
 {}
 
-/// There is one way from a node to another, or none.
+/// Proves that there is at most one route from a node to another.
 pub fn is_one_way()
     ensures { (layout : Plan) (from to : NameOf) (one other : Option (List NameOf))
         → IsWayTo layout from to one → IsWayTo layout from to other → one ≡ other }
 {}
 
-/// What the function of a layout gives for a route is the way, and it gives none where no walk leads there. So the
-/// route that the contracts name by its properties and the one that they name by a function are one.
+/// Proves that `route_of` gives the route, and none if no walk leads there: the route that contracts define by its
+/// properties is the one that they define by a function.
 pub fn route_is_found()
     ensures { (layout : Plan) (from to : NameOf) → IsWayTo layout from to (route_of layout from to) }
 {}
 
-/// The way has as many edges as it takes hops.
+/// Proves that the route has as many edges as the least number of hops.
 pub fn has_as_many_hops()
     ensures { (layout : Plan) (from to : NameOf) (way : Option (List NameOf))
         → IsWayTo layout from to way → IsHops layout from to (option_map length way) }
 {}
 
-/// A walk leads from a node of the layout to a node of the layout, so no walk has an unknown name at an end.
+/// Proves that a walk leads from a node of the layout to a node of the layout, so that both its ends are known names.
 pub fn joins_nodes()
     ensures { (layout : Plan) → KeepsRules layout → (from to : NameOf) (ids : List NameOf)
         → IsWalk layout from ids to → IsNode layout from × IsNode layout to }
 {}
 
-/// Walks join: a walk, and a walk from where it ends, are one walk.
+/// Proves that a walk, followed by a walk from where it ends, is a walk.
 pub fn joins_walks()
     ensures { (layout : Plan) (from via to : NameOf) (ids others : List NameOf)
         → IsWalk layout from ids via → IsWalk layout via others to → IsWalk layout from (ids ++ others) to }
 {}
 
-/// A walk splits at each of its nodes: wherever it is cut, the first part leads to a node, and the second on from there.
+/// Proves that a walk splits at each of its nodes: the first part leads to the node, and the second on from there.
 pub fn splits_walks()
     ensures { (layout : Plan) → KeepsRules layout → (from to : NameOf) (ids others : List NameOf)
         → IsWalk layout from (ids ++ others) to
         → (via : NameOf) × IsWalk layout from ids via × IsWalk layout via others to }
 {}
 
-/// A walk ends at one node.
+/// Proves that a walk ends at only one node.
 pub fn has_one_end()
     ensures { (layout : Plan) (from to other : NameOf) (ids : List NameOf)
         → IsWalk layout from ids to → IsWalk layout from ids other → to ≡ other }

@@ -1,4 +1,4 @@
-//! Layouts, and what they say of a name.
+//! Layouts, and lookups in them by name.
 ghost use Rattle.std.specs.Prelude.{◌≡◌, ◌≢◌, ◌↔◌, Ok, Err, IfOk, IfErr, option_map};
 ghost use Rattle.std.specs.FinMap as map;
 ghost use Rattle.std.specs.FinSet as set;
@@ -15,7 +15,7 @@ use std::alloc::Global;
 use std::collections::{BTreeMap, BTreeSet, btree_map, btree_set};
 use std::marker::Model;
 
-/// The nodes, edges and stations of one warehouse, as rows that are a layout give them.
+/// The nodes, edges and stations of one warehouse, made from rows that describe a layout.
 #[derive(Debug, Drop)]
 pub struct Layout {
     pub(crate) nodes: BTreeSet<Name>,
@@ -38,12 +38,14 @@ impl Model for Layout {
 }
 
 impl Layout {
-    /// The layout that the rows give, in whatever order they are.
+    /// Makes the layout that the rows give, in whatever order they are.
     ///
-    /// - `Limit` where there are more than 500 nodes, 1,500 edges or 500 stations.
-    /// - `Bad`, else, where there is no node, where an id is twice within a kind (a node and a
-    ///   station may have the same), where an edge or a station has a node that is not listed, where
-    ///   an edge leads from a node to itself, or where a capacity is not 1 to 999.
+    /// It returns
+    ///
+    /// - `Limit` if there are more than 500 nodes, 1,500 edges or 500 stations;
+    /// - otherwise `Bad` if there is no node, if an id is twice within a kind (a node and a station may
+    ///   have the same), if an edge or a station has a node that is not listed, if an edge leads from a
+    ///   node to itself, or if a capacity is not 1 to 999;
     /// - `Memory` only when out of memory.
     ///
     /// It takes time in proportion to the rows, times the logarithm of their number.
@@ -68,19 +70,17 @@ impl Layout {
         })
     }
 
-    /// What holds of every layout: it has a node, edges lead from a node to another, stations are
+    /// Proves what holds of every layout: it has a node, edges lead from a node to another, stations are
     /// at nodes and hold 1 to 999 loads, all ids are names, and there are at most 500 nodes, 1,500
     /// edges and 500 stations. It does nothing: a proof calls it for its clause, which the type's
-    /// invariant gives where a field is looked at.
+    /// invariant gives when a field is read.
     pub fn layout_law(&self)
         ensures { KeepsRules self.now }
     {
         let _ = &self.nodes;
     }
 
-    /// A layout equal to this one.
-    ///
-    /// `Memory` only when out of memory.
+    /// Returns a layout equal to this one, or `Memory` when out of memory.
     pub fn copy(&self) -> Result<Layout, Memory>
         ensures copied { IfOk result (λ copy. copy ≡ self.now) }
     {
@@ -91,56 +91,56 @@ impl Layout {
         })
     }
 
-    /// The nodes, in the order of their names.
+    /// Returns an iterator over the nodes, in the order of their names.
     pub fn nodes(&self) -> btree_set::Iter<'_, Name>
         ensures nodes { AreNodesInOrder self.now result }
     {
         self.nodes.iter()
     }
 
-    /// The edges, in the order of their names: the name of each, and where it leads.
+    /// Returns an iterator over the edges, in the order of their names: the name and the ends of each.
     pub fn edges(&self) -> btree_map::Iter<'_, Name, EdgeEnds>
         ensures edges { result ≡ map.entries self.now.edges }
     {
         self.edges.iter()
     }
 
-    /// The stations, in the order of their names: the name of each, where it is, and its capacity.
+    /// Returns an iterator over the stations, in the order of their names: the name, node and capacity of each.
     pub fn stations(&self) -> btree_map::Iter<'_, Name, StationSite>
         ensures stations { result ≡ map.entries self.now.stations }
     {
         self.stations.iter()
     }
 
-    /// How many nodes there are: 1 to 500.
+    /// Returns the number of nodes: 1 to 500.
     pub fn node_count(&self) -> usize
         ensures { result ≡ set.len self.now.nodes }
     {
         self.nodes.len()
     }
 
-    /// How many edges there are: at most 1,500.
+    /// Returns the number of edges: at most 1,500.
     pub fn edge_count(&self) -> usize
         ensures { result ≡ map.len self.now.edges }
     {
         self.edges.len()
     }
 
-    /// How many stations there are: at most 500.
+    /// Returns the number of stations: at most 500.
     pub fn station_count(&self) -> usize
         ensures { result ≡ map.len self.now.stations }
     {
         self.stations.len()
     }
 
-    /// Whether this is a node of the layout.
+    /// Returns whether the layout has a node of this name.
     pub fn node(&self, id: Name) -> bool
         ensures { result ≡ set.contains self.now.nodes id }
     {
         self.nodes.contains(&id)
     }
 
-    /// The edge of this name.
+    /// Returns the edge of this name, if there is one.
     pub fn edge(&self, id: Name) -> Option<Edge>
         ensures { result ≡ option_map (edge_of id) (map.get self.now.edges id) }
     {
@@ -152,7 +152,7 @@ impl Layout {
         })
     }
 
-    /// The station of this name.
+    /// Returns the station of this name, if there is one.
     pub fn station(&self, id: Name) -> Option<Station>
         ensures { result ≡ option_map (station_of id) (map.get self.now.stations id) }
     {
@@ -165,7 +165,7 @@ impl Layout {
     }
 }
 
-/// The edges again.
+/// Copies the edges.
 fn copy_edges(edges: &BTreeMap<Name, EdgeEnds>) -> Result<BTreeMap<Name, EdgeEnds>, Memory>
     ensures { IfOk result (λ copy. copy.entries ≡ edges.now.entries) }
 {

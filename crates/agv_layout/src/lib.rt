@@ -1,14 +1,14 @@
 //! The layout of one warehouse, and the routes on it.
 //!
 //! - A [`Layout`] has nodes, edges from node to node, and stations at nodes. [`Layout::of_rows`]
-//!   makes one of its rows, in any order, and refuses rows that are not a valid layout. [`Layout::rows`]
+//!   makes one from rows, in any order, and refuses rows that are not a valid layout. [`Layout::rows`]
 //!   lists the rows again.
 //! - [`Layout::node`], [`Layout::edge`] and [`Layout::station`] look a name up, without memory.
-//! - [`Layout::nodes`], [`Layout::edges`] and [`Layout::stations`] go through a layout in the order of names, and
+//! - [`Layout::nodes`], [`Layout::edges`] and [`Layout::stations`] iterate over a layout in the order of names, and
 //!   [`Layout::node_count`] and its like count, all without memory.
 //! - [`Layout::hops`] is the least number of edges from one node to another, and [`Layout::route`]
-//!   the way to go: of all walks of this many edges the first by the names of its edges.
-//! - [`laws`] says that the definitions of these contracts agree.
+//!   the walk to take: of all walks of this many edges the first by the names of its edges.
+//! - [`laws`] proves that the definitions of these contracts agree.
 #![tactic(auto)]
 
 mod distances;

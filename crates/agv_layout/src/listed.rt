@@ -12,10 +12,10 @@ use std::alloc::Global;
 use std::collections::{BTreeMap, BTreeSet};
 
 impl Layout {
-    /// The rows of this layout: its nodes, its edges and its stations, each in the order of their names. They give
-    /// it again.
+    /// Lists the rows of this layout: its nodes, its edges and its stations, each in the order of their names.
+    /// [`Layout::of_rows`] makes the same layout from them.
     ///
-    /// `Memory` only when out of memory.
+    /// Returns `Memory` only when out of memory.
     pub fn rows(&self, alloc: Global) -> Result<Vec<LayoutRow>, Memory>
         ensures rows { IfOk result (λ rows. rows.items ≡ rows_in self.now) }
     {

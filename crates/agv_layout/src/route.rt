@@ -1,4 +1,4 @@
-//! How far it is from node to node, and which way to go.
+//! The least number of edges between two nodes, and the route.
 ghost use Rattle.std.specs.Prelude.{◌≡◌, cond, IfOk, OnOk, Some, None, option_map};
 ghost use Rattle.std.specs.BTreeMap as tree;
 ghost use Rattle.std.specs.Option.{option_or};
@@ -18,11 +18,11 @@ use std::collections::BTreeMap;
 type Ways = BTreeMap<Name, Edge>;
 
 impl Layout {
-    /// The least number of edges of a walk from one node to another: none where no walk leads there,
-    /// and so where one of the names is unknown; 0 from a node to itself.
+    /// Returns the least number of edges of a walk from one node to another: 0 from a node to itself,
+    /// and `None` if no walk leads there, as when one of the names is unknown.
     ///
-    /// The time is that of the nodes and the edges, each times the depth of a map. `Memory` only when
-    /// out of memory.
+    /// The time is that of the nodes and the edges, each times the depth of a map. Returns `Memory` only
+    /// when out of memory.
     pub fn hops(&self, alloc: Global, from: Name, to: Name) -> Result<Option<u32>, Memory>
         ensures hops { IfOk result (IsHops self.now from to) }
         ensures exact { IfOk result (λ hops. hops ≡ hops_of self.now from to) }
@@ -34,12 +34,12 @@ impl Layout {
         Ok(hops_from(&distances, from))
     }
 
-    /// The way from one node to another, as the names of its edges: of all walks of least length the
-    /// first, names being compared one by one. None where no walk leads there, and so where one of the
-    /// names is unknown; the empty list from a node to itself.
+    /// Returns the route from one node to another, as the names of its edges: of all shortest walks the
+    /// first, names being compared one by one. It is the empty list from a node to itself, and `None` if
+    /// no walk leads there, as when one of the names is unknown.
     ///
     /// At each node it takes the edge of least name that leads nearer. The time is that of the nodes
-    /// and the edges, each times the depth of a map. `Memory` only when out of memory.
+    /// and the edges, each times the depth of a map. Returns `Memory` only when out of memory.
     pub fn route(&self, alloc: Global, from: Name, to: Name) -> Result<Option<Vec<Name>>, Memory>
         ensures route { IfOk result (λ route. IsWayTo self.now from to (option_map (λ ids. ids.items) route)) }
         ensures exact { IfOk result (λ route. option_map (λ ids. ids.items) route ≡ route_of self.now from to) }
@@ -56,14 +56,14 @@ impl Layout {
     }
 }
 
-/// How many edges it takes from a node.
+/// Returns the distance of a node, if it has one.
 fn hops_from(distances: &Distances, from: Name) -> Option<u32>
     ensures { result ≡ tree.get name_cmp distances.now from }
 {
     distances.get(&from).copied()
 }
 
-/// For each node the edge of least name that leads nearer. The edges come in the order of their names.
+/// Finds for each node the edge of least name that leads nearer to the goal. The edges come in the order of names.
 fn first_ways(
     alloc: Global,
     edges: &BTreeMap<Name, EdgeEnds>,
@@ -79,7 +79,7 @@ fn first_ways(
     Ok(ways)
 }
 
-/// Takes an edge that leads nearer for the one to take at its start, if there is none yet.
+/// Records an edge that leads nearer to the goal as the one to take at its start, if there is none yet.
 fn consider(ways: &mut Ways, distances: &Distances, id: Name, ends: EdgeEnds) -> Result<(), Memory>
     ensures { OnOk result ((at : NameOf) → tree.get name_cmp ways.new at
         ≡ option_or (tree.get name_cmp ways.old at) (cond (is_way distances.now at ends) (Some (edge_of id ends)) None)) }
@@ -99,7 +99,7 @@ fn consider(ways: &mut Ways, distances: &Distances, id: Name, ends: EdgeEnds) ->
     Ok(())
 }
 
-/// Whether an edge leads nearer to the goal.
+/// Returns whether an edge leads nearer to the goal.
 fn is_nearer(distances: &Distances, ends: &EdgeEnds) -> bool
     ensures { result ≡ is_nearer distances.now ends.now }
 {
@@ -109,7 +109,7 @@ fn is_nearer(distances: &Distances, ends: &EdgeEnds) -> bool
     }
 }
 
-/// The walk of this many edges that takes each node's edge.
+/// Returns the walk of at most this many edges that takes each node's edge.
 fn follow(alloc: Global, ways: &Ways, from: Name, hops: u32) -> Result<Vec<Name>, Memory>
     ensures { IfOk result (λ ids. ids.items ≡ followed ways.now from hops) }
 {

@@ -6,19 +6,19 @@ ghost use Rattle.agv_layout.specs.Rows.{IsOverLimit, id_in};
 use agv_header::Name;
 use agv_header::limits::{MAX_LAYOUT_EDGES, MAX_LAYOUT_NODES, MAX_LAYOUT_STATIONS};
 
-/// One node, edge or station.
+/// A row of a layout: one node, edge or station.
 #[derive(Clone, Copy, Debug, PartialEq, Eq)]
 pub enum LayoutRow {
     /// A place where a vehicle can stand.
     Node { id: Name },
     /// A stretch of track from one node to another.
     Edge { id: Name, start: Name, finish: Name },
-    /// A place for loads at a node; `capacity` is how many fit there.
+    /// A place for loads at a node, where `capacity` loads fit.
     Station { id: Name, node: Name, capacity: u32 },
 }
 
 impl LayoutRow {
-    /// The id of a row is a name. It does nothing: a proof calls it for its clause.
+    /// Proves that the id of a row is a name. It does nothing: a proof calls it for its clause.
     pub fn name_law(&self)
         ensures { IsName (id_in self.now) }
     {
@@ -30,6 +30,7 @@ impl LayoutRow {
     }
 }
 
+/// Returns whether there are more than 500 nodes, 1,500 edges or 500 stations among the rows.
 pub(crate) fn are_over_limit(rows: &[LayoutRow]) -> bool
     ensures { IsTrue result ↔ IsOverLimit rows.now }
 {
@@ -46,6 +47,7 @@ pub(crate) fn are_over_limit(rows: &[LayoutRow]) -> bool
     are_too_many(nodes, edges, stations)
 }
 
+/// Returns whether the numbers are over the limits of a layout.
 fn are_too_many(nodes: usize, edges: usize, stations: usize) -> bool
     ensures { IsTrue result ↔ ((500 < nodes) ⊎ ((1500 < edges) ⊎ (500 < stations))) }
 {

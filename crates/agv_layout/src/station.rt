@@ -2,7 +2,7 @@
 
 use agv_header::Name;
 
-/// Where a station is, and how many loads fit there: 1 to 999.
+/// The node of a station, and how many loads fit there: 1 to 999.
 #[derive(Clone, Copy, Debug, PartialEq, Eq)]
 pub struct StationSite {
     pub node: Name,

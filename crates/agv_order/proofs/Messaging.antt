@@ -6,9 +6,9 @@ use Rattle.std.proofs.lemmas.List.Elements.{filter-append}
 use Rattle.std.proofs.lemmas.List.FromFn.{length-enumerate_from}
 use Rattle.std.specs.List.{filter, enumerate_from}
 use Rattle.agv_layout.specs.declared.edge.Edge.{Edge}
-use Rattle.agv_message.specs.declared.order.OrderAct.{OrderAct}
-use Rattle.agv_message.specs.declared.order.OrderEdge.{OrderEdge}
-use Rattle.agv_message.specs.declared.order.OrderNode.{OrderNode}
+use Rattle.agv_message_core.specs.declared.order.OrderAct.{OrderAct}
+use Rattle.agv_message_core.specs.declared.order.OrderEdge.{OrderEdge}
+use Rattle.agv_message_core.specs.declared.order.OrderNode.{OrderNode}
 use Rattle.agv_order.specs.declared.act.Act.{Act}
 use Rattle.agv_order.specs.declared.trip.Trip.{Trip}
 use Rattle.agv_order.specs.Messages.{order_act, acts_at, order_node, order_edge}

@@ -1,8 +1,8 @@
 -- Reading the stops of a job one by one says whether they are a pick and then a drop.
 use Rattle.std.proofs.Common.{◌≡◌, ℕ, false, List, [], ◌∷◌, refl}
 use Rattle.std.specs.List.{fold}
-use Rattle.agv_message.specs.declared.order.ActKind.{ActKind}
-use Rattle.agv_message.specs.declared.order.ActKind.TheVariants.{Pick, Drop}
+use Rattle.agv_message_core.specs.declared.order.ActKind.{ActKind}
+use Rattle.agv_message_core.specs.declared.order.ActKind.TheVariants.{Pick, Drop}
 use Rattle.agv_order.specs.declared.job_progress.JobProgress.{JobProgress}
 use Rattle.agv_order.specs.declared.job_progress.JobProgress.TheVariants.{Waiting, Wrong}
 use Rattle.agv_order.specs.declared.stop.Stop.{Stop}

@@ -5,7 +5,7 @@ use Rattle.std.proofs.lemmas.List.Elements.{filter_more}
 use Rattle.std.specs.List.{filter}
 use Rattle.std.specs.Option.{option_map, option_to_list}
 use Rattle.std.specs.Cmp.Lexicographic.{pointwise}
-use Rattle.agv_message.specs.declared.order.OrderNode.{OrderNode}
+use Rattle.agv_message_core.specs.declared.order.OrderNode.{OrderNode}
 use Rattle.agv_order.specs.declared.stitch.Mark.{Mark}
 use Rattle.agv_order.specs.Joins.{front_of, is_stitching_node, last_of}
 use Rattle.agv_order.specs.Stitch.{is_released, mark_of}

@@ -8,8 +8,8 @@ use Rattle.std.specs.Bool.{IsTrue}
 use Rattle.std.specs.List.{filter, list_all, slice_get}
 use Rattle.std.specs.Option.{option_map}
 use Rattle.std.specs.Cmp.Lexicographic.{pointwise, same_text}
-use Rattle.agv_message.specs.declared.order.ActKind.{ActKind}
-use Rattle.agv_message.specs.declared.order.ActKind.TheVariants.{Pick, Drop}
+use Rattle.agv_message_core.specs.declared.order.ActKind.{ActKind}
+use Rattle.agv_message_core.specs.declared.order.ActKind.TheVariants.{Pick, Drop}
 use Rattle.agv_order.specs.declared.stop.Stop.{Stop}
 use Rattle.agv_order.specs.StopPlaces.{IsAt, IsPickedThenDropped, CanBeDone, stop_picks}
 use Rattle.agv_order.specs.Stops.{is_drop, is_of, kinds_of, is_pick_then_drop, stops_fit}

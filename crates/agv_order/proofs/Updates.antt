@@ -7,8 +7,8 @@ use Rattle.std.proofs.lemmas.List.FromFn.{length-enumerate_from, get_or-enumerat
 use Rattle.std.specs.List.{filter, enumerate_from}
 use Rattle.std.specs.Cmp.Lexicographic.{pointwise}
 use Rattle.agv_layout.specs.declared.edge.Edge.{Edge}
-use Rattle.agv_message.specs.declared.order.OrderEdge.{OrderEdge}
-use Rattle.agv_message.specs.declared.order.OrderNode.{OrderNode}
+use Rattle.agv_message_core.specs.declared.order.OrderEdge.{OrderEdge}
+use Rattle.agv_message_core.specs.declared.order.OrderNode.{OrderNode}
 use Rattle.agv_order.specs.declared.trip.Trip.{Trip}
 use Rattle.agv_order.specs.declared.joins.Joined.TheVariants.{Taken}
 use Rattle.agv_order.specs.Joins.{base_nodes, base_edges, front_of, is_same_node, is_stitched, stitched, join_of}

@@ -1,7 +1,7 @@
 -- The order of an action's statuses (VDA 5050 2.0, actionStatus; this project's profile).
 use Rattle.std.specs.Prelude.{Bool, true, false, not, if◌then◌else◌, Option, None, Some}
-use Rattle.agv_message.specs.declared.status.Status.{Status}
-use Rattle.agv_message.specs.declared.status.Status.TheVariants.{Waiting, Initializing, Running, Paused, Finished, Failed}
+use Rattle.agv_message_core.specs.declared.status.Status.{Status}
+use Rattle.agv_message_core.specs.declared.status.Status.TheVariants.{Waiting, Initializing, Running, Paused, Finished, Failed}
 
 -- the action has not begun
 abbrev pub is_waiting : Status → Bool
@@ -12,7 +12,7 @@ is_waiting Paused = false
 is_waiting Finished = false
 is_waiting Failed = false
 
--- the load was picked or dropped
+-- the action is finished: the load was picked or dropped
 abbrev pub is_finished : Status → Bool
 is_finished Waiting = false
 is_finished Initializing = false
@@ -21,7 +21,7 @@ is_finished Paused = false
 is_finished Finished = true
 is_finished Failed = false
 
--- nothing follows: the action is finished, or it has failed
+-- no other status follows: the action is finished, or it has failed
 abbrev pub is_final : Status → Bool
 is_final Waiting = false
 is_final Initializing = false
@@ -39,7 +39,7 @@ is_active Paused = true
 is_active Finished = false
 is_active Failed = false
 
--- whether the second status may follow the first: any may follow waiting, any but waiting an active one, and a final one stays
+-- whether the second status may follow the first: any may follow Waiting, any but Waiting an active one, and a final one only itself
 abbrev pub may_follow : Status → Status → Bool
 may_follow Waiting new = true
 may_follow Initializing new = not (is_waiting new)
@@ -58,6 +58,6 @@ may_follow Failed Paused = false
 may_follow Failed Finished = false
 may_follow Failed Failed = true
 
--- the new status where it may follow the old one
+-- the new status if it may follow the old one
 abbrev pub merge : Status → Status → Option Status
 merge old new = if may_follow old new then Some new else None

@@ -1,13 +1,13 @@
--- The way of a trip, and what of a trip never changes (VDA 5050 2.0, order).
+-- The way of a trip, and the part of a trip that never changes (VDA 5050 2.0, order).
 use Rattle.std.specs.Prelude.{ℕ, List, ◌∷◌, map, Option}
 use Rattle.std.specs.List.{slice_get}
 use Rattle.agv_layout.specs.declared.edge.Edge.{Edge}
-use Rattle.agv_message.specs.declared.order.ActKind.{ActKind}
+use Rattle.agv_message_core.specs.declared.order.ActKind.{ActKind}
 use Rattle.agv_order.specs.declared.act.Act.{Act}
 use Rattle.agv_order.specs.declared.stop.Stop.{Stop}
 use Rattle.agv_order.specs.declared.trip.Trip.{Trip}
 
--- an act without its status, which is all of it that changes
+-- an act without its status, the only part of it that changes
 pub record Task : Type 0 where
   pub kind : ActKind
   pub job : List ℕ
@@ -19,11 +19,11 @@ pub record Task : Type 0 where
 abbrev pub task_of : Act → Task
 task_of act = record { kind = act.kind; job = act.job; load = act.load; station = act.station; place_at = act.place_at }
 
--- the stop that a task carries out
+-- the stop of a task
 abbrev pub stop_of : Task → Stop
 stop_of task = record { kind = task.kind; job = task.job }
 
--- what of a trip never changes: where it starts, what it drives, and what is done on the way
+-- the part of a trip that never changes: its start, its edges, and its tasks on the way
 pub record Plan : Type 0 where
   pub start : List ℕ
   pub edges : List Edge
@@ -33,7 +33,7 @@ pub record Plan : Type 0 where
 abbrev pub plan_of : Trip → Plan
 plan_of trip = record { start = trip.start; edges = trip.edges; tasks = map task_of trip.acts }
 
--- the nodes on the way: the start, and then the finish of each edge
+-- the nodes of a way: the start, and then the finish of each edge
 abbrev pub nodes_on : List ℕ → List Edge → List (List ℕ)
 nodes_on start edges = start ∷ map (λ (edge : Edge). edge.finish) edges
 
@@ -41,6 +41,6 @@ nodes_on start edges = start ∷ map (λ (edge : Edge). edge.finish) edges
 abbrev pub nodes_of : Trip → List (List ℕ)
 nodes_of trip = nodes_on trip.start trip.edges
 
--- node k of a trip; none past its end
+-- node k of a trip's way; none past its end
 abbrev pub node_at : Trip → ℕ → Option (List ℕ)
 node_at trip k = slice_get (nodes_of trip) k

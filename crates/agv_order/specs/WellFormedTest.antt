@@ -1,4 +1,4 @@
--- Whether a trip is well formed, as a test that computes. That it says what a well-formed trip is, is a law (`tests_well_formed`).
+-- A computable test of well-formed trips. A law proves that it is equivalent to the definition (`tests_well_formed`).
 use Rattle.std.specs.Prelude.{ℕ, ◌+◌, ◌==◌, ◌&&◌, ◌||◌, not, if◌then◌else◌, nat_eq, nat_le, nat_lt, Bool, false, List, [], ◌∷◌, length, map, Option, None, Some}
 use Rattle.std.specs.List.{list_all}
 use Rattle.std.specs.FinMap as finite
@@ -22,35 +22,35 @@ abbrev pub has_ends : Edge → Option EdgeEnds → Bool
 has_ends edge None = false
 has_ends edge (Some ends) = pointwise nat_eq ends.start edge.start && pointwise nat_eq ends.finish edge.finish
 
--- the edge leads as the layout says
+-- the layout has the edge, with these ends
 abbrev pub is_edge_of : Layout → Edge → Bool
 is_edge_of layout edge = has_ends edge (finite.get layout.edges edge.id)
 
--- the first edge starts at this node, each other where the one before it finishes; each leads as the layout says, and the way ends at a node of the layout
+-- the first edge starts at this node, and each other where the one before it finishes; the layout has each of them, and the way ends at a node of the layout
 abbrev pub is_way_of : Layout → List ℕ → List Edge → Bool
 is_way_of layout at [] = set.contains layout.nodes at
 is_way_of layout at (edge ∷ edges) = pointwise nat_eq edge.start at && is_edge_of layout edge && is_way_of layout edge.finish edges
 
--- the stops that the acts carry out
+-- the stops of the acts
 abbrev pub stops_of : List Act → List Stop
 stops_of acts = map stop_of (map task_of acts)
 
--- from this place on the places of the acts don't fall, and the last of them is the given one
+-- the acts' places do not decrease, starting from this place, and the last of them is the given one
 abbrev pub is_rising : ℕ → List Act → ℕ → Bool
 is_rising from [] to = from == to
 is_rising from (act ∷ acts) to = nat_le from act.place_at && is_rising act.place_at acts to
 
--- the node is there, and the site is at it
+-- both are there, and the site is at the node
 abbrev pub is_site_at : Option (List ℕ) → Option StationSite → Bool
 is_site_at None site = false
 is_site_at (Some node) None = false
 is_site_at (Some node) (Some site) = pointwise nat_eq site.node node
 
--- the station of the act is at the node of its place
+-- the station of the act is at the node of the act's place
 abbrev pub is_at_station : Layout → Trip → Act → Bool
 is_at_station layout trip act = is_site_at (node_at trip act.place_at) (finite.get layout.stations act.station)
 
--- a way of at most 200 edges; at most eight acts, a pick and later a drop for each job; each act at its station, in the order of the way, the last at its end
+-- the trip is a way of at most 200 edges, with at most eight acts, a pick and later a drop for each job; each act is at its station, the acts are in the order of the way, and the last is at its end
 abbrev pub is_planned : Layout → Trip → Bool
 is_planned layout trip =
     nat_le (length trip.edges) 200
@@ -60,9 +60,9 @@ is_planned layout trip =
     && is_rising 0 trip.acts (length trip.edges)
     && list_all (is_at_station layout trip) trip.acts
 
--- ---- where it stands
+-- ---- the progress
 
--- the last message begins within the base, and the base ends within the way; the vehicle has seen no node past the base, and the base has an edge for each update
+-- the last message begins within the base, and the base ends within the way; the vehicle has seen no node past the base, and the base has at least as many edges as updates were sent
 abbrev pub is_in_base : Trip → Bool
 is_in_base trip =
     nat_le trip.first trip.base
@@ -70,11 +70,11 @@ is_in_base trip =
     && nat_le trip.seen trip.base
     && nat_le trip.sent trip.base
 
--- the order itself begins at the start, and each update releases more
+-- the order itself begins at the start, and the last update releases more
 abbrev pub is_growing : Trip → Bool
 is_growing trip = if trip.sent == 0 then trip.first == 0 else nat_lt trip.first trip.base
 
--- what the vehicle has confirmed: nothing, and then nothing has happened; or the update that was sent last, or the one before it
+-- what the vehicle has confirmed: nothing, and then nothing has happened; or the update sent last; or the one before it, and then the vehicle has seen no node past the last message's first
 abbrev pub is_confirmed : Trip → Option ℕ → Bool
 is_confirmed trip None = trip.sent == 0 && trip.first == 0 && trip.seen == 0 && list_all has_not_begun trip.acts
 is_confirmed trip (Some update) = update == trip.sent || (update + 1 == trip.sent && nat_le trip.seen trip.first)

@@ -6,10 +6,10 @@ use agv_header::Memory;
 use std::alloc::{AllocError, AllocFailed};
 use thiserror::Error;
 
-/// A trip that can't be planned, or memory that ran out.
+/// Why a trip can't be planned, or that memory ran out.
 #[derive(Clone, Copy, Debug, PartialEq, Eq, Error)]
 pub enum PlanFault {
-    /// The vehicle's node, or the job or the station of a stop, is unknown, or no walk leads to it.
+    /// The job or the station of a stop is unknown, or no walk leads to a stop, as when the vehicle's node is unknown.
     #[error("no walk leads to a stop")]
     NoWalk,
     /// The whole way has more than 200 edges.

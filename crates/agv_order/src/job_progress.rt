@@ -1,27 +1,27 @@
-//! What a list of stops does for one of its jobs.
+//! How far a list of stops carries out one of its jobs.
 ghost use Rattle.std.specs.Prelude.{◌≡◌};
 ghost use Rattle.agv_order.specs.JobProgress.{progress_then, is_over};
 ghost use Rattle.agv_order.specs.Stops.{kinds_of, is_pick_then_drop};
 
 use crate::Stop;
 use agv_header::Name;
-use agv_message::ActKind;
+use agv_message_core::ActKind;
 
-/// What the stops that were read do for the job.
+/// How far the stops read so far carry out the job.
 #[derive(Clone, Copy)]
 pub(crate) enum JobProgress {
-    /// Nothing yet.
+    /// No stop is for the job yet.
     Waiting,
-    /// They pick its load.
+    /// The stops pick its load.
     Picked,
-    /// They pick its load and then drop it.
+    /// The stops pick its load and then drop it.
     Dropped,
-    /// Nothing that can be carried out.
+    /// The stops can't be carried out.
     Wrong,
 }
 
 impl JobProgress {
-    /// The same after one more stop for the job.
+    /// Returns the progress after one more stop for the job.
     pub(crate) fn then(self, kind: ActKind) -> JobProgress
         ensures { result ≡ progress_then self kind }
     {
@@ -32,6 +32,7 @@ impl JobProgress {
         }
     }
 
+    /// Returns whether the load is picked and dropped, and nothing more.
     pub(crate) fn is_over(self) -> bool
         ensures { result ≡ is_over self }
     {
@@ -42,7 +43,7 @@ impl JobProgress {
     }
 }
 
-/// Whether the stops of this job are a pick, and then a drop.
+/// Returns whether the stops for this job are a pick, and then a drop.
 pub(crate) fn is_picked_then_dropped(stops: &[Stop], job: Name) -> bool
     ensures { result ≡ is_pick_then_drop (kinds_of stops.now job) }
 {

@@ -4,20 +4,20 @@ ghost use Rattle.agv_order.specs.Joins.{update_of, join_of, IsAnswer};
 
 use crate::stitch::{is_stitched, stitched};
 use agv_header::Memory;
-use agv_message::OrderMessage;
+use agv_message_core::OrderMessage;
 use std::alloc::Global;
 use thiserror::Error;
 
-/// What a vehicle that takes a message does with it.
+/// What a vehicle does with a message that it accepts.
 #[derive(Debug, Drop)]
 pub enum Joined {
     /// The order that it holds from now on.
     Taken(OrderMessage),
-    /// It has the update already, and discards the message.
+    /// It has this update already, and discards the message.
     Same,
 }
 
-/// Why a vehicle takes no message.
+/// Why a vehicle refuses a message.
 #[derive(Clone, Copy, Debug, PartialEq, Eq, Error)]
 pub enum JoinRefusal {
     /// It holds no order, and the message is an update.
@@ -48,14 +48,14 @@ impl From<Memory> for JoinRefusal {
     }
 }
 
-/// What a vehicle that holds an order, or none, does with an order message (VDA 5050 2.0, order updates).
+/// Returns what a vehicle that holds an order, or none, does with an order message (VDA 5050 2.0, order updates).
 ///
-/// - With no order it takes update 0 as it is; any other is `NotFirst`.
-/// - It refuses a message of another order (`OtherOrder`), discards an update that it has (`Same`), and
-///   refuses one before it (`Lower`).
+/// - Without an order it takes update 0 as it is, and refuses any other (`NotFirst`).
+/// - It refuses a message of another order (`OtherOrder`), discards the update that it has (`Same`), and
+///   refuses an earlier one (`Lower`).
 /// - It takes a later one that begins at the last node of its base: then it holds its base, and from that
-///   node on the message. Any other is `NotStitched`.
-/// - `Memory`, only when out of memory, comes only where an order is taken: the other answers take none.
+///   node on the message. It refuses any other (`NotStitched`).
+/// - `Memory` is returned only when out of memory, and only if an order is taken: the other answers take none.
 pub fn join(
     alloc: Global,
     held: Option<&OrderMessage>,
@@ -75,6 +75,7 @@ pub fn join(
     update(alloc, held, message)
 }
 
+/// Returns what a vehicle does with a message of the order that it holds.
 fn update(alloc: Global, held: &OrderMessage, message: &OrderMessage) -> Result<Joined, JoinRefusal>
     ensures { IsAnswer (update_of held.now message.now) result }
 {

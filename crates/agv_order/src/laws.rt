@@ -1,5 +1,5 @@
-//! What holds of the definitions that the contracts of this crate cite, whatever the code does.
-//! Each function does nothing: its clause is the law.
+//! Laws of the definitions that the contracts of this crate cite. Each function does nothing: its
+//! clause is the law.
 ghost use Rattle.std.specs.Prelude.{◌≡◌, ◌↔◌, ◌<◌, ◌≤◌, ◌*◌, ℕ, List, filter, length, IsTrue, None, Some, Ok, Err};
 ghost use Rattle.agv_header.specs.declared.key.VehicleKey.{VehicleKey as KeyOf};
 ghost use Rattle.agv_layout.specs.Layout.{Layout as LayoutOf, Name as NameOf};
@@ -21,14 +21,14 @@ ghost use Rattle.agv_order.specs.Releases.{CanRelease, released};
 ghost use Rattle.agv_order.specs.StopPlaces.{CanBeDone, stop_picks};
 ghost use Rattle.agv_order.specs.Stops.{stops_fit};
 
-/// A vehicle that holds the whole order of a trip, and takes the update that releases more of it, holds
-/// the whole order of the trip after that release.
+/// Proves that a vehicle which holds the whole order of a trip, and takes the update that releases more of it,
+/// then holds the whole order of the trip after that release.
 pub fn joins_next_update()
     ensures { (trip : TripOf) (n : ℕ) → CanRelease trip n
         → join_of (Some (whole_of trip)) (message_of (released trip n)) ≡ Ok (Taken (whole_of (released trip n))) }
 {}
 
-/// A vehicle that holds the whole order of a trip discards the message of the same update once more, and
+/// Proves that a vehicle which holds the whole order of a trip discards another message of the same update, and
 /// refuses each earlier one.
 pub fn takes_no_earlier_update()
     ensures { (trip earlier : TripOf) → earlier.order ≡ trip.order
@@ -36,33 +36,33 @@ pub fn takes_no_earlier_update()
         × (earlier.sent < trip.sent → join_of (Some (whole_of trip)) (message_of earlier) ≡ Err refusal.Lower) }
 {}
 
-/// A trip that is planned for stops that fit, at most eight, is well formed.
+/// Proves that a trip planned for at most eight stops that fit is well formed.
 pub fn plans_are_well_formed()
     ensures { (layout : LayoutOf) (vehicle : KeyOf) (jobs : List JobOf) (stops : List StopOf) (order at : NameOf) (base : ℕ) (trip : TripOf)
         → IsTrue (stops_fit stops) → length stops ≤ 8
         → planned layout vehicle jobs stops order at base ≡ Ok trip → IsWellFormed layout trip }
 {}
 
-/// A well-formed trip stays so when more of it is released, where the vehicle has confirmed what was sent.
+/// Proves that a well-formed trip, whose last update the vehicle has confirmed, stays so when more of it is released.
 pub fn releases_keep_trips_well_formed()
     ensures { (layout : LayoutOf) (trip : TripOf) (n : ℕ) → IsWellFormed layout trip → trip.confirmed ≡ Some trip.sent
         → CanRelease trip n → IsWellFormed layout (released trip n) }
 {}
 
-/// Stops can be carried out exactly where there is at least one, and each job that a stop names is picked
-/// at just one place of the list, and at just one later place dropped.
+/// Proves that stops can be carried out exactly if there is at least one, and each job that a stop names is picked
+/// at exactly one place of the list, and dropped at exactly one, later place.
 pub fn fits_as_said()
     ensures { (stops : List StopOf) → IsTrue (stops_fit stops) ↔ CanBeDone stops }
 {}
 
-/// Stops that can be carried out are twice as many as the jobs, which are as many as the picks.
+/// Proves that stops which can be carried out are twice as many as the picks among them.
 pub fn stops_twice()
     ensures { (stops : List StopOf) → IsTrue (stops_fit stops) → length stops ≡ 2 * length (filter stop_picks stops) }
 {}
 
-/// What a plan is, in terms of routes: from the vehicle's node to the node of each stop in turn, each time by
-/// the route of the layout, and the act of each stop stands where its part of the way ends. Where there is no
-/// plan because no walk leads there, nothing goes so from stop to stop.
+/// Proves what a plan is by the layout's routes: it leads from the vehicle's node to the node of each stop in turn,
+/// each time by the route, and the act of each stop is where its part of the way ends. If there is no plan because
+/// no walk leads to a stop, no edges and acts go from stop to stop in this way.
 pub fn plans_go_by_routes()
     ensures goes { (layout : LayoutOf) (jobs : List JobOf) (vehicle : KeyOf) (stops : List StopOf) (order at : NameOf) (base : ℕ) (trip : TripOf)
         → planned layout vehicle jobs stops order at base ≡ Ok trip → IsPlanOf layout jobs stops at base trip }
@@ -71,13 +71,13 @@ pub fn plans_go_by_routes()
         → (edges : List EdgeOf) (acts : List ActOf) → ¬ MakesStops layout jobs at 0 stops edges acts }
 {}
 
-/// A vehicle that holds nothing and takes the first message of a trip holds the whole order of the trip.
+/// Proves that a vehicle which holds no order, and takes the first message of a trip, holds its whole order.
 pub fn takes_the_first_message()
     ensures { (trip : TripOf) → trip.sent ≡ 0 → trip.first ≡ 0
         → join_of None (message_of trip) ≡ Ok (Taken (whole_of trip)) }
 {}
 
-/// The test of a well-formed trip says just what a well-formed trip is, on any layout.
+/// Proves that the test of well-formed trips is equivalent to their definition, on any layout.
 pub fn tests_well_formed()
     ensures { (layout : LayoutOf) (trip : TripOf) → IsTrue (is_well_formed layout trip) ↔ IsWellFormed layout trip }
 {}

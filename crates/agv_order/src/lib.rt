@@ -1,16 +1,16 @@
-//! Trips: the orders of the desk, from their plan to the messages that a vehicle takes.
+//! Trips: the orders of the desk, from planning to the messages that a vehicle receives.
 //!
 //! - A [`Trip`] is an open order of a vehicle: the edges that it is to drive, and the [`Act`]s, picks
 //!   and drops of loads, that it carries out on the way.
-//! - [`stops_fit`] tells which lists of [`Stop`]s an order can make. [`Trip::plan`] plans the trip that
+//! - [`stops_fit`] tests which lists of [`Stop`]s an order can have. [`Trip::plan`] plans the trip that
 //!   makes them, by the route from stop to stop; [`Trip::release`] releases more of it
 //!   by an update.
-//! - [`Trip::message`] is the order message of the trip's last update, with the numbers of
+//! - [`Trip::message`] is the order message of the trip's last update, with the sequence numbers of
 //!   [`node_seq`] and [`edge_seq`]; [`join`] is what a vehicle does with a message.
 //! - [`Trip::is_well_formed`] tests whether a trip is planned on a layout and under way.
-//! - [`merge`] is the order of an action's statuses; [`is_finished`] and [`is_final`] tell how far one is.
-//! - [`laws`] says what holds of the definitions behind these contracts: that the next update gives the
-//!   whole order, and that trips stay well formed.
+//! - [`merge`] is the order of an action's statuses; [`is_finished`] and [`is_final`] test one.
+//! - [`laws`] proves properties of the definitions behind these contracts, such as that the next update gives
+//!   the whole order, and that trips stay well formed.
 #![tactic(auto)]
 
 mod act;

@@ -5,15 +5,15 @@ ghost use Rattle.agv_order.specs.Messages.{order_act, acts_at, order_node, order
 use crate::{Act, Trip, edge_seq, node_seq};
 use agv_header::{Memory, Name};
 use agv_layout::Edge;
-use agv_message::{OrderAct, OrderEdge, OrderMessage, OrderNode};
+use agv_message_core::{OrderAct, OrderEdge, OrderMessage, OrderNode};
 use std::alloc::Global;
 
 impl Trip {
-    /// The last message of the trip: the order itself, or the update that was sent last.
+    /// Returns the last message of the trip: the order itself, or the update that was sent last.
     ///
     /// It has the nodes from place `first` on and the edges between them, those of the base released, and
     /// on each node its acts in their order (VDA 5050 2.0, order). Its time is that of the edges, times
-    /// the acts. `Memory` only when out of memory.
+    /// the acts. Returns `Memory` only when out of memory.
     pub fn message(&self, alloc: Global) -> Result<OrderMessage, Memory>
         requires short { length self.now.edges ≤ 200 }
         requires few { length self.now.acts ≤ 8 }
@@ -29,7 +29,7 @@ impl Trip {
         })
     }
 
-    /// The nodes of the last message.
+    /// Returns the nodes of the last message.
     fn sent_nodes(&self, alloc: Global) -> Result<Vec<OrderNode>, Memory>
         requires short { length self.now.edges ≤ 200 }
         requires few { length self.now.acts ≤ 8 }
@@ -48,7 +48,7 @@ impl Trip {
         Ok(nodes)
     }
 
-    /// The node at place `k` of the way.
+    /// Returns the node at place `k` of the way, as the message has it.
     fn node(&self, alloc: Global, k: u32, id: Name) -> Result<OrderNode, Memory>
         requires near { k ≤ 200 }
         requires few { length self.now.acts ≤ 8 }
@@ -63,7 +63,7 @@ impl Trip {
         })
     }
 
-    /// The edges of the last message.
+    /// Returns the edges of the last message.
     fn sent_edges(&self, alloc: Global) -> Result<Vec<OrderEdge>, Memory>
         requires short { length self.now.edges ≤ 200 }
         ensures { IfOk result (λ edges. edges.items ≡ drop self.now.first (order_edges self.now)) }
@@ -78,7 +78,7 @@ impl Trip {
         Ok(edges)
     }
 
-    /// The edge from the node at place `k` of the way to the next.
+    /// Returns the edge from the node at place `k` of the way to the next, as the message has it.
     fn edge(&self, k: u32, edge: &Edge) -> OrderEdge
         requires near { k ≤ 200 }
         ensures { result ≡ order_edge self.now (k, edge.now) }
@@ -93,7 +93,7 @@ impl Trip {
     }
 }
 
-/// The acts at place `k` of the way, in their order.
+/// Returns the actions at place `k` of the way, in their order.
 fn acts_at(alloc: Global, acts: &[Act], k: u32) -> Result<Vec<OrderAct>, Memory>
     requires few { length acts.now ≤ 8 }
     ensures { IfOk result (λ made. made.items ≡ acts_at acts.now k) }
@@ -107,6 +107,7 @@ fn acts_at(alloc: Global, acts: &[Act], k: u32) -> Result<Vec<OrderAct>, Memory>
     Ok(made)
 }
 
+/// Returns act `n` as an action of the message.
 fn order_act(n: u32, act: &Act) -> OrderAct
     ensures { result ≡ order_act (n, act.now) }
 {

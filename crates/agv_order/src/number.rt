@@ -1,8 +1,8 @@
-//! The numbers of nodes and edges in an order (VDA 5050 2.0, sequenceId): one row of numbers for both,
+//! The sequence numbers of nodes and edges in an order (VDA 5050 2.0, sequenceId), which they share:
 //! even for nodes and odd for edges.
 ghost use Rattle.std.specs.Prelude.{◌≡◌, ◌+◌, ◌*◌, ◌<◌, ◌^◌};
 
-/// The number of the node at place `k` of the way.
+/// Returns the sequence number of the node at place `k` of the way.
 pub fn node_seq(k: u32) -> u32
     requires { 2 * k < 2 ^ 32 }
     ensures { result ≡ 2 * k }
@@ -10,7 +10,7 @@ pub fn node_seq(k: u32) -> u32
     2 * k
 }
 
-/// The number of the edge from the node at place `k` to the next.
+/// Returns the sequence number of the edge from the node at place `k` to the next.
 pub fn edge_seq(k: u32) -> u32
     requires { 2 * k + 1 < 2 ^ 32 }
     ensures { result ≡ 2 * k + 1 }

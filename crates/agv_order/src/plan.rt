@@ -10,22 +10,25 @@ use crate::{Act, PlanFault, Stop, Trip};
 use agv_header::limits::MAX_TRIP_EDGES;
 use agv_header::{Memory, Name, VehicleKey};
 use agv_layout::{Edge, Layout};
-use agv_message::Sequence;
+use agv_message_core::Sequence;
 use agv_stock::Job;
 use std::alloc::Global;
 
 impl Trip {
-    /// Plans the trip of the order named `order` (its `orderId`): the vehicle is to make these stops one after
-    /// the other, from the node `at_node`, where it stands, to the node of each stop in turn, each time by the
-    /// route of the layout. The job of a stop is looked up among `jobs`; its load is picked at its origin and
-    /// dropped at its target. The first `edges` edges are released.
+    /// Plans the trip of the order named `order` (its `orderId`): from the node `at_node`, where the vehicle
+    /// stands, to the node of each stop in turn, each time by the route of the layout. The job of a stop is
+    /// looked up among `jobs`; its load is picked at its origin and dropped at its target. The first `edges`
+    /// edges are released.
     ///
-    /// - `NoWalk` where a job, its station or the vehicle's node is unknown, or no walk leads to a stop.
-    /// - `TooLong`, else, where the whole way has more than 200 edges.
-    /// - `Beyond`, else, where `edges` is more than it has.
+    /// It returns
+    ///
+    /// - `NoWalk` if the job or the station of a stop is unknown, or no walk leads to a stop, as when the
+    ///   vehicle's node is unknown;
+    /// - otherwise `TooLong` if the whole way has more than 200 edges;
+    /// - otherwise `Beyond` if `edges` is more than it has;
     /// - `Memory` only when out of memory.
     ///
-    /// The trip is well formed where the stops fit and are at most eight. The time is that of a route
+    /// The trip is well formed if the stops fit and are at most eight. The time is that of a route
     /// for each stop, and of the edges.
     pub fn plan(
         alloc: Global,
@@ -65,7 +68,7 @@ impl Trip {
     }
 }
 
-/// The routes from a node to each stop in turn; `NoWalk` where one of them doesn't exist.
+/// Finds the routes from a node to each stop in turn, or returns `NoWalk` if one of them doesn't exist.
 fn stop_routes_to(
     alloc: Global,
     layout: &Layout,
@@ -87,7 +90,7 @@ fn stop_routes_to(
     Ok(stop_routes)
 }
 
-/// The edges of all routes.
+/// Returns the edges of all routes, one after another.
 fn way_of(alloc: Global, stop_routes: &[StopRoute]) -> Result<Vec<Edge>, Memory>
     ensures { IfOk result (λ way. way.items ≡ way_of stop_routes.now) }
 {
@@ -106,7 +109,7 @@ fn add_edges(way: &mut Vec<Edge>, stop_route: &StopRoute) -> Result<(), Memory>
     Ok(())
 }
 
-/// The acts at the ends of the routes.
+/// Returns the acts at the ends of the routes.
 fn acts_along(alloc: Global, stop_routes: &[StopRoute]) -> Result<Vec<Act>, Memory>
     requires { length (way_of stop_routes.now) ≤ 200 }
     ensures { IfOk result (λ acts. acts.items ≡ acts_along 0 stop_routes.now) }

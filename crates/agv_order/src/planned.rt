@@ -1,4 +1,4 @@
-//! Whether a trip is planned on a layout.
+//! The test whether a trip is planned on a layout.
 ghost use Rattle.std.specs.Prelude.{◌≡◌, ◌&&◌, nat_eq};
 ghost use Rattle.std.specs.List.{list_all};
 ghost use Rattle.std.specs.Cmp.Lexicographic.{pointwise};
@@ -12,7 +12,7 @@ use agv_header::limits::{MAX_TRIP_ACTS, MAX_TRIP_EDGES};
 use agv_layout::{Edge, Layout};
 
 impl Trip {
-    /// Whether the trip is planned on the layout.
+    /// Returns whether the trip is planned on the layout.
     pub(crate) fn is_planned(&self, layout: &Layout) -> bool
         ensures { result ≡ is_planned layout.now self.now }
     {
@@ -26,7 +26,7 @@ impl Trip {
             && self.are_at_stations(layout)
     }
 
-    /// Whether the station of each act is at the node of its place.
+    /// Returns whether the station of each act is at the node of the act's place.
     fn are_at_stations(&self, layout: &Layout) -> bool
         ensures { result ≡ list_all (is_at_station layout.now self.now) self.now.acts }
     {
@@ -36,7 +36,7 @@ impl Trip {
             .all(|act| self.is_at_station(layout, act))
     }
 
-    /// Whether the station of the act is at the node of its place.
+    /// Returns whether the station of the act is at the node of the act's place.
     fn is_at_station(&self, layout: &Layout, act: &Act) -> bool
         ensures { result ≡ is_at_station layout.now self.now act.now }
     {
@@ -50,7 +50,7 @@ impl Trip {
     }
 }
 
-/// Whether the edges lead on from the node, one after the other and as the layout says, to a node of it.
+/// Returns whether the edges are those of the layout and lead from the node, one after another, to a node of it.
 fn is_way_of(layout: &Layout, start: Name, edges: &[Edge]) -> bool
     ensures { result ≡ is_way_of layout.now start edges.now }
 {
@@ -64,14 +64,14 @@ fn is_way_of(layout: &Layout, start: Name, edges: &[Edge]) -> bool
     layout.node(at)
 }
 
-/// Whether the edge starts at the node, and leads as the layout says.
+/// Returns whether the layout has the edge, with these ends, and it starts at the node.
 fn leads_on(layout: &Layout, at: Name, edge: &Edge) -> bool
     ensures { result ≡ (pointwise nat_eq edge.now.start at && is_edge_of layout.now edge.now) }
 {
     edge.start == at && is_edge_of(layout, edge)
 }
 
-/// Whether the edge leads as the layout says.
+/// Returns whether the layout has the edge, with these ends.
 fn is_edge_of(layout: &Layout, edge: &Edge) -> bool
     ensures { result ≡ is_edge_of layout.now edge.now }
 {
@@ -81,21 +81,21 @@ fn is_edge_of(layout: &Layout, edge: &Edge) -> bool
     }
 }
 
-/// Whether the stops of the acts fit.
+/// Returns whether the stops of the acts fit.
 fn acts_fit(acts: &[Act]) -> bool
     ensures { result ≡ stops_fit (stops_of acts.now) }
 {
     !acts.is_empty() && are_all_carried(acts)
 }
 
-/// Whether each job that an act names is picked and then dropped.
+/// Returns whether each job that an act names is picked and then dropped.
 fn are_all_carried(acts: &[Act]) -> bool
     ensures { result ≡ list_all (λ act. is_pick_then_drop (kinds_of (stops_of acts.now) act.job)) acts.now }
 {
     acts.iter().all(|act| is_carried(acts, act.job))
 }
 
-/// Whether the acts for this job are a pick, and then a drop.
+/// Returns whether the acts for this job are a pick, and then a drop.
 fn is_carried(acts: &[Act], job: Name) -> bool
     ensures { result ≡ is_pick_then_drop (kinds_of (stops_of acts.now) job) }
 {
@@ -108,7 +108,7 @@ fn is_carried(acts: &[Act], job: Name) -> bool
     served.is_over()
 }
 
-/// Whether the places of the acts don't fall, and the last of them is this one.
+/// Returns whether the places of the acts do not decrease and the last of them is this one.
 fn is_rising(acts: &[Act], end: usize) -> bool
     ensures { result ≡ is_rising 0 acts.now end }
 {

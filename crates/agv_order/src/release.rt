@@ -12,7 +12,7 @@ impl Trip {
     /// Releases the next `n` edges, and the nodes where they finish, by an update. The update begins
     /// at the last node of the old base. It takes no memory.
     ///
-    /// `Beyond`, and nothing changes, where `n` is 0 or the base would pass the last node.
+    /// Returns `Beyond`, and changes nothing, if `n` is 0 or the base would pass the last node.
     pub fn release(&mut self, n: u32) -> Result<(), Refusal>
         requires sent { self.old.sent ≤ self.old.base }
         requires short { length self.old.edges ≤ 200 }
@@ -20,7 +20,7 @@ impl Trip {
         ensures released { OnOk result (self.new ≡ released self.old n) }
         ensures beyond { IfErr result (λ error. error ≡ refusal.Beyond) }
         ensures refused { OnErr result (self.new ≡ self.old) }
-        // a well-formed trip stays so where the vehicle has confirmed what was sent
+        // a well-formed trip stays so if the vehicle has confirmed what was sent
         ensures well_formed { (layout : LayoutOf) → IsWellFormed layout self.old → self.old.confirmed ≡ Some self.old.sent
             → OnOk result (IsWellFormed layout self.new) }
     {
@@ -33,7 +33,7 @@ impl Trip {
         Ok(())
     }
 
-    /// Whether this many edges more can be released.
+    /// Returns whether this many more edges can be released.
     fn can_release(&self, n: u32) -> bool
         ensures { IsTrue result ↔ CanRelease self.now n }
     {

@@ -2,26 +2,26 @@
 ghost use Rattle.std.specs.Prelude.{◌≡◌};
 ghost use Rattle.agv_order.specs.Statuses.{merge, may_follow, is_final, is_finished, is_waiting};
 
-use agv_message::Status;
+use agv_message_core::Status;
 
-/// Whether the action is finished: the load was picked or dropped.
+/// Returns whether the action is finished: the load was picked or dropped.
 pub fn is_finished(status: Status) -> bool
     ensures { result ≡ is_finished status }
 {
     matches!(status, Status::Finished)
 }
 
-/// Whether nothing follows the status: the action is finished, or it has failed.
+/// Returns whether no other status follows: the action is finished, or it has failed.
 pub fn is_final(status: Status) -> bool
     ensures { result ≡ is_final status }
 {
     matches!(status, Status::Finished | Status::Failed)
 }
 
-/// The new status of an action, where it may follow the old one: any may follow Waiting, any but
+/// Returns the new status of an action if it may follow the old one: any may follow Waiting, any but
 /// Waiting may follow an active one, and only a final one itself follows it (VDA 5050 2.0, actionStatus).
 ///
-/// `None` where it may not: then the action is as it was.
+/// Returns `None` if it may not.
 pub fn merge(old: Status, new: Status) -> Option<Status>
     ensures { result ≡ merge old new }
 {
@@ -32,6 +32,7 @@ pub fn merge(old: Status, new: Status) -> Option<Status>
     }
 }
 
+/// Returns whether the new status may follow the old one.
 fn may_follow(old: Status, new: Status) -> bool
     ensures { result ≡ may_follow old new }
 {
@@ -43,6 +44,7 @@ fn may_follow(old: Status, new: Status) -> bool
     }
 }
 
+/// Returns whether the action has not begun.
 pub(crate) fn is_waiting(status: Status) -> bool
     ensures { result ≡ is_waiting status }
 {

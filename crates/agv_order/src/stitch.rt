@@ -1,22 +1,22 @@
-//! An update is stitched to the base of an order: it begins at the node where the base ends.
+//! Stitching: an update is joined to the base of an order at the node where the base ends.
 ghost use Rattle.std.specs.Prelude.{◌≡◌, ◌++◌, IfOk, filter};
 ghost use Rattle.std.specs.Option.{option_map};
-ghost use Rattle.agv_message.specs.declared.order.OrderEdge.{OrderEdge as Edge};
+ghost use Rattle.agv_message_core.specs.declared.order.OrderEdge.{OrderEdge as Edge};
 ghost use Rattle.agv_order.specs.Joins.{front_of, is_stitched, last_of, stitched};
 ghost use Rattle.agv_order.specs.Stitch.{is_released, mark_of};
 
 use agv_header::{Memory, Name};
-use agv_message::{OrderEdge, OrderMessage, OrderNode};
+use agv_message_core::{OrderEdge, OrderMessage, OrderNode};
 use std::alloc::Global;
 
-/// A node and its place in the order.
+/// The id and the sequence number of a node.
 #[derive(Clone, Copy, PartialEq, Eq)]
 struct Mark {
     id: Name,
     seq: u32,
 }
 
-/// Whether an update begins at the last released node.
+/// Returns whether an update begins at the last released node.
 pub(crate) fn is_stitched(held: &[OrderNode], update: &[OrderNode]) -> bool
     ensures { result ≡ is_stitched (filter is_released held.now) update.now }
 {
@@ -29,7 +29,7 @@ pub(crate) fn is_stitched(held: &[OrderNode], update: &[OrderNode]) -> bool
     last == mark_of(first)
 }
 
-/// The last released node.
+/// Returns the last released node.
 fn last_released(nodes: &[OrderNode]) -> Option<Mark>
     ensures { result ≡ option_map mark_of (last_of (filter is_released nodes.now)) }
 {
@@ -42,6 +42,7 @@ fn last_released(nodes: &[OrderNode]) -> Option<Mark>
     last
 }
 
+/// Returns the id and the sequence number of a node.
 fn mark_of(node: &OrderNode) -> Mark
     ensures { result ≡ mark_of node.now }
 {
@@ -51,7 +52,7 @@ fn mark_of(node: &OrderNode) -> Mark
     }
 }
 
-/// The base without its last node, and then the update.
+/// Returns the message with the held base before it, without the base's last node.
 pub(crate) fn stitched(
     alloc: Global,
     held: &OrderMessage,
@@ -69,6 +70,7 @@ pub(crate) fn stitched(
     })
 }
 
+/// Returns the nodes of the base but the last, and then those of the update.
 fn stitched_nodes(
     alloc: Global,
     held: &[OrderNode],
@@ -80,6 +82,7 @@ fn stitched_nodes(
     with_nodes(without_last(base), update)
 }
 
+/// Copies the released nodes.
 fn copy_base(alloc: Global, nodes: &[OrderNode]) -> Result<Vec<OrderNode>, Memory>
     ensures { IfOk result (λ base. base.items ≡ filter is_released nodes.now) }
 {
@@ -92,6 +95,7 @@ fn copy_base(alloc: Global, nodes: &[OrderNode]) -> Result<Vec<OrderNode>, Memor
     Ok(base)
 }
 
+/// Adds copies of the nodes to the base.
 fn with_nodes(base: Vec<OrderNode>, nodes: &[OrderNode]) -> Result<Vec<OrderNode>, Memory>
     ensures { IfOk result (λ all. all.items ≡ base.items ++ nodes.now) }
 {
@@ -102,6 +106,7 @@ fn with_nodes(base: Vec<OrderNode>, nodes: &[OrderNode]) -> Result<Vec<OrderNode
     Ok(all)
 }
 
+/// Removes the last node.
 fn without_last(nodes: Vec<OrderNode>) -> Vec<OrderNode>
     ensures { result.items ≡ front_of nodes.items }
 {
@@ -110,6 +115,7 @@ fn without_last(nodes: Vec<OrderNode>) -> Vec<OrderNode>
     front
 }
 
+/// Returns the released edges, and then those of the update.
 fn stitched_edges(
     alloc: Global,
     held: &[OrderEdge],

@@ -1,4 +1,4 @@
-//! Routes to stops: the way from one stop to the next.
+//! Routes from one stop to the next.
 ghost use Rattle.std.specs.Prelude.{◌≡◌, ◌⊎◌, ◌++◌, [], ◌∷◌, OnOk, Some, None, Err, IfOk, IfErr};
 ghost use Rattle.agv_layout.specs.Layout.{Name as NameOf};
 ghost use Rattle.agv_order.specs.Plans.{job_named, stop_station, edges_named, stop_route_for, stop_route_to, act_at};
@@ -8,11 +8,11 @@ ghost use Rattle.agv_order.specs.declared.fault.PlanFault.TheVariants as fault;
 use crate::{Act, PlanFault, Stop};
 use agv_header::{Memory, Name};
 use agv_layout::{Edge, Layout};
-use agv_message::{ActKind, Sequence, Status};
+use agv_message_core::{ActKind, Sequence, Status};
 use agv_stock::Job;
 use std::alloc::Global;
 
-/// The way to a stop from the stop before it, or from the start.
+/// The route to a stop from the stop before it, or from the start.
 #[derive(Debug, Drop)]
 pub(crate) struct StopRoute {
     pub(crate) stop: Stop,
@@ -24,7 +24,7 @@ pub(crate) struct StopRoute {
     pub(crate) edges: Sequence<Edge>,
 }
 
-/// The job of this name among jobs, the first if several have it.
+/// Returns the job of this name, the first if several have it.
 pub fn job_named(jobs: &[Job], name: Name) -> Option<Job>
     ensures { result ≡ job_named jobs.now name }
 {
@@ -36,7 +36,7 @@ pub fn job_named(jobs: &[Job], name: Name) -> Option<Job>
     None
 }
 
-/// The route from a node to a stop; `NoWalk` where there is none.
+/// Finds the route from a node to a stop, or returns `NoWalk` if there is none.
 pub(crate) fn stop_route_to(
     alloc: Global,
     layout: &Layout,
@@ -54,7 +54,7 @@ pub(crate) fn stop_route_to(
     }
 }
 
-/// The route from a node to a stop.
+/// Finds the route from a node to a stop of this job, or returns `NoWalk` if there is none.
 fn stop_route_for(
     alloc: Global,
     layout: &Layout,
@@ -80,7 +80,7 @@ fn stop_route_for(
     })
 }
 
-/// The route from one node to another.
+/// Finds the route from one node to another, if there is one.
 fn route(
     alloc: Global,
     layout: &Layout,
@@ -95,7 +95,7 @@ fn route(
     }
 }
 
-/// The edges of these names that the layout has.
+/// Returns the edges of these names that the layout has.
 fn edges_named(alloc: Global, layout: &Layout, ids: &[Name]) -> Result<Sequence<Edge>, Memory>
     ensures { IfOk result (λ edges. edges ≡ edges_named layout.now ids.now) }
 {
@@ -119,7 +119,7 @@ fn add_edge(edges: &mut Vec<Edge>, layout: &Layout, id: Name) -> Result<(), Memo
     }
 }
 
-/// The act at the end of a route.
+/// Returns the act at the end of a route, at this place of the way.
 pub(crate) fn act_at(stop_route: &StopRoute, place: u32) -> Act
     ensures { result ≡ act_at stop_route.now place }
 {
@@ -133,7 +133,7 @@ pub(crate) fn act_at(stop_route: &StopRoute, place: u32) -> Act
     }
 }
 
-/// Where the load is picked or dropped.
+/// Returns the station where the load is picked or dropped.
 fn stop_station(kind: ActKind, job: &Job) -> Name
     ensures { result ≡ stop_station kind job.now }
 {

@@ -5,7 +5,7 @@ ghost use Rattle.agv_order.specs.Trips.{node_at};
 use crate::Act;
 use agv_header::{Memory, Name, VehicleKey};
 use agv_layout::Edge;
-use agv_message::Sequence;
+use agv_message_core::Sequence;
 
 /// An order that a vehicle carries out.
 ///
@@ -21,8 +21,8 @@ pub struct Trip {
     pub start: Name,
     /// The edges that it drives, in this order: of a well-formed trip at most 200.
     pub edges: Sequence<Edge>,
-    /// The place of the node with which the last message begins, half of that node's `sequenceId`: 0 for the order
-    /// itself, and for an update the stitching node.
+    /// The place of the first node of the last message, half of that node's `sequenceId`: 0 for the order itself, and
+    /// for an update the stitching node.
     pub first: u32,
     /// The place of the last node that is `released`.
     pub base: u32,
@@ -33,15 +33,15 @@ pub struct Trip {
     pub confirmed: Option<u32>,
     /// The place of the last node that the vehicle has reported, half of `lastNodeSequenceId`.
     pub seen: u32,
-    /// What is done on the way (the `actions` of nodes), in this order: of a well-formed trip two acts for each of one to
-    /// four jobs.
+    /// The acts on the way (the `actions` of nodes), in this order: of a well-formed trip two for each of one to four
+    /// jobs.
     pub acts: Sequence<Act>,
 }
 
 impl Trip {
-    /// A trip equal to this one.
+    /// Returns a trip equal to this one.
     ///
-    /// `Memory` only when out of memory.
+    /// Returns `Memory` only when out of memory.
     pub fn copy(&self) -> Result<Trip, Memory>
         ensures { IfOk result (λ copy. copy ≡ self.now) }
     {
@@ -59,7 +59,7 @@ impl Trip {
         })
     }
 
-    /// The name of node `k` of the way: the start, and then the finish of each edge; none past the end.
+    /// Returns the name of node `k` of the way (the start, and then the finish of each edge), or `None` past the end.
     pub fn node_at(&self, k: u32) -> Option<Name>
         ensures { result ≡ node_at self.now k }
     {

@@ -1,4 +1,4 @@
-//! Whether a trip is under way.
+//! The test whether a trip is under way.
 ghost use Rattle.std.specs.Prelude.{◌≡◌, ◌&&◌, not, nat_eq};
 ghost use Rattle.std.specs.List.{list_all, list_any};
 ghost use Rattle.std.specs.Cmp.Lexicographic.{pointwise};
@@ -10,7 +10,7 @@ use crate::{Act, Trip, is_drop, is_final, is_finished};
 use agv_header::Name;
 
 impl Trip {
-    /// Whether the trip is under way.
+    /// Returns whether the trip is under way.
     pub(crate) fn is_under_way(&self) -> bool
         ensures { result ≡ is_under_way self.now }
     {
@@ -23,7 +23,7 @@ impl Trip {
             && !self.has_ended()
     }
 
-    /// Whether what was seen and sent lies within the base, and the base within the way.
+    /// Returns whether what was seen and sent lies within the base, and the base within the way.
     fn is_in_base(&self) -> bool
         ensures { result ≡ is_in_base self.now }
     {
@@ -33,7 +33,7 @@ impl Trip {
             && self.sent <= self.base
     }
 
-    /// Whether the order itself begins at the start, and each update releases more.
+    /// Returns whether the order itself begins at the start, and the last update releases more.
     fn is_growing(&self) -> bool
         ensures { result ≡ is_growing self.now }
     {
@@ -44,7 +44,8 @@ impl Trip {
         }
     }
 
-    /// Whether the vehicle has confirmed nothing and nothing has happened, or one of the last two updates.
+    /// Returns whether the vehicle has confirmed nothing and nothing has happened, or it has confirmed the last update,
+    /// or the one before it and seen no node past the last message's first.
     fn is_confirmed(&self) -> bool
         ensures { result ≡ is_confirmed self.now self.now.confirmed }
     {
@@ -62,7 +63,7 @@ impl Trip {
         }
     }
 
-    /// Whether the vehicle has seen the end of the way, and each act is over.
+    /// Returns whether the vehicle has seen the end of the way, and each act is over.
     fn has_ended(&self) -> bool
         ensures { result ≡ has_ended self.now }
     {
@@ -70,7 +71,7 @@ impl Trip {
     }
 }
 
-/// Whether each act is finished only where the vehicle has reached its node.
+/// Returns whether each act is finished only if the vehicle has reached its node.
 fn are_reached(seen: u32, acts: &[Act]) -> bool
     ensures { result ≡ list_all (is_reached seen) acts.now }
 {
@@ -78,35 +79,35 @@ fn are_reached(seen: u32, acts: &[Act]) -> bool
         .all(|act| !is_finished(act.status) || act.place_at <= seen)
 }
 
-/// Whether each act is a finished drop only where its job's load was picked.
+/// Returns whether each act is a finished drop only if its job's load was picked.
 fn are_in_turn(acts: &[Act]) -> bool
     ensures { result ≡ list_all (is_in_turn acts.now) acts.now }
 {
     acts.iter().all(|act| is_in_turn(acts, act))
 }
 
-/// Whether the act is a finished drop only where its job's load was picked.
+/// Returns whether the act is a finished drop only if its job's load was picked.
 fn is_in_turn(acts: &[Act], act: &Act) -> bool
     ensures { result ≡ is_in_turn acts.now act.now }
 {
     !(is_drop(act.kind) && is_finished(act.status)) || is_picked(acts, act.job)
 }
 
-/// Whether the load of this job was picked.
+/// Returns whether the load of this job was picked.
 fn is_picked(acts: &[Act], job: Name) -> bool
     ensures { result ≡ is_picked acts.now job }
 {
     acts.iter().any(|act| !is_drop(act.kind) && is_finished(act.status) && act.job == job)
 }
 
-/// Whether no act has begun.
+/// Returns whether no act has begun.
 fn have_not_begun(acts: &[Act]) -> bool
     ensures { result ≡ list_all has_not_begun acts.now }
 {
     acts.iter().all(|act| is_waiting(act.status))
 }
 
-/// Whether each act is over.
+/// Returns whether each act is over.
 fn are_over(acts: &[Act]) -> bool
     ensures { result ≡ list_all is_over acts.now }
 {

@@ -1,4 +1,4 @@
--- What can be done with a load: the checks in their order, the first that fails being the answer (this project's profile).
+-- The checks of the calls for loads and jobs: they are done in order, and the first that fails is the answer (this project's profile).
 use Rattle.std.specs.Prelude.{◌==◌, Bool, true, false, not, is_some, if◌then◌else◌, Option, None, Some, Result, Ok, Err}
 use Rattle.agv_header.specs.declared.refusal.Refusal.{Refusal}
 use Rattle.agv_header.specs.declared.refusal.Refusal.TheVariants as refusal
@@ -8,31 +8,31 @@ use Rattle.agv_stock.specs.declared.goal.Goal.TheVariants.{Checking, Unknown, At
 use Rattle.agv_stock.specs.declared.place.Place.{Place}
 use Rattle.agv_stock.specs.declared.place.Place.TheVariants as place
 
--- what a check answers
+-- the result of a check
 abbrev pub Checked : Type 0
 Checked = Result (Unit {0}) Refusal
 
--- go on where the test passes, else refuse
+-- continues with the rest if the test holds, otherwise refuses
 abbrev pub check_that : Bool → Refusal → Checked → Checked
 check_that test why rest = if test then rest else Err why
 
--- nothing is left to check
+-- all checks have passed
 abbrev pub passed : Checked
 passed = Ok tt
 
--- the goal is not a station that is unknown
+-- the goal is the checking place or a station of the layout
 abbrev pub is_known : Goal → Bool
 is_known Checking = true
 is_known Unknown = false
 is_known (At station room) = true
 
--- one load more fits there; the checking place takes any
+-- one more load fits at the goal; the checking place takes any number
 abbrev pub has_room : Goal → Bool
 has_room Checking = true
 has_room Unknown = true
 has_room (At station room) = not (room == 0)
 
--- the load is there already
+-- the place is the goal
 abbrev pub is_there : Goal → Place → Bool
 is_there Checking place = is_checking place
 is_there Unknown place = false
@@ -45,12 +45,12 @@ is_stored (place.Vehicle key) = false
 is_stored place.Checking = false
 is_stored place.Left = false
 
--- go on with the place of a load that is known
+-- continues with the place of a load, or refuses with NoLoad if it has none
 abbrev pub check_load : Option Place → (Place → Checked) → Checked
 check_load None rest = Err refusal.NoLoad
 check_load (Some place) rest = rest place
 
--- registering a load: Exists, NoStation, Full
+-- the checks of registering a load: Exists, NoStation, Full
 abbrev pub register_check : Option Place → Goal → Checked
 register_check place goal =
     check_that (not (is_some place)) refusal.Exists
@@ -58,7 +58,7 @@ register_check place goal =
     (check_that (has_room goal) refusal.Full
     passed))
 
--- correcting a load's place: NoLoad, NoStation, Elsewhere where it has left, InJob, SameStation where it is there, Full
+-- the checks of correcting a load's place: NoLoad, NoStation, Elsewhere if it has left, InJob, SameStation if it is there, Full
 abbrev pub correct_check : Option Place → Bool → Goal → Checked
 correct_check known live goal = check_load known (λ place.
     check_that (is_known goal) refusal.NoStation
@@ -68,14 +68,14 @@ correct_check known live goal = check_load known (λ place.
     (check_that (has_room goal) refusal.Full
     passed)))))
 
--- a load leaves: NoLoad, Elsewhere where it has left, InJob
+-- the checks of a load's leaving: NoLoad, Elsewhere if it has left, InJob
 abbrev pub leave_check : Option Place → Bool → Checked
 leave_check known live = check_load known (λ place.
     check_that (not (has_left place)) refusal.Elsewhere
     (check_that (not live) refusal.InJob
     passed))
 
--- a job for a load: Exists, NoLoad, NoStation, Elsewhere where it is at no station, InJob, SameStation, Full
+-- the checks of a job for a load: Exists, NoLoad, NoStation, Elsewhere if the load is at no station, InJob, SameStation, Full
 abbrev pub job_check : Bool → Option Place → Bool → Goal → Checked
 job_check job_known known live goal =
     check_that (not job_known) refusal.Exists (check_load known (λ place.

@@ -1,4 +1,4 @@
--- How far a job is (this project's profile).
+-- The phases of a job (this project's profile).
 use Rattle.std.specs.Prelude.{Bool, true, false}
 use Rattle.agv_stock.specs.declared.job.Phase.{Phase}
 use Rattle.agv_stock.specs.declared.job.Phase.TheVariants.{Waiting, Riding, Done, Stopped}

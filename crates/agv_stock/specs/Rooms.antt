@@ -1,4 +1,4 @@
--- Where loads are, and how much room a station has left (this project's profile).
+-- The places of loads, and the room that a station has left (this project's profile).
 use Rattle.std.specs.Prelude.{ℕ, ◌-◌, ◌&&◌, nat_eq, Bool, true, false, List, Option, None, Some, count_by}
 use Rattle.std.specs.Cmp.Lexicographic.{pointwise}
 use Rattle.agv_header.specs.KeyOrder.{key_eq}
@@ -37,7 +37,7 @@ has_left (Vehicle key) = false
 has_left Checking = false
 has_left Left = true
 
--- the station where a load stands
+-- the station where a load stands, if it stands at one
 abbrev pub station_of_place : Option Place → Option (List ℕ)
 station_of_place None = None
 station_of_place (Some (Station id)) = Some id
@@ -49,11 +49,11 @@ station_of_place (Some Left) = None
 abbrev pub goes_to : List ℕ → Job → Bool
 goes_to name job = is_live job.phase && pointwise nat_eq job.target name
 
--- the room that is left: the capacity, less the loads there, less the live jobs to it, and 0 where that is negative
+-- the room left: the capacity, less the loads there, less the live jobs to it, and 0 if that is negative
 abbrev pub room_left : ℕ → ℕ → ℕ → ℕ
 room_left capacity loads jobs = capacity - loads - jobs
 
--- the room of a station among these loads and jobs
+-- the room left at a station, given these loads and jobs
 abbrev pub room_of : StationOf → List (List ℕ × Place) → List Job → ℕ
 room_of station places jobs =
     room_left station.capacity (count_by (λ (load : List ℕ × Place). is_at station.id load.1) places) (count_by (goes_to station.id) jobs)

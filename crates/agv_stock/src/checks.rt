@@ -1,4 +1,4 @@
-//! The checks of what is done with a load, each in its order.
+//! The checks of the calls for loads and jobs, each in its order.
 ghost use Rattle.std.specs.Prelude.{◌≡◌, ◌≢◌};
 ghost use Rattle.agv_stock.specs.Checks.{is_known, has_room, is_there, is_stored, register_check, correct_check, leave_check, job_check};
 ghost use Rattle.agv_stock.specs.Rooms.{is_checking, has_left};
@@ -7,8 +7,8 @@ ghost use Rattle.agv_stock.specs.declared.goal.Goal.TheVariants as goals;
 use crate::{Goal, Place};
 use agv_header::Refusal;
 
-/// Whether a load can be registered that has this place already, or none, and is to go there: `Exists`
-/// where it has one, `NoStation`, `Full`. It takes no memory.
+/// Checks whether a load with this place, if any, can be registered at the goal. Returns, in this
+/// order, `Exists` if it has a place, `NoStation` or `Full`. It takes no memory.
 pub fn can_register(place: Option<Place>, goal: Goal) -> Result<(), Refusal>
     ensures { result ≡ register_check place goal }
 {
@@ -24,9 +24,9 @@ pub fn can_register(place: Option<Place>, goal: Goal) -> Result<(), Refusal>
     Ok(())
 }
 
-/// Whether the recorded place of a load can be corrected: `NoLoad` where it has none, `NoStation`,
-/// `Elsewhere` where it has left, `InJob` where it is in a live job, `SameStation` where it is recorded
-/// there already, `Full`. It takes no memory.
+/// Checks whether the recorded place of a load can be corrected. Returns, in this order, `NoLoad` if
+/// it has none, `NoStation`, `Elsewhere` if it has left, `InJob` if it is in a live job, `SameStation`
+/// if it is recorded there already, or `Full`. It takes no memory.
 pub fn can_correct(place: Option<Place>, live: bool, goal: Goal) -> Result<(), Refusal>
     ensures { result ≡ correct_check place live goal }
 {
@@ -51,8 +51,8 @@ pub fn can_correct(place: Option<Place>, live: bool, goal: Goal) -> Result<(), R
     Ok(())
 }
 
-/// Whether a load can leave: `NoLoad` where it has no place, `Elsewhere` where it has left, `InJob`
-/// where it is in a live job. It takes no memory.
+/// Checks whether a load can leave. Returns, in this order, `NoLoad` if it has no place, `Elsewhere`
+/// if it has left, or `InJob` if it is in a live job. It takes no memory.
 pub fn can_leave(place: Option<Place>, live: bool) -> Result<(), Refusal>
     ensures { result ≡ leave_check place live }
 {
@@ -68,10 +68,10 @@ pub fn can_leave(place: Option<Place>, live: bool) -> Result<(), Refusal>
     Ok(())
 }
 
-/// Whether there can be a job for a load: `Exists` where the job's name is known, `NoLoad`, `NoStation`,
-/// `Elsewhere` where the load stands at no station, `InJob` where it is in a live job, `SameStation`
-/// where it stands at the target, `Full`. A job goes to a station, so the goal is never the checking
-/// place. It takes no memory.
+/// Checks whether there can be a job for a load. Returns, in this order, `Exists` if the job's name is
+/// known, `NoLoad`, `NoStation`, `Elsewhere` if the load is at no station, `InJob` if it is in a live
+/// job, `SameStation` if it is at the target, or `Full`. A job goes to a station, so the goal is never
+/// the checking place. It takes no memory.
 pub fn can_job(known: bool, place: Option<Place>, live: bool, goal: Goal) -> Result<(), Refusal>
     requires { goal ≢ goals.Checking }
     ensures { result ≡ job_check known place live goal }
@@ -101,7 +101,7 @@ pub fn can_job(known: bool, place: Option<Place>, live: bool, goal: Goal) -> Res
 }
 
 impl Goal {
-    /// Whether it is not a station that is unknown.
+    /// Returns whether it is the checking place or a station of the layout.
     pub fn is_known(&self) -> bool
         ensures { result ≡ is_known self.now }
     {
@@ -111,6 +111,7 @@ impl Goal {
         }
     }
 
+    /// Returns whether one more load fits there. It is true of an unknown station.
     fn has_room(&self) -> bool
         ensures { result ≡ has_room self.now }
     {
@@ -120,6 +121,7 @@ impl Goal {
         }
     }
 
+    /// Returns whether the place is this goal.
     fn is_there(&self, place: &Place) -> bool
         ensures { result ≡ is_there self.now place.now }
     {
@@ -132,6 +134,7 @@ impl Goal {
 }
 
 impl Place {
+    /// Returns whether it is the checking place.
     fn is_checking(&self) -> bool
         ensures { result ≡ is_checking self.now }
     {
@@ -141,7 +144,7 @@ impl Place {
         }
     }
 
-    /// Whether the load has left the warehouse.
+    /// Returns whether the load has left the warehouse.
     pub fn has_left(&self) -> bool
         ensures { result ≡ has_left self.now }
     {
@@ -151,6 +154,7 @@ impl Place {
         }
     }
 
+    /// Returns whether the load is at a station.
     fn is_stored(&self) -> bool
         ensures { result ≡ is_stored self.now }
     {

@@ -1,4 +1,4 @@
-//! Jobs: a load is to be carried from one station to another.
+//! Jobs: each carries a load from one station to another.
 ghost use Rattle.std.specs.Prelude.{◌≡◌};
 
 use agv_header::Name;
@@ -13,11 +13,11 @@ pub struct Job {
     pub origin: Name,
     /// The station where the load is dropped.
     pub target: Name,
-    /// How far the job is.
+    /// The phase that the job is in.
     pub phase: Phase,
 }
 
-/// How far a job is. It begins as Waiting, and Done and Stopped are final.
+/// The phase of a job. It begins as Waiting, and Done and Stopped are final.
 #[derive(Clone, Copy, Debug, PartialEq, Eq)]
 pub enum Phase {
     /// No vehicle has an order for it yet.
@@ -33,7 +33,7 @@ pub enum Phase {
 impl Phase {
     ghost use Rattle.agv_stock.specs.Phase.{is_live};
 
-    /// Whether a job in this phase is still to be carried out: it is Waiting or Riding.
+    /// Returns whether a job in this phase is still to be carried out: it is Waiting or Riding.
     pub fn is_live(self) -> bool
         ensures { result ≡ is_live self }
     {

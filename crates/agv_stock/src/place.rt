@@ -1,8 +1,8 @@
-//! Where a load is.
+//! The places of loads.
 
 use agv_header::{Name, VehicleKey};
 
-/// Where a load stands. Each load is at exactly one place.
+/// Where a load is. Each load is at exactly one place.
 #[derive(Clone, Copy, Debug, PartialEq, Eq)]
 pub enum Place {
     /// At the station of this name.

@@ -1,4 +1,4 @@
-//! How much room a station has left.
+//! The room that a station has left.
 ghost use Rattle.std.specs.Prelude.{◌≡◌, ◌+◌, Some, count_by, is_some};
 ghost use Rattle.agv_stock.specs.Checks.{is_stored};
 ghost use Rattle.agv_stock.specs.Rooms.{is_at, is_on, goes_to, room_left, room_of, station_of_place};
@@ -8,7 +8,7 @@ use agv_header::{Name, VehicleKey};
 use agv_layout::Station;
 
 impl Place {
-    /// Whether it is the station of this name.
+    /// Returns whether it is the station of this name.
     pub fn is_at(&self, name: Name) -> bool
         ensures { result ≡ is_at name self.now }
     {
@@ -18,7 +18,7 @@ impl Place {
         }
     }
 
-    /// Whether it is this vehicle.
+    /// Returns whether it is this vehicle.
     pub fn is_on(&self, key: &VehicleKey) -> bool
         ensures { result ≡ is_on key.now self.now }
     {
@@ -29,7 +29,7 @@ impl Place {
     }
 }
 
-/// The station that a place is; none where it is no station.
+/// Returns the station of a place, or `None` if it is no station.
 pub fn station_of_place(place: Place) -> Option<Name>
     ensures is { result ≡ station_of_place (Some place) }
     ensures stored { is_some result ≡ is_stored place }
@@ -41,7 +41,7 @@ pub fn station_of_place(place: Place) -> Option<Name>
 }
 
 impl Job {
-    /// Whether it is live and goes to the station of this name: a place is reserved for its load there.
+    /// Returns whether it is live and goes to the station of this name, where it reserves a place.
     pub fn goes_to(&self, name: Name) -> bool
         ensures { result ≡ goes_to name self.now }
     {
@@ -49,7 +49,7 @@ impl Job {
     }
 }
 
-/// The room that is left of a capacity with these numbers of loads and live jobs.
+/// Returns the room left of a capacity with this many loads and live jobs; 0 if that is negative.
 pub fn room_left(capacity: u32, loads: usize, jobs: usize) -> u32
     ensures { result ≡ room_left capacity loads jobs }
 {
@@ -59,8 +59,8 @@ pub fn room_left(capacity: u32, loads: usize, jobs: usize) -> u32
     left as u32
 }
 
-/// How many loads more fit at a station: its capacity, less the loads of these that stand there, less
-/// the live jobs of these to it; 0 where that is negative.
+/// Returns how many more loads fit at a station: its capacity, less those of these loads that are
+/// there, less those of these jobs that are live and go to it; 0 if that is negative.
 ///
 /// It takes no memory, and time in proportion to the loads and the jobs.
 pub fn room(station: &Station, places: &[(Name, Place)], jobs: &[Job]) -> u32

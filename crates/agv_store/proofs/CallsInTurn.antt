@@ -7,21 +7,20 @@ use Rattle.sqlite_trees.specs.Tree.{Trees}
 use Rattle.sqlite.specs.Effect.{Database}
 use Rattle.sqlite.specs.Held.{state}
 use Rattle.sqlite.specs.State.{Survives}
-use Rattle.agv_world.specs.Worlds.{World}
-use Rattle.agv_world.specs.declared.fault.Fault.{Fault}
-use Rattle.agv_world.specs.declared.fault.Fault.TheVariants as machine
-use Rattle.agv_desk.specs.Outcomes.{answer_of}
-use Rattle.agv_desk.specs.Step.{answers, step, steps}
+use Rattle.agv_world_core.specs.Worlds.{World}
+use Rattle.agv_world_core.specs.declared.fault.Fault.{Fault}
+use Rattle.agv_world_core.specs.declared.fault.Fault.TheVariants as machine
+use Rattle.agv_desk.specs.Step.{answers, steps}
 use Rattle.agv_desk.specs.declared.answer.Answer.{Answer}
 use Rattle.agv_desk.specs.declared.call.Call.{Call}
-use Rattle.agv_table_reading.specs.WorldIn.{world_in}
-use Rattle.agv_schema.specs.DeskRows.{IsDesk, KeepsOthers, Placing}
-use Rattle.agv_schema.specs.SchemaNumbers.{desk_seats}
-use Rattle.agv_schema.specs.Connections.{IsClean, IsLater, IsOpen}
-use Rattle.agv_schema.proofs.Later.{later_by, later_refl, later_trans}
-use Rattle.agv_keyed_floor.specs.Floors.{Keyed, Knows, world_at}
+use Rattle.agv_store_read_tables.specs.WorldIn.{world_in}
+use Rattle.agv_store_schema.specs.DeskRows.{IsDesk, KeepsOthers, Placing}
+use Rattle.agv_store_schema.specs.SchemaNumbers.{desk_seats}
+use Rattle.agv_store_schema.specs.Connections.{IsClean, IsLater, IsOpen}
+use Rattle.agv_store_schema.proofs.Later.{later_by, later_refl, later_trans}
+use Rattle.agv_store_floor.specs.Floors.{Keyed, Knows, world_at}
 use Rattle.agv_store.specs.Running.{HasDatabase, IsRun, IsStopped, LeavesLast, stopped_end, world_till}
-use Rattle.agv_store.specs.Serving.{FoundIn, IsServedBy, LeavesAll, LeavesCall, world_after}
+use Rattle.agv_store.specs.Serving.{FoundIn, IsServedBy, LeavesAll, LeavesCall, answer_in, world_after}
 use Rattle.agv_store.proofs.Crashes.{either, has_weaker, known}
 use Rattle.agv_store.proofs.Writing.{DatabaseTells, world_known}
 
@@ -47,7 +46,7 @@ module _ (world : World) (calls : List (ℕ × Call)) (n : ℕ) (made : ℕ × C
   pub next_world : WorldsInTurn → world_till world calls (n + 1) ≡ world_after (world_till world calls n) made.0 made.1
   next_world turn = ap (λ (list : List (ℕ × Call)). steps desk_seats world list) next ∙ turn desk_seats world (take n calls) (made ∷ [])
 
-  pub next_answers : AnswersInTurn → answers desk_seats world (take (n + 1) calls) ≡ (answers desk_seats world (take n calls) ++ answer_of (step desk_seats (world_till world calls n) made.0 made.1) ∷ [])
+  pub next_answers : AnswersInTurn → answers desk_seats world (take (n + 1) calls) ≡ (answers desk_seats world (take n calls) ++ answer_in (world_till world calls n) made.0 made.1 ∷ [])
   next_answers turn = ap (λ (list : List (ℕ × Call)). answers desk_seats world list) next ∙ turn desk_seats world (take n calls) (made ∷ [])
 
 one_longer : (given : List Answer) (answer : Answer) → length (given ++ answer ∷ []) ≡ length given + 1
@@ -172,7 +171,7 @@ module _ {S : Type 0} (g : Ghosts S) where
         answers_are = λ clean.
             let world_is = so_far.world_is (clean_mid clean) in
             let first = ap (λ (list : List Answer). list ++ answer ∷ []) (so_far.answers_are (clean_mid clean)) in
-            let last = (serves clean).answer_is ∙ ap (λ (w : World). answer_of (step desk_seats w made.0 made.1)) world_is in
+            let last = (serves clean).answer_is ∙ ap (λ (w : World). answer_in w made.0 made.1) world_is in
             first
             ∙ ap (λ (a : Answer). answers desk_seats start (take (length given) calls) ++ a ∷ []) last
             ∙ sym (next_answers start calls (length given) made low is answers_turn)

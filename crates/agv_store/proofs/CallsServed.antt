@@ -9,33 +9,31 @@ use Rattle.sqlite.specs.Effect.{Database}
 use Rattle.sqlite.specs.Held.{Held, state}
 use Rattle.sqlite.specs.State.{Survives}
 use Rattle.sqlite.proofs.StateLemmas.{survives_then, survives_weaker}
-use Rattle.agv_world.specs.Asks.{Answers, IsFaulted, Kept, failed_after}
-use Rattle.agv_world.specs.Changes.{changed}
-use Rattle.agv_world.specs.ConsistentTrips.{HasConsistentTrips}
-use Rattle.agv_world.specs.Lawful.{IsLawful}
-use Rattle.agv_world.specs.Maps.{maps_of}
-use Rattle.agv_world.specs.Worlds.{World}
-use Rattle.agv_world.specs.declared.change.Change.{Change}
-use Rattle.agv_world.specs.declared.fault.Fault.{Fault}
-use Rattle.agv_world.specs.declared.fault.Fault.TheVariants as machine
-use Rattle.agv_world.proofs.lists.Asking.{left, stays}
-use Rattle.agv_desk.specs.Outcomes.{answer_of}
+use Rattle.agv_world_core.specs.Asks.{Answers, IsFaulted, Kept, failed_after}
+use Rattle.agv_world_core.specs.Changes.{changed}
+use Rattle.agv_world_core.specs.ConsistentTrips.{HasConsistentTrips}
+use Rattle.agv_world_core.specs.Lawful.{IsLawful}
+use Rattle.agv_world_core.specs.Maps.{maps_of}
+use Rattle.agv_world_core.specs.Worlds.{World}
+use Rattle.agv_world_core.specs.declared.change.Change.{Change}
+use Rattle.agv_world_core.specs.declared.fault.Fault.{Fault}
+use Rattle.agv_world_core.specs.declared.fault.Fault.TheVariants as machine
+use Rattle.agv_world_core.proofs.lists.Asking.{left, stays}
 use Rattle.agv_desk.specs.declared.answer.Answer.{Answer}
 use Rattle.agv_desk.specs.declared.answer.Decision.{Decision}
 use Rattle.agv_desk.specs.declared.call.Call.{Call}
-use Rattle.agv_table_reading.specs.WorldIn.{world_in}
-use Rattle.agv_schema.specs.DeskRows.{KeepsOthers, Placing}
-use Rattle.agv_schema.specs.SchemaNumbers.{desk_seats}
-use Rattle.agv_schema.specs.declared.table_name.TableName.{TableName}
-use Rattle.agv_schema.specs.Connections.{IsClean, IsOpen}
-use Rattle.agv_schema.proofs.Later.{later_by}
-use Rattle.agv_keyed_floor.specs.Floors.{IsAsked, Keyed, Knows, facts_of, world_at}
-use Rattle.agv_store.specs.Serving.{Decides, FoundIn, IsServedBy, LeavesAll, LeavesCall, outcome_in, world_after}
-use Rattle.agv_keyed_floor.proofs.Asked.{clean_before}
-use Rattle.agv_store.proofs.Writing.{answer_decided}
+use Rattle.agv_store_read_tables.specs.WorldIn.{world_in}
+use Rattle.agv_store_schema.specs.DeskRows.{KeepsOthers, Placing}
+use Rattle.agv_store_schema.specs.SchemaNumbers.{desk_seats}
+use Rattle.agv_store_schema.specs.declared.table_name.TableName.{TableName}
+use Rattle.agv_store_schema.specs.Connections.{IsClean, IsOpen}
+use Rattle.agv_store_schema.proofs.Later.{later_by}
+use Rattle.agv_store_floor.specs.Floors.{IsAsked, Keyed, Knows, facts_of, world_at}
+use Rattle.agv_store.specs.Serving.{Decides, FoundIn, IsServedBy, LeavesAll, LeavesCall, answer_in, world_after}
+use Rattle.agv_store_floor.proofs.Asked.{clean_before}
 
 -- other tables keep their rows where nothing changes
-others_same : (desk : Placing) (db : Database) (tables : List Table) → AllByRecursion (λ (t : Table). ((name : TableName) → t.tree ≢ desk.tree name) → db.trees t.tree ≡ db.trees t.tree) tables
+pub others_same : (desk : Placing) (db : Database) (tables : List Table) → AllByRecursion (λ (t : Table). ((name : TableName) → t.tree ≢ desk.tree name) → db.trees t.tree ≡ db.trees t.tree) tables
 others_same desk db [] = tt
 others_same desk db (table ∷ more) = (λ _. refl, others_same desk db more)
 
@@ -117,7 +115,7 @@ module _ {S : Type 0} (g : Ghosts S) where
           let maps : maps_of (world_at g old) ≡ maps_of (world_after (world_at g old) at call) = subst (λ (changes : List Change). changed changes (maps_of (world_at g old)) ≡ maps_of (world_after (world_at g old) at call)) none its.changes in
           let same : world_at g old ≡ world_after (world_at g old) at call = one (world_at g old) _ (good desk_seats (world_at g old) (knows_before clean still).has.lawful) (good desk_seats _ its.lawful) maps in
           record {
-            answer_is = ap (λ (d : Decision). d.answer) its.decided_is ∙ answer_decided _;
+            answer_is = its.answer_is;
             knows = subst (λ world. Knows g mid world) (same_world clean still ∙ same) (knows clean);
             others = λ desk stands schema. subst (λ (db : Database). KeepsOthers desk (state g old).now db) (sym (same_now clean still))
                 (record { schema_is = refl; rows = others_same desk (state g old).now desk.schema.tables });
@@ -136,7 +134,7 @@ module _ {S : Type 0} (g : Ghosts S) where
             let world = same_world clean_m still in
             let now = same_now clean_m still in
             record {
-              answer_is = subst (λ world. answer ≡ answer_of (outcome_in world at call)) world served.answer_is;
+              answer_is = subst (λ world. answer ≡ answer_in world at call) world served.answer_is;
               knows = subst (λ world. Knows g new (world_after world at call)) world served.knows;
               others = λ desk stands schema. subst (λ (db : Database). KeepsOthers desk db (state g new).now) now (served.others desk stands (ap (λ (db : Database). db.schema) now ∙ schema));
             }

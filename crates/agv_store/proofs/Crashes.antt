@@ -5,13 +5,13 @@ use Rattle.sqlite_trees.specs.Tree.{Trees}
 use Rattle.sqlite.specs.Effect.{Database, IsDatabase}
 use Rattle.sqlite.specs.Held.{Held, state}
 use Rattle.sqlite.specs.State.{Survives}
-use Rattle.agv_world.specs.Worlds.{World, empty_world}
+use Rattle.agv_world_core.specs.Worlds.{World, empty_world}
 use Rattle.agv_desk.specs.declared.call.Call.{Call}
-use Rattle.agv_creation.specs.DeskTables.{LeavesDesk}
-use Rattle.agv_world_reading.specs.NewWorld.{KnowsNothing}
-use Rattle.agv_creation.specs.NewDesk.{MadeDesksStand, StandsNew}
-use Rattle.agv_schema.specs.Connections.{IsClean, IsOpen}
-use Rattle.agv_keyed_floor.specs.Floors.{Knows, world_at}
+use Rattle.agv_store_create.specs.DeskTables.{LeavesDesk}
+use Rattle.agv_store_read_tables.specs.NewWorld.{KnowsNothing}
+use Rattle.agv_store_create.specs.NewDesk.{MadeDesksStand, StandsNew}
+use Rattle.agv_store_schema.specs.Connections.{IsClean, IsOpen}
+use Rattle.agv_store_floor.specs.Floors.{Knows, world_at}
 use Rattle.agv_store.specs.Migration.{FirstFound, LeavesMigrated}
 use Rattle.agv_store.specs.Opening.{CanBeMade}
 use Rattle.agv_store.specs.Running.{HasDatabase}

@@ -8,31 +8,31 @@ use Rattle.sqlite_value.specs.Order.{Row}
 use Rattle.sqlite_trees.specs.declared.store.Store.{Ghosts}
 use Rattle.sqlite.specs.Effect.{Database, IsDatabase}
 use Rattle.sqlite.specs.Held.{Held, state}
-use Rattle.agv_holds.specs.Holds.{Holds as Holders}
-use Rattle.agv_world.specs.Kept.{Keeps}
-use Rattle.agv_world.specs.Lawful.{IsLawful}
-use Rattle.agv_world.specs.Maps.{maps_of}
-use Rattle.agv_world.specs.Worlds.{World}
-use Rattle.agv_world.specs.declared.world.World.{World as Tables}
-use Rattle.agv_row_queries.specs.WorldAnswers.{HasNoWorld, HasWorld, AnswersQuery}
-use Rattle.agv_row_reading.specs.Rowids.{AreTablesKeyed, TellsKeyed}
-use Rattle.agv_row_reading.specs.TablesRead.{HasCauseOverTables, HaveAll, TellsAll}
-use Rattle.agv_table_reading.specs.WorldIn.{world_in}
-use Rattle.agv_schema.specs.DeskRows.{AreKeyed, Holds, Placing, TableHas, shown_in, table_names}
-use Rattle.agv_rows.specs.Rows.{HoldsWorld}
-use Rattle.agv_schema.specs.SchemaNumbers.{desk_seats}
-use Rattle.agv_creation.specs.StandingTables.{TablesStand}
-use Rattle.agv_schema.specs.Connections.{HasStorageCause, IsClean, IsOpen}
-use Rattle.agv_row_queries.specs.declared.open_fault.OpenFault.{OpenFault}
-use Rattle.agv_row_queries.specs.declared.open_fault.OpenFault.TheVariants as fault
-use Rattle.agv_row_reading.specs.declared.held_things.HeldThings.{HeldThings}
-use Rattle.agv_schema.specs.declared.table_name.TableName.{TableName}
-use Rattle.agv_known.specs.Known.{IsKnownIn}
-use Rattle.agv_known.specs.declared.known.Known.{Known}
-use Rattle.agv_keyed_floor.specs.Floors.{IsAsked, IsConsistent, Knows, world_at}
+use Rattle.agv_track_holds.specs.Holds.{Holds as Holders}
+use Rattle.agv_world_core.specs.Kept.{Keeps}
+use Rattle.agv_world_core.specs.Lawful.{IsLawful}
+use Rattle.agv_world_core.specs.Maps.{maps_of}
+use Rattle.agv_world_core.specs.Worlds.{World}
+use Rattle.agv_world_core.specs.declared.world.World.{World as Tables}
+use Rattle.agv_store_read.specs.WorldAnswers.{HasNoWorld, HasWorld, AnswersQuery}
+use Rattle.agv_store_read.specs.Rowids.{AreTablesKeyed, TellsKeyed}
+use Rattle.agv_store_read.specs.TablesRead.{HasCauseOverTables, HaveAll, TellsAll}
+use Rattle.agv_store_read_tables.specs.WorldIn.{world_in}
+use Rattle.agv_store_schema.specs.DeskRows.{AreKeyed, Holds, Placing, TableHas, shown_in, table_names}
+use Rattle.agv_store_rows.specs.Rows.{HoldsWorld}
+use Rattle.agv_store_schema.specs.SchemaNumbers.{desk_seats}
+use Rattle.agv_store_create.specs.StandingTables.{TablesStand}
+use Rattle.agv_store_schema.specs.Connections.{HasStorageCause, IsClean, IsOpen}
+use Rattle.agv_store_read.specs.declared.open_fault.OpenFault.{OpenFault}
+use Rattle.agv_store_read.specs.declared.open_fault.OpenFault.TheVariants as fault
+use Rattle.agv_store_read.specs.declared.held_things.HeldThings.{HeldThings}
+use Rattle.agv_store_schema.specs.declared.table_name.TableName.{TableName}
+use Rattle.agv_store_known.specs.Known.{IsKnownIn}
+use Rattle.agv_store_known.specs.declared.known.Known.{Known}
+use Rattle.agv_store_floor.specs.Floors.{IsAsked, IsConsistent, Knows, world_at}
 use Rattle.agv_store.specs.Opening.{Finds}
-use Rattle.agv_schema.proofs.Later.{fault_later, later_by}
-use Rattle.agv_keyed_floor.proofs.Asked.{asked_by, asked_then, clean_before, knows_still}
+use Rattle.agv_store_schema.proofs.Later.{fault_later, later_by}
+use Rattle.agv_store_floor.proofs.Asked.{asked_by, asked_then, clean_before, knows_still}
 
 -- ---- the laws of tables, as the readings say them
 

@@ -6,23 +6,23 @@ use Rattle.sqlite_trees.specs.declared.store.Store.{Ghosts}
 use Rattle.sqlite.specs.Effect.{Database}
 use Rattle.sqlite.specs.Held.{Held, state}
 use Rattle.sqlite.specs.State.{IsUnchanged, IsRolledBack, Survives}
-use Rattle.agv_world.specs.Kept.{Keeps}
-use Rattle.agv_world.specs.Lawful.{IsLawful}
-use Rattle.agv_world.specs.Worlds.{World}
-use Rattle.agv_world.specs.declared.world.World.{World as Tables}
-use Rattle.agv_first_schema.specs.FirstFound.{FindsFirst}
-use Rattle.agv_first_schema.specs.Moved.{CanBeAdded, LeavesMoved, MovesTables, MovesWorld}
-use Rattle.agv_schema.proofs.Later.{later_by}
-use Rattle.agv_schema.specs.Connections.{IsClean, IsOpen}
-use Rattle.agv_creation.specs.declared.making_fault.MakingFault.{MakingFault}
-use Rattle.agv_creation.specs.declared.making_fault.MakingFault.TheVariants as making
-use Rattle.agv_known.specs.Known.{IsKnownIn}
-use Rattle.agv_known.specs.declared.known.Known.{Known}
-use Rattle.agv_keyed_floor.specs.Floors.{IsAsked, IsConsistent, Knows, world_at}
+use Rattle.agv_world_core.specs.Kept.{Keeps}
+use Rattle.agv_world_core.specs.Lawful.{IsLawful}
+use Rattle.agv_world_core.specs.Worlds.{World}
+use Rattle.agv_world_core.specs.declared.world.World.{World as Tables}
+use Rattle.agv_store_migrate.specs.FirstFound.{FindsFirst}
+use Rattle.agv_store_migrate.specs.Moved.{CanBeAdded, LeavesMoved, MovesTables, MovesWorld}
+use Rattle.agv_store_schema.proofs.Later.{later_by}
+use Rattle.agv_store_schema.specs.Connections.{IsClean, IsOpen}
+use Rattle.agv_store_create.specs.declared.making_fault.MakingFault.{MakingFault}
+use Rattle.agv_store_create.specs.declared.making_fault.MakingFault.TheVariants as making
+use Rattle.agv_store_known.specs.Known.{IsKnownIn}
+use Rattle.agv_store_known.specs.declared.known.Known.{Known}
+use Rattle.agv_store_floor.specs.Floors.{IsAsked, IsConsistent, Knows, world_at}
 use Rattle.agv_store.specs.Migration.{CanBeMigrated, CannotBeMigrated, FindsFirstDesk, FirstFound, LeavesMigrated, Migrates}
 use Rattle.agv_store.specs.Opening.{IsDamaged, IsStorage, Opening, of_making}
-use Rattle.agv_row_queries.specs.declared.open_fault.OpenFault.{OpenFault}
-use Rattle.agv_row_queries.specs.declared.open_fault.OpenFault.TheVariants as fault
+use Rattle.agv_store_read.specs.declared.open_fault.OpenFault.{OpenFault}
+use Rattle.agv_store_read.specs.declared.open_fault.OpenFault.TheVariants as fault
 use Rattle.agv_store.proofs.Found.{TellsItsWorld}
 
 -- ---- a refusal

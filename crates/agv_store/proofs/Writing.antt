@@ -5,35 +5,35 @@ use Rattle.sqlite_trees.specs.Tree.{Trees}
 use Rattle.sqlite.specs.Effect.{Database, IsDatabase}
 use Rattle.sqlite.specs.Held.{Held, state}
 use Rattle.sqlite.specs.State.{Survives}
-use Rattle.agv_world.specs.Changes.{changed}
-use Rattle.agv_world.specs.Counts.{limit_of, one_more}
-use Rattle.agv_world.specs.LawfulParts.{HasLawfulLoads}
-use Rattle.agv_world.specs.Questions.{count_of}
-use Rattle.agv_world.specs.Maps.{Maps, maps_of}
-use Rattle.agv_world.specs.Worlds.{World}
-use Rattle.agv_world.specs.declared.change.Change.{Change}
-use Rattle.agv_world.specs.declared.fault.Fault.{Fault}
-use Rattle.agv_world.specs.declared.fault.Fault.TheVariants as machine
-use Rattle.agv_world.specs.declared.floor.Counted.{Counted}
-use Rattle.agv_world.proofs.LawfulInParts.{loads_of}
+use Rattle.agv_world_core.specs.Changes.{changed}
+use Rattle.agv_world_core.specs.Counts.{limit_of, one_more}
+use Rattle.agv_world_core.specs.LawfulParts.{HasLawfulLoads}
+use Rattle.agv_world_core.specs.Questions.{count_of}
+use Rattle.agv_world_core.specs.Maps.{Maps, maps_of}
+use Rattle.agv_world_core.specs.Worlds.{World}
+use Rattle.agv_world_core.specs.declared.change.Change.{Change}
+use Rattle.agv_world_core.specs.declared.fault.Fault.{Fault}
+use Rattle.agv_world_core.specs.declared.fault.Fault.TheVariants as machine
+use Rattle.agv_world_core.specs.declared.floor.Counted.{Counted}
+use Rattle.agv_world_core.proofs.LawfulInParts.{loads_of}
 use Rattle.agv_desk.specs.Counts.{added, counted_by}
 use Rattle.agv_desk.specs.Outcomes.{Outcome, Made, Refused, after, answer_of, decided}
 use Rattle.agv_desk.specs.Step.{step}
 use Rattle.agv_desk.specs.declared.answer.Decision.{Decision}
 use Rattle.agv_desk.specs.declared.call.Call.{Call}
-use Rattle.agv_changes.specs.ChangesMade.{ChangesWorlds, LeavesChanges, MakesChanges}
-use Rattle.agv_row_queries.specs.WorldAnswers.{HasWorld}
-use Rattle.agv_table_reading.specs.WorldIn.{world_in}
-use Rattle.agv_schema.specs.DeskRows.{Holds, KeepsOthers, Placing}
-use Rattle.agv_rows.specs.Rows.{row_lists, rows_of}
-use Rattle.agv_schema.specs.SchemaNumbers.{desk_seats}
-use Rattle.agv_schema.specs.Connections.{IsClean, IsOpen}
-use Rattle.agv_schema.proofs.Later.{later_by}
-use Rattle.agv_world.specs.Asks.{failed_by}
-use Rattle.agv_known.specs.Known.{Follows, IsKnownIn}
-use Rattle.agv_known.specs.declared.known.Known.{Known}
-use Rattle.agv_keyed_floor.specs.Flags.{doubted_by}
-use Rattle.agv_keyed_floor.specs.Floors.{IsConsistent, Keyed, Knows, world_at}
+use Rattle.agv_store_changes.specs.ChangesMade.{ChangesWorlds, LeavesChanges, MakesChanges}
+use Rattle.agv_store_read.specs.WorldAnswers.{HasWorld}
+use Rattle.agv_store_read_tables.specs.WorldIn.{world_in}
+use Rattle.agv_store_schema.specs.DeskRows.{Holds, KeepsOthers, Placing}
+use Rattle.agv_store_rows.specs.Rows.{row_lists, rows_of}
+use Rattle.agv_store_schema.specs.SchemaNumbers.{desk_seats}
+use Rattle.agv_store_schema.specs.Connections.{IsClean, IsOpen}
+use Rattle.agv_store_schema.proofs.Later.{later_by}
+use Rattle.agv_world_core.specs.Asks.{failed_by}
+use Rattle.agv_store_known.specs.Known.{Follows, IsKnownIn}
+use Rattle.agv_store_known.specs.declared.known.Known.{Known}
+use Rattle.agv_store_floor.specs.Flags.{doubted_by}
+use Rattle.agv_store_floor.specs.Floors.{IsConsistent, Keyed, Knows, world_at}
 use Rattle.agv_store.specs.Serving.{Decides, IsServedBy, LeavesCall, outcome_in, world_after}
 
 pub answer_decided : (outcome : Outcome) → (decided outcome).answer ≡ answer_of outcome
@@ -111,12 +111,12 @@ module _ {S : Type 0} (g : Ghosts S) (law : DatabaseTells) where
     world_next : r ≡ Ok tt → IsClean g new → world_at g new ≡ next
     world_next ok clean = world_known new next (knows_next ok clean)
 
-    answer_is : IsClean g new → decision.answer ≡ answer_of (outcome_in (world_at g old) at call)
-    answer_is clean = ap (λ (d : Decision). d.answer) (decides (clean_old clean)).decided_is ∙ answer_decided _
+    answer_as_decided : IsClean g new → decision.answer ≡ answer_of (outcome_in (world_at g old) at call)
+    answer_as_decided clean = ap (λ (d : Decision). d.answer) (decides (clean_old clean)).decided_is ∙ answer_decided _
 
     pub served : r ≡ Ok tt → IsClean g new → IsServedBy g old new at call decision.answer
     served ok clean = record {
-      answer_is = answer_is clean;
+      answer_is = (decides (clean_old clean)).answer_is;
       knows = knows_next ok clean;
       others = λ desk stands schema. subst (λ (db : Database). KeepsOthers desk (state g old).now db) (sym (on_ok ok (writes.all_committed clean))) ((on_ok ok (writes.made clean)).others desk stands schema);
     }
@@ -128,7 +128,7 @@ module _ {S : Type 0} (g : Ghosts S) (law : DatabaseTells) where
       known_next clean =
           let outcome = outcome_in (world_at g old) at call in
           let was = knows (clean_old clean) in
-          let added_is : (what : Counted) → one_more more what ≡ added call (answer_of outcome) what = λ what. ap (λ kind. one_more kind what) (more_is ∙ ap (counted_by call) (answer_is clean)) in
+          let added_is : (what : Counted) → one_more more what ≡ added call (answer_of outcome) what = λ what. ap (λ kind. one_more kind what) (more_is ∙ ap (counted_by call) (answer_as_decided clean)) in
           follows (world_at g old) next (maps_next clean)
           (λ what some. below desk_seats (world_at g old) at call what (λ none. some (added_is what ∙ none)))
           (λ what. counts desk_seats (world_at g old) at call what (loads_of was.has.lawful) ∙ ap (λ n. count_of (world_at g old) what + n) (sym (added_is what)))

@@ -1,38 +1,37 @@
-//! A database of the first schema is migrated to the second, and the desk in it adopted.
+//! Migrating a database of the first schema to the second, and adopting its desk.
 ghost use Rattle.std.specs.Prelude.{◌≡◌, ◌⊎◌, false, IfOk, OnErr};
 ghost use Rattle.sqlite.specs.Held.{state};
 ghost use Rattle.sqlite.specs.State.{Survives};
-ghost use Rattle.agv_first_schema.specs.Moved.{CanBeAdded};
-ghost use Rattle.agv_schema.specs.Connections.{HasStorageCause, IsClean, IsOpen};
+ghost use Rattle.agv_store_migrate.specs.Moved.{CanBeAdded};
+ghost use Rattle.agv_store_schema.specs.Connections.{HasStorageCause, IsClean, IsOpen};
 ghost use Rattle.agv_store.specs.Migration.{CanBeMigrated, CannotBeMigrated, FindsFirstDesk, LeavesMigrated, Migrates};
 ghost use Rattle.agv_store.specs.Opening.{IsDamaged, IsStorage, left_by};
 
 use crate::desk::Desk;
 use crate::opening::of_making;
-use agv_first_schema::table_moving::move_tables;
-use agv_first_schema::world_finding::find_first_world;
-use agv_keyed_floor::KeyedFloor;
-use agv_known::Known;
-use agv_row_queries::OpenFault;
-use agv_table_reading::world_laws::a_database_tells_its_world;
-use agv_world::World;
+use agv_store_floor::KeyedFloor;
+use agv_store_known::Known;
+use agv_store_migrate::table_moving::move_tables;
+use agv_store_migrate::world_finding::find_first_world;
+use agv_store_read::OpenFault;
+use agv_store_read_tables::world_laws::a_database_tells_its_world;
+use agv_world_core::World;
 use sqlite::{Alter, Connection};
 use std::alloc::Global;
 
 impl<S: Alter + Drop> Desk<S> {
-    /// Migrates a database of the first schema, which has no capacities, to the second, and adopts the desk. All is done in
-    /// one transaction: the tables `capacity`, `journey` and `act` are made and have their rows, `trip` is emptied, and
-    /// `meta` has the number of the second schema. The world stays the same, and each vehicle has the capacity 1.
+    /// Migrates a database of the first schema, which has no capacities, to the second, and adopts the desk. All is
+    /// done in one transaction: the tables `capacity`, `journey` and `act` are made and filled, `trip` is emptied, and
+    /// `meta` gets the number of the second schema. The world stays the same, and each vehicle has the capacity 1.
     ///
-    /// A crash leaves the database as it was, or the rows of the same world as the second schema has them
-    /// ([`laws`](crate::laws)).
+    /// A crash leaves the database as it was, or the second schema's rows of the same world ([`laws`](crate::laws)).
     ///
     /// # Errors
-    /// `Damaged` only if the database has the first schema's rows of no lawful world, a table is missing or differs, or a
-    /// table, a view or an index has one of the three names or a foreign key refers to one. Else `Memory` when out of
-    /// memory, and `Storage` for any other error of the database: the store failed, was closed, or limits the steps of a
-    /// query, or SQL refuses a statement of the migration, as where somebody's unique index forbids a row. The connection
-    /// is returned; if it is open, its contents are unchanged.
+    /// `Damaged` only if the database has the first schema's rows of no lawful world (a table is missing or differs,
+    /// say), or a table, a view or an index has one of the three names or a foreign key refers to one. Otherwise
+    /// `Memory` when out of memory, and `Storage` for any other error of the database: the store failed, was closed, or
+    /// limits the steps of a query, or SQL refuses a statement of the migration, as where somebody's unique index
+    /// forbids a row. The connection is returned; if it is open, its contents are unchanged.
     pub fn migrate(
         alloc: Global,
         conn: Connection<S>,
@@ -64,7 +63,8 @@ impl<S: Alter + Drop> Desk<S> {
     }
 }
 
-// The tables in memory of the world whose rows a database of the first schema has, and what is known of it.
+/// Reads the tables of the world whose rows a database of the first schema has, and returns them with what is known of
+/// it.
 fn find_first_desk<S: Alter>(
     alloc: Global,
     conn: &mut Connection<S>,

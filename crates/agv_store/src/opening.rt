@@ -1,50 +1,49 @@
-//! A desk is made in a database, or adopted from one that has its tables. `is_autocommit` is called for its clause alone:
-//! outside a transaction all is committed.
+//! Making a desk in a database, and adopting one from a database that has its tables. `is_autocommit` is called for its
+//! clause alone: outside a transaction everything is committed.
 ghost use Rattle.std.specs.Prelude.{◌≡◌, ◌⊎◌, ◌↔◌, false, IfOk, IsTrue, OnErr};
 ghost use Rattle.sqlite.specs.Held.{state};
 ghost use Rattle.sqlite.specs.State.{Survives};
-ghost use Rattle.agv_world.specs.Kept.{Keeps};
-ghost use Rattle.agv_world.specs.Lawful.{IsLawful};
-ghost use Rattle.agv_world.specs.Maps.{maps_of};
-ghost use Rattle.agv_world.specs.Worlds.{World as WorldOf};
-ghost use Rattle.agv_row_queries.specs.WorldAnswers.{HasNoWorld};
-ghost use Rattle.agv_creation.specs.DeskTables.{LeavesDesk};
-ghost use Rattle.agv_schema.specs.SchemaNumbers.{desk_seats};
-ghost use Rattle.agv_schema.specs.Connections.{HasStorageCause, IsClean, IsOpen};
+ghost use Rattle.agv_world_core.specs.Kept.{Keeps};
+ghost use Rattle.agv_world_core.specs.Lawful.{IsLawful};
+ghost use Rattle.agv_world_core.specs.Maps.{maps_of};
+ghost use Rattle.agv_world_core.specs.Worlds.{World as WorldOf};
+ghost use Rattle.agv_store_read.specs.WorldAnswers.{HasNoWorld};
+ghost use Rattle.agv_store_create.specs.DeskTables.{LeavesDesk};
+ghost use Rattle.agv_store_schema.specs.SchemaNumbers.{desk_seats};
+ghost use Rattle.agv_store_schema.specs.Connections.{HasStorageCause, IsClean, IsOpen};
 ghost use Rattle.agv_store.specs.Opening.{Adopts, CanBeMade, Finds, IsDamaged, IsStorage, Makes, left_by, of_making};
 
 use crate::desk::Desk;
-use agv_creation::MakingFault;
-use agv_creation::desk_tables::{NAMES, is_any_used, make_desk_tables};
-use agv_creation::making_laws::made_desks_stand;
-use agv_creation::standing_tables::tables_stand;
-use agv_creation::tables_beside::allows_desk;
 use agv_header::Memory;
-use agv_keyed_floor::KeyedFloor;
-use agv_known::{Counts, Known};
-use agv_lawful::TestsLawful;
-use agv_row_queries::OpenFault;
-use agv_row_reading::HeldThings;
-use agv_row_reading::rowid_reading::query_rowids;
-use agv_schema::DESK_SEATS;
-use agv_table_reading::world_laws::a_database_tells_its_world;
-use agv_world::World;
-use agv_world_reading::new_desk_laws::new_desks_know_nothing;
-use agv_world_reading::reading_laws::tables_read_tell_the_world;
-use agv_world_reading::world_reading::read_world;
+use agv_store_create::MakingFault;
+use agv_store_create::desk_tables::{NAMES, is_any_used, make_desk_tables};
+use agv_store_create::making_laws::made_desks_stand;
+use agv_store_create::standing_tables::tables_stand;
+use agv_store_create::tables_beside::allows_desk;
+use agv_store_floor::KeyedFloor;
+use agv_store_known::{Counts, Known};
+use agv_store_read::rowid_reading::query_rowids;
+use agv_store_read::{HeldThings, OpenFault};
+use agv_store_read_tables::new_desk_laws::new_desks_know_nothing;
+use agv_store_read_tables::reading_laws::tables_read_tell_the_world;
+use agv_store_read_tables::world_laws::a_database_tells_its_world;
+use agv_store_read_tables::world_reading::read_world;
+use agv_store_schema::DESK_SEATS;
+use agv_world_core::World;
+use agv_world_lawful::TestsLawful;
 use sqlite::{Alter, Connection};
 use sqlite_schema::schema::Schema;
 use std::alloc::Global;
 
 impl<S: Alter + Drop> Desk<S> {
-    /// Makes a desk that knows nothing yet: its tables are made in one transaction, beside whatever the database has.
+    /// Makes a desk with the empty world: its tables are made in one transaction, besides whatever the database has.
     ///
     /// # Errors
-    /// `Damaged` where a table, a view or an index has the name of one of the desk's tables, a foreign key refers to one of
-    /// them, or two tables lie in one tree, as in no sound database, and only there: nothing is touched then. Else `Memory`
-    /// when out of memory, and `Storage` for any other error of the database: the store failed or was closed, or SQL
-    /// refuses a statement, as where the database has 65,536 trees. The connection is returned; if it is open, its contents
-    /// are unchanged.
+    /// `Damaged` exactly where a table, a view or an index has the name of one of the desk's tables, a foreign key
+    /// refers to one of them, or two tables share a tree, as in no sound database; then nothing is touched. Otherwise
+    /// `Memory` when out of memory, and `Storage` for any other error of the database: the store failed or was closed,
+    /// or SQL refuses a statement, as where the database has 65,536 trees. The connection is returned; if it is open,
+    /// its contents are unchanged.
     pub fn create(alloc: Global, conn: Connection<S>) -> Result<Desk<S>, (Connection<S>, OpenFault)>
         requires { conn.in_transaction ≡ false }
         ensures made { IfOk result (λ desk. IsClean S.Store desk.held → Makes S.Store conn desk) }
@@ -76,15 +75,15 @@ impl<S: Alter + Drop> Desk<S> {
         }
     }
 
-    /// Adopts the desk of a database that has its tables, whoever wrote them: the schema, every row and what is held
-    /// are looked at, and nothing is changed.
+    /// Adopts the desk of a database that has its tables, whoever wrote them: it checks the schema, every row and the
+    /// holds, and changes nothing.
     ///
     /// # Errors
-    /// `Damaged` if the database has the rows of no lawful world: a table is missing or differs, a row can't be decoded,
-    /// the rows break a rule of the desk, or what is held isn't what the vehicles hold. A database that has the rows of a
-    /// lawful world is never damaged. Else `Memory` when out of memory, and `Storage` only if the store failed, was closed,
-    /// or limits the steps of a query, whatever the database has. The connection is returned; if it is open, its contents
-    /// are unchanged.
+    /// `Damaged` if the database has the rows of no lawful world: a table is missing or differs, a row can't be
+    /// decoded, the rows break a rule of the desk, or the rows of holds aren't those of what the vehicles hold. A
+    /// database that has the rows of a lawful world is never damaged. Otherwise `Memory` when out of memory, and
+    /// `Storage` only if the store failed, was closed, or limits the steps of a query, whatever the database has. The
+    /// connection is returned; if it is open, its contents are unchanged.
     pub fn adopt(alloc: Global, conn: Connection<S>) -> Result<Desk<S>, (Connection<S>, OpenFault)>
         requires { conn.in_transaction ≡ false }
         ensures adopted { IfOk result (λ desk. IsClean S.Store desk.held → Adopts S.Store conn desk) }
@@ -106,12 +105,12 @@ impl<S: Alter + Drop> Desk<S> {
         }
     }
 
-    /// Opens a database as a desk: makes one ([`Desk::create`]) where its tables can be made beside what the database has,
-    /// and else adopts the one that is there ([`Desk::adopt`]).
+    /// Opens a database as a desk: makes one ([`Desk::create`]) where its tables can be made besides what the database
+    /// has, and otherwise adopts the one that is there ([`Desk::adopt`]).
     ///
     /// # Errors
-    /// As these two. `Damaged` only where a desk can't be made, and the database has the rows of no lawful world; `Storage`
-    /// has a cause as for [`Desk::adopt`] where a desk can't be made.
+    /// As for these two. `Damaged` only where a desk can't be made and the database has the rows of no lawful world;
+    /// where a desk can't be made, `Storage` has one of the causes given at [`Desk::adopt`].
     pub fn open(alloc: Global, conn: Connection<S>) -> Result<Desk<S>, (Connection<S>, OpenFault)>
         requires { conn.in_transaction ≡ false }
         ensures opened { IfOk result (λ desk. IsClean S.Store desk.held → (CanBeMade (state S.Store conn).now.schema × Makes S.Store conn desk) ⊎ ((¬ CanBeMade (state S.Store conn).now.schema) × Adopts S.Store conn desk)) }
@@ -133,14 +132,14 @@ impl<S: Alter + Drop> Desk<S> {
     }
 }
 
-// Whether the desk's tables can be made beside what the database has.
+/// Returns whether the desk's tables can be made besides what the database has.
 fn can_be_made(schema: &Schema) -> bool
     ensures { IsTrue result ↔ CanBeMade schema.now }
 {
     !is_any_used(schema, &NAMES) && allows_desk(schema)
 }
 
-// Why no desk is opened where its tables aren't made.
+/// Converts a fault of making the desk's tables to the fault of the opening.
 pub(crate) fn of_making(why: MakingFault) -> OpenFault
     ensures { result ≡ of_making why }
 {
@@ -151,7 +150,7 @@ pub(crate) fn of_making(why: MakingFault) -> OpenFault
     }
 }
 
-// What is known of the world whose rows the desk's tables have, where they have the rows of a lawful one.
+/// Checks that the desk's tables have the rows of a lawful world, and returns what is known of it.
 fn find_desk<S: Alter>(alloc: Global, conn: &mut Connection<S>) -> Result<Known, OpenFault>
     requires { conn.old.in_transaction ≡ false }
     ensures { Finds S.Store conn.old conn.new result }
@@ -174,7 +173,7 @@ fn find_desk<S: Alter>(alloc: Global, conn: &mut Connection<S>) -> Result<Known,
     Ok(known)
 }
 
-// Whether these are the tables of a lawful world, and what is held is what its vehicles hold.
+/// Returns whether these are the tables of a lawful world, and the holds are those of its vehicles.
 fn are_of_a_lawful_world(alloc: Global, tables: &World, holds: &HeldThings) -> Result<bool, Memory>
     ensures { IfOk result (λ are. IsTrue are ↔ ((world : WorldOf) × Keeps tables.now world × IsLawful desk_seats world × (holds.now.table ≡ (maps_of world).holds))) }
 {

@@ -3,9 +3,9 @@ use Rattle.std.proofs.Common.{◌≡◌, ℕ, zero, suc, ◌<◌, ◌≤◌, Lis
 use Rattle.std.specs.List.{zip, enumerate_from}
 use Rattle.std.proofs.lemmas.List.FromFn.{fill_by_all, length-enumerate_from}
 use Rattle.std.proofs.lemmas.List.{length-map}
-use Rattle.agv_message.specs.declared.state.StateMessage.{StateMessage}
-use Rattle.agv_message.specs.declared.status.Status.{Status}
-use Rattle.agv_message.specs.declared.status.Status.TheVariants.{Waiting}
+use Rattle.agv_message_core.specs.declared.state.StateMessage.{StateMessage}
+use Rattle.agv_message_core.specs.declared.status.Status.{Status}
+use Rattle.agv_message_core.specs.declared.status.Status.TheVariants.{Waiting}
 use Rattle.agv_order.specs.declared.act.Act.{Act}
 use Rattle.agv_order.specs.declared.trip.Trip.{Trip}
 use Rattle.agv_track.specs.Acts.{AreNew}

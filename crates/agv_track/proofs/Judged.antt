@@ -1,11 +1,11 @@
 -- The three ways in which a state is judged.
 use Rattle.std.proofs.Common.{◌≡◌, ℕ, Bool, List, Option, Some, None, Ok, Err, sym, ap, ◌∙◌}
 use Rattle.agv_header.specs.declared.refusal.Refusal.{Refusal}
-use Rattle.agv_message.specs.declared.state.StateMessage.{StateMessage}
+use Rattle.agv_message_core.specs.declared.state.StateMessage.{StateMessage}
 use Rattle.agv_order.specs.declared.trip.Trip.{Trip}
 use Rattle.agv_track.specs.Judgements.{way_refusals, act_refusals, first_of, unless, eight, new_statuses, end_after, rest_after, progress_of, judged}
 use Rattle.agv_track.specs.declared.pending.Pending.{Pending}
-use Rattle.agv_message.specs.declared.status.Status.{Status}
+use Rattle.agv_message_core.specs.declared.status.Status.{Status}
 use Rattle.agv_track.specs.Reached.{reported_node}
 use Rattle.agv_track.specs.Reports.{is_pending_over}
 use Rattle.agv_track.specs.declared.progress.End.{End}

@@ -4,7 +4,7 @@ use Rattle.std.specs.List.{slice_get, enumerate_from}
 use Rattle.std.specs.Option.{option_map, unwrap_or}
 use Rattle.std.proofs.lemmas.Option.{slice_get-map, slice_get-get_or, slice_get_past}
 use Rattle.std.proofs.lemmas.List.FromFn.{length-enumerate_from, get_or-enumerate_from}
-use Rattle.agv_message.specs.declared.status.Status.TheVariants.{Waiting}
+use Rattle.agv_message_core.specs.declared.status.Status.TheVariants.{Waiting}
 use Rattle.agv_order.specs.declared.act.Act.{Act}
 use Rattle.agv_track.specs.Judgements.{nth_status}
 use Rattle.agv_track.specs.Reports.{Reports, status_after, statuses_after}

@@ -1,9 +1,9 @@
--- What the code looks for among acts. No public clause cites this.
+-- Tests of acts that the code makes. No public clause cites this.
 use Rattle.std.specs.Prelude.{◌≡◌, ℕ, Bool, not, ◌&&◌, nat_eq, List}
 use Rattle.std.specs.List.{zip}
 use Rattle.std.specs.Cmp.Lexicographic.{pointwise}
-use Rattle.agv_message.specs.declared.state.StateMessage.{StateMessage}
-use Rattle.agv_message.specs.declared.status.Status.{Status}
+use Rattle.agv_message_core.specs.declared.state.StateMessage.{StateMessage}
+use Rattle.agv_message_core.specs.declared.status.Status.{Status}
 use Rattle.agv_order.specs.Statuses.{is_finished}
 use Rattle.agv_order.specs.Stops.{is_drop}
 use Rattle.agv_order.specs.declared.act.Act.{Act}
@@ -14,6 +14,6 @@ use Rattle.agv_track.specs.Judgements.{new_statuses}
 abbrev pub is_pick_of : List ℕ → Act → Bool
 is_pick_of job act = not (is_drop act.kind) && is_finished act.status && pointwise nat_eq act.job job
 
--- the first of these statuses are those of the trip's acts after the state
+-- the statuses begin with those of the trip's acts after the state
 abbrev pub AreNew : Trip → StateMessage → List Status → Type 0
 AreNew trip state statuses = zip trip.acts statuses ≡ zip trip.acts (new_statuses trip state)

@@ -1,13 +1,13 @@
--- What a state says of the trip of its vehicle: which states are refused, and where the trip stands after the others (VDA 5050 2.0, state; this project's profile).
+-- How a state is judged against the trip of its vehicle: which states are refused, and the trip's progress after the others (VDA 5050 2.0, state; this project's profile).
 use Rattle.std.specs.Prelude.{ℕ, ◌==◌, nat_lt, Bool, not, ◌&&◌, ◌||◌, if◌then◌else◌, List, [], ◌∷◌, map, length, is_some, Option, None, Some, Result, Ok, Err}
 use Rattle.std.specs.List.{list_all, list_any, zip, slice_get, range_with_len}
 use Rattle.std.specs.Option.{option_map, unwrap_or}
 use Rattle.agv_header.specs.declared.refusal.Refusal.{Refusal}
 use Rattle.agv_header.specs.declared.refusal.Refusal.TheVariants.{UpdateNotSent, UpdateBackwards, NotOurNode, Backwards, BeyondBase, ActionTwice, ActionBackwards, ActionEarly, DropFirst, CancelEarly}
 use Rattle.agv_layout.specs.declared.edge.Edge.{Edge}
-use Rattle.agv_message.specs.declared.state.StateMessage.{StateMessage}
-use Rattle.agv_message.specs.declared.status.Status.{Status}
-use Rattle.agv_message.specs.declared.status.Status.TheVariants.{Waiting}
+use Rattle.agv_message_core.specs.declared.state.StateMessage.{StateMessage}
+use Rattle.agv_message_core.specs.declared.status.Status.{Status}
+use Rattle.agv_message_core.specs.declared.status.Status.TheVariants.{Waiting}
 use Rattle.agv_order.specs.Statuses.{is_finished, is_active, merge}
 use Rattle.agv_order.specs.WellFormed.{is_reached, is_in_turn, is_over}
 use Rattle.agv_order.specs.declared.act.Act.{Act}
@@ -37,13 +37,13 @@ goes_back renewed = not (is_some (merge renewed.0.status renewed.1))
 abbrev pub is_running : Act → Bool
 is_running act = is_active act.status
 
--- the load was picked or dropped
+-- the act is finished: the load was picked or dropped
 abbrev pub is_carried_out : Act → Bool
 is_carried_out act = is_finished act.status
 
 -- ---- refusals: each line is a condition, and the refusal of a state that meets it
 
--- of the update and the node that it reports
+-- the refusals of the reported update and node, in their order
 unfoldable pub way_refusals : Trip → StateMessage → List (Bool × Refusal)
 way_refusals trip state =
     (nat_lt trip.sent state.update, UpdateNotSent)
@@ -53,7 +53,7 @@ way_refusals trip state =
     ∷ (nat_lt (base_of trip state.update) (reported_node state), BeyondBase)
     ∷ []
 
--- of the actions that it lists
+-- the refusals of the listed actions, in their order
 unfoldable pub act_refusals : Trip → Option Pending → StateMessage → List (Bool × Refusal)
 act_refusals trip pending state =
     (has_act_twice state.actions trip.order trip.acts || has_pending_twice state.actions pending, ActionTwice)
@@ -68,40 +68,40 @@ abbrev pub first_of : List (Bool × Refusal) → Option Refusal
 first_of [] = None
 first_of (line ∷ lines) = if line.0 then Some line.1 else first_of lines
 
--- ---- where the trip stands afterwards
+-- ---- the progress after the state
 
--- status n, Waiting where there is none
+-- status n, or Waiting if there is none
 abbrev pub nth_status : List Status → ℕ → Status
 nth_status statuses n = unwrap_or (slice_get statuses n) Waiting
 
--- of eight statuses the first are those of the acts, in their order, and the others are Waiting
+-- the first eight of the statuses, filled up with Waiting
 unfoldable pub eight : List Status → List Status
 eight statuses = map (nth_status statuses) (range_with_len 0 8)
 
--- the last node is reached, and every act is over
+-- the vehicle has reached the last node, and every act is over
 abbrev pub is_through : Trip → StateMessage → Bool
 is_through trip state = reported_node state == length trip.edges && list_all is_over (new_acts trip state)
 
--- the trip ends well where every act was carried out
+-- how the trip ends: Done if every act is finished, otherwise Stopped
 abbrev pub end_by : List Act → End
 end_by acts = if list_all is_carried_out acts then Done else Stopped
 
--- the trip ends where it is through, and else where it is cancelled
+-- how the trip ends, if it is through or, otherwise, if it is cancelled
 abbrev pub end_after : Trip → Option Pending → StateMessage → Option End
 end_after trip pending state =
     if is_through trip state then Some (end_by (new_acts trip state))
     else (if is_cancelled state.actions pending then Some Stopped else None)
 
--- the edge to node k + 1 and that node, where they are released
+-- the edge from node k to node k + 1 and that node, if they are released
 abbrev pub next_of : Trip → ℕ → Option (List ℕ × List ℕ)
 next_of trip k = if nat_lt k trip.base then option_map (λ (edge : Edge). (edge.id, edge.finish)) (slice_get trip.edges k) else None
 
--- a vehicle whose order is cancelled on the way may have left the node that it reports
+-- the rest: the next edge and node, to which a vehicle whose order is cancelled before its end may have gone on
 abbrev pub rest_after : Trip → Option Pending → StateMessage → Option (List ℕ × List ℕ)
 rest_after trip pending state =
     if not (is_through trip state) && is_cancelled state.actions pending then next_of trip (reported_node state) else None
 
--- where the trip stands after a state that is accepted
+-- the progress of the trip after a state that is accepted
 unfoldable pub progress_of : Trip → Option Pending → StateMessage → Progress
 progress_of trip pending state = record {
   seen = reported_node state;
@@ -112,12 +112,12 @@ progress_of trip pending state = record {
   rest = rest_after trip pending state;
 }
 
--- the refusal, if there is one, else the result
+-- the refusal, if there is one, otherwise the result
 abbrev pub unless : {T : Type 0} → Option Refusal → Result T Refusal → Result T Refusal
 unless None result = result
 unless (Some refusal) result = Err refusal
 
--- the first refusal of the state, of its way and then of its acts, or where the trip stands afterwards
+-- the first refusal of the state, for its way and then for its acts, or the progress of the trip
 unfoldable pub judged : Trip → Option Pending → StateMessage → Result Progress Refusal
 judged trip pending state =
     unless (first_of (way_refusals trip state)) (unless (first_of (act_refusals trip pending state)) (Ok (progress_of trip pending state)))

@@ -5,3 +5,8 @@ pub mod ActionId
 pub mod Judgements
 pub mod Idle
 pub mod Progressed
+pub use Rattle.agv_track_holds.specs.Footprints
+pub use Rattle.agv_track_holds.specs.OrderedSet
+pub use Rattle.agv_track_holds.specs.HoldCode
+pub use Rattle.agv_track_holds.specs.Holders
+pub use Rattle.agv_track_holds.specs.Holds

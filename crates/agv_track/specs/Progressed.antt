@@ -11,16 +11,16 @@ use Rattle.agv_track.specs.Reports.{renewed}
 use Rattle.agv_track.specs.declared.progress.End.TheVariants.{Stopped}
 use Rattle.agv_track.specs.declared.progress.Progress.{Progress}
 
--- the trip with its progress written into it; its base and all that was planned stay
+-- the trip with the progress written into it; its base and its plan stay
 abbrev pub progressed : Trip → Progress → Trip
 progressed trip progress = record trip { confirmed = Some progress.confirmed; seen = progress.seen; acts = renewed trip.acts progress.statuses }
 
--- act k before and after: the same task, and a status that may follow
+-- an act before and after a state: its task is the same, and its status may follow
 pub record ActGoesOn (before : Act) (after : Act) : Type 0 where
   pub task : task_of after ≡ task_of before
   pub follows : IsTrue (may_follow before.status after.status)
 
--- the edge and the node of a rest are the next ones of the trip, which are released
+-- the edge and the node of a rest are the trip's next ones after node k, and are released
 pub record IsNextOf (trip : Trip) (k : ℕ) (rest : List ℕ × List ℕ) : Type 0 where
   pub edge : Edge
   pub there : slice_get trip.edges k ≡ Some edge
@@ -28,7 +28,7 @@ pub record IsNextOf (trip : Trip) (k : ℕ) (rest : List ℕ × List ℕ) : Type
   pub id : rest.0 ≡ edge.id
   pub finish : rest.1 ≡ edge.finish
 
--- what follows from a judgement of a trip that is under way: the plan stays, node and statuses only go forward, and a trip that has not ended is under way
+-- what holds after a state of a trip under way is accepted: the plan stays, the node and the statuses only go forward, and a trip that has not ended is under way
 pub record Advances (trip : Trip) (progress : Progress) : Type 0 where
   pub plan : plan_of (progressed trip progress) ≡ plan_of trip
   pub forward : trip.seen ≤ progress.seen

@@ -15,7 +15,7 @@ pub(crate) enum ActionId {
 }
 
 impl ActionId {
-    // Whether a message that has this text means the action.
+    /// Returns whether the text is this id.
     pub(crate) fn is(self, text: &str) -> bool
         ensures { result ≡ pointwise nat_eq text.now (id_text self) }
     {
@@ -30,7 +30,7 @@ impl ActionId {
     }
 }
 
-// Whether the text is the prefix and then the number.
+/// Returns whether the text is the prefix followed by the number.
 fn is_numbered(text: &[u8], prefix: &[u8], number: usize) -> bool
     ensures { result ≡ pointwise nat_eq text.now (prefix.now ++ decimal number) }
 {
@@ -40,7 +40,7 @@ fn is_numbered(text: &[u8], prefix: &[u8], number: usize) -> bool
     }
 }
 
-// Whether these are the decimal digits of the number.
+/// Returns whether these are the decimal digits of the number.
 fn is_decimal(digits: &[u8], number: usize) -> bool
     ensures { result ≡ pointwise nat_eq digits.now (decimal number) }
 {

@@ -1,14 +1,14 @@
-//! What a state says of a vehicle without a trip.
+//! Judging a state of a vehicle without a trip.
 ghost use Rattle.std.specs.Prelude.{◌≡◌};
 ghost use Rattle.agv_track.specs.Idle.{may_stand, idle_refusals, judged_idle};
 
 use crate::Pending;
 use crate::reports::{has_pending_twice, is_pending_over};
 use agv_header::{Name, Refusal};
-use agv_message::StateMessage;
+use agv_message_core::StateMessage;
 
-/// What a state says of a vehicle that has no open order, or has not taken it yet and speaks of an
-/// earlier one: whether the pending action is over, well or not. It takes no memory.
+/// Judges a state of a vehicle that has no open order, or has not accepted it yet and reports an earlier
+/// one: returns whether the pending action is over, finished or failed. It takes no memory.
 ///
 /// `node` is where the desk has the vehicle. The refusals, in this order:
 ///
@@ -31,7 +31,7 @@ pub fn judge_idle(
     Ok(is_pending_over(pending, state))
 }
 
-// Whether the last node is the one where the desk has the vehicle, or the vehicle knows none.
+/// Returns whether the last node is the one where the desk has the vehicle, or none is reported.
 fn may_stand(node: Name, last_node: &str) -> bool
     ensures { result ≡ may_stand node last_node.now }
 {

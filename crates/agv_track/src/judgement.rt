@@ -1,4 +1,4 @@
-//! What a state says of the trip of its vehicle.
+//! Judging a state against the trip of its vehicle.
 ghost use Rattle.std.specs.Prelude.{◌≡◌, ◌≤◌, ◌&&◌, ◌||◌, not, length};
 ghost use Rattle.std.specs.List.{list_all, list_any, zip};
 ghost use Rattle.agv_order.specs.WellFormed.{is_reached, is_in_turn, is_over};
@@ -14,18 +14,18 @@ use crate::reports::{
 use crate::statuses::{are_carried_out, are_in_turn, are_over, are_reached, goes_back, is_running};
 use crate::{End, Pending, Progress};
 use agv_header::{Name, Refusal};
-use agv_message::{StateMessage, Status};
+use agv_message_core::{StateMessage, Status};
 use agv_order::Trip;
 
-/// What a state says of the trip of its vehicle, where it is a state of the trip's order. It takes
-/// no memory.
+/// Judges a state of the trip's order against the trip: returns the progress of the trip, or a refusal.
+/// It takes no memory.
 ///
-/// The vehicle has reached node 0 where that is still to be traversed, and else the node that it
-/// names last. An act that the state does not list keeps its status. The refusals, in this order:
+/// The vehicle has reached node 0 if that is still to be traversed, and otherwise the last node that the
+/// state names. An act that the state does not list keeps its status. The refusals, in this order:
 ///
 /// - `UpdateNotSent`: the state has a later update than the last one that was sent.
 /// - `UpdateBackwards`: it has an earlier one than the confirmed one.
-/// - `NotOurNode`: the number of its last node is odd or past the way, or the name is another one.
+/// - `NotOurNode`: the sequence number of its last node is odd or past the way, or the name is not that node's.
 /// - `Backwards`: the node is before the one that the vehicle has reached already.
 /// - `BeyondBase`: the node is not released by the update that the vehicle has.
 /// - `ActionTwice`: the id of an act or of the pending action is listed twice or more.
@@ -34,7 +34,7 @@ use agv_order::Trip;
 /// - `DropFirst`: a drop is finished whose pick is not.
 /// - `CancelEarly`: the pending cancelOrder is finished while an act is active.
 ///
-/// The trip ends where the last node is reached and each act is over, and else where the pending
+/// The trip ends if the last node is reached and each act is over, or otherwise if the pending
 /// cancelOrder is finished.
 pub fn judge(
     trip: &Trip,
@@ -61,7 +61,7 @@ pub fn judge(
     })
 }
 
-// The first refusal of the actions that the state lists.
+/// Returns the first refusal of the actions that the state lists.
 #[tactic(auto, unfolding(crate::specs::Judgements::act_refusals))]
 fn act_refusal(
     trip: &Trip,
@@ -90,14 +90,14 @@ fn act_refusal(
     None
 }
 
-// Whether the state lists the id of an act, or that of the pending action, twice.
+/// Returns whether the state lists the id of an act, or that of the pending action, twice or more.
 fn is_twice(trip: &Trip, pending: Option<Pending>, state: &StateMessage) -> bool
     ensures { result ≡ (has_act_twice state.now.actions trip.now.order trip.now.acts || has_pending_twice state.now.actions pending) }
 {
     has_act_twice(trip, state) || has_pending_twice(pending, state)
 }
 
-// Whether some act would go back. The statuses are those after the state, as below.
+/// Returns whether some act would go back. Here and below, `statuses` are those after the state.
 fn some_go_back(trip: &Trip, state: &StateMessage, statuses: &[Status]) -> bool
     requires { AreNew trip.now state.now statuses.now }
     ensures { result ≡ list_any goes_back (zip trip.now.acts (new_statuses trip.now state.now)) }
@@ -105,7 +105,7 @@ fn some_go_back(trip: &Trip, state: &StateMessage, statuses: &[Status]) -> bool
     goes_back(trip.acts.as_slice(), statuses)
 }
 
-// Whether some act would be finished before the vehicle has reached its node.
+/// Returns whether some act would be finished before the vehicle has reached its node.
 fn some_are_early(trip: &Trip, state: &StateMessage, statuses: &[Status]) -> bool
     requires { AreNew trip.now state.now statuses.now }
     ensures { result ≡ not (list_all (is_reached (reported_node state.now)) (new_acts trip.now state.now)) }
@@ -113,7 +113,7 @@ fn some_are_early(trip: &Trip, state: &StateMessage, statuses: &[Status]) -> boo
     !are_reached(reported_node(state), trip.acts.as_slice(), statuses)
 }
 
-// Whether some drop would be finished before its pick.
+/// Returns whether some drop would be finished before its pick.
 fn some_drop_is_first(trip: &Trip, state: &StateMessage, statuses: &[Status]) -> bool
     requires { AreNew trip.now state.now statuses.now }
     ensures { result ≡ not (list_all (is_in_turn (new_acts trip.now state.now)) (new_acts trip.now state.now)) }
@@ -121,7 +121,7 @@ fn some_drop_is_first(trip: &Trip, state: &StateMessage, statuses: &[Status]) ->
     !are_in_turn(trip.acts.as_slice(), statuses)
 }
 
-// Whether some act would run.
+/// Returns whether some act would be active.
 fn some_run(trip: &Trip, state: &StateMessage, statuses: &[Status]) -> bool
     requires { AreNew trip.now state.now statuses.now }
     ensures { result ≡ list_any is_running (new_acts trip.now state.now) }
@@ -129,7 +129,7 @@ fn some_run(trip: &Trip, state: &StateMessage, statuses: &[Status]) -> bool
     is_running(trip.acts.as_slice(), statuses)
 }
 
-// How the trip ends, where it does.
+/// Returns how the trip ends, if it ends.
 fn end_after(
     trip: &Trip,
     pending: Option<Pending>,
@@ -148,7 +148,7 @@ fn end_after(
     }
 }
 
-// Whether the last node would be reached and each act over.
+/// Returns whether the last node would be reached and each act over.
 fn is_through(trip: &Trip, state: &StateMessage, statuses: &[Status]) -> bool
     requires { AreNew trip.now state.now statuses.now }
     ensures { result ≡ is_through trip.now state.now }
@@ -156,7 +156,7 @@ fn is_through(trip: &Trip, state: &StateMessage, statuses: &[Status]) -> bool
     reported_node(state) as usize == trip.edges.len() && all_are_over(trip, state, statuses)
 }
 
-// Whether each act would be over.
+/// Returns whether each act would be over.
 fn all_are_over(trip: &Trip, state: &StateMessage, statuses: &[Status]) -> bool
     requires { AreNew trip.now state.now statuses.now }
     ensures { result ≡ list_all is_over (new_acts trip.now state.now) }
@@ -164,7 +164,7 @@ fn all_are_over(trip: &Trip, state: &StateMessage, statuses: &[Status]) -> bool
     are_over(trip.acts.as_slice(), statuses)
 }
 
-// How the trip would end.
+/// Returns how the trip ends once it is through: `Done` if each act is finished.
 fn end_of(trip: &Trip, state: &StateMessage, statuses: &[Status]) -> End
     requires { AreNew trip.now state.now statuses.now }
     ensures { result ≡ end_by (new_acts trip.now state.now) }
@@ -176,7 +176,7 @@ fn end_of(trip: &Trip, state: &StateMessage, statuses: &[Status]) -> End
     }
 }
 
-// Where a vehicle whose order is cancelled may stand.
+/// Returns the edge and the node to which a vehicle whose order is cancelled may have gone on.
 fn rest_after(
     trip: &Trip,
     pending: Option<Pending>,
@@ -193,7 +193,7 @@ fn rest_after(
     }
 }
 
-// The edge after node k and the node where it leads, where they are released.
+/// Returns the edge after node k and the node where it finishes, if they are released.
 fn next_of(trip: &Trip, k: u32) -> Option<(Name, Name)>
     ensures { result ≡ next_of trip.now k }
 {

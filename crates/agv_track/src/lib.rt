@@ -1,11 +1,13 @@
-//! What a state message says of a trip.
+//! Judging state messages against the trips of their vehicles.
 //!
-//! - [`judge`] reads a state against the trip of its vehicle: a [`Refusal`](agv_header::Refusal), or how far the trip is
-//!   then, a [`Progress`].
-//! - [`judge_idle`] reads it against a vehicle without one: a refusal, or whether its pending action is over.
-//! - [`laws`] says what follows from a judgement.
+//! - [`judge`] judges a state against the trip of its vehicle: it returns a [`Refusal`](agv_header::Refusal), or the
+//!   trip's [`Progress`].
+//! - [`judge_idle`] judges a state of a vehicle without one: it returns a refusal, or whether the pending action is
+//!   over.
+//! - [`laws`] proves what follows from a judgement.
 //!
-//! What a vehicle holds is in `agv_holds`, which needs none of this, so the two stand side by side.
+//! What a vehicle holds is in `agv_track_holds`, whose items stand here too: [`footprint`] of a [`Standing`], and the
+//! [`HoldTable`] with its [`ClaimFault`].
 #![tactic(auto)]
 
 mod action_id;
@@ -18,6 +20,7 @@ mod reached;
 mod reports;
 mod statuses;
 
+pub use agv_track_holds::{ClaimFault, HoldTable, Standing, footprint};
 pub use idle::judge_idle;
 pub use judgement::judge;
 pub use pending::Pending;

@@ -1,8 +1,8 @@
 //! Pending actions.
 
-use agv_message::InstantKind;
+use agv_message_core::InstantKind;
 
-/// An instant action that the desk has sent and that the vehicle has not ended yet. Its id in
+/// An instant action that the desk has sent and that is not over yet on the vehicle. Its id in
 /// messages is `instant-` and the number.
 #[derive(Clone, Copy, Debug, PartialEq, Eq)]
 pub struct Pending {

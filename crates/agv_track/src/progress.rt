@@ -1,7 +1,7 @@
-//! What a state says of a trip.
+//! The progress of a trip.
 
 use agv_header::Name;
-use agv_message::Status;
+use agv_message_core::Status;
 
 /// How a trip ends.
 #[derive(Clone, Copy, Debug, PartialEq, Eq)]
@@ -12,19 +12,19 @@ pub enum End {
     Stopped,
 }
 
-/// Where a trip stands after a state of its vehicle.
+/// The progress of a trip after a state of its vehicle.
 #[derive(Clone, Copy, Debug, PartialEq, Eq)]
 pub struct Progress {
     /// The place on the way of the last node that the vehicle has reached.
     pub seen: u32,
-    /// The number of the last update that it has taken.
+    /// The number of the last update that the vehicle has accepted.
     pub confirmed: u32,
     /// The statuses of the acts, in their order. The others, up to eight, are Waiting.
     pub statuses: [Status; 8],
-    /// The pending action is over, well or not.
+    /// Whether the pending action is over, finished or failed.
     pub pending_over: bool,
-    /// How the trip ends, where it does.
+    /// How the trip ends, if it ends.
     pub end: Option<End>,
-    /// The edge and the node on which a cancelled vehicle may stand, which it holds.
+    /// The edge and the node where a vehicle whose order was cancelled may be, and which it holds.
     pub rest: Option<(Name, Name)>,
 }

@@ -1,13 +1,13 @@
-//! Where on its way a state puts a vehicle.
+//! The place on its way where a state puts a vehicle.
 ghost use Rattle.std.specs.Prelude.{◌≡◌, Ok, Some};
 ghost use Rattle.agv_track.specs.Reached.{is_at_start, reported_node, names_node, is_our_node, is_before, base_of};
 ghost use Rattle.agv_track.specs.Judgements.{way_refusals, first_of};
 
 use agv_header::Refusal;
-use agv_message::StateMessage;
+use agv_message_core::StateMessage;
 use agv_order::Trip;
 
-// The place on the way that the vehicle has reached.
+/// Returns the place on the way of the node that the vehicle has reached.
 pub(crate) fn reported_node(state: &StateMessage) -> u32
     ensures { result ≡ reported_node state.now }
 {
@@ -18,7 +18,7 @@ pub(crate) fn reported_node(state: &StateMessage) -> u32
     }
 }
 
-// The first refusal of the update and the node that the state reports.
+/// Returns the first refusal of the update and the node that the state reports.
 #[tactic(auto, unfolding(crate::specs::Judgements::way_refusals))]
 pub(crate) fn way_refusal(trip: &Trip, state: &StateMessage) -> Option<Refusal>
     ensures { result ≡ first_of (way_refusals trip.now state.now) }
@@ -41,7 +41,7 @@ pub(crate) fn way_refusal(trip: &Trip, state: &StateMessage) -> Option<Refusal>
     None
 }
 
-// Whether the update is before the confirmed one.
+/// Returns whether the update is earlier than the confirmed one.
 fn is_before(update: u32, confirmed: Option<u32>) -> bool
     ensures { result ≡ is_before update confirmed }
 {
@@ -51,21 +51,21 @@ fn is_before(update: u32, confirmed: Option<u32>) -> bool
     }
 }
 
-// Whether the state names a node of the trip.
+/// Returns whether the state names a node of the trip.
 fn is_our_node(trip: &Trip, state: &StateMessage) -> bool
     ensures { result ≡ is_our_node trip.now state.now }
 {
     is_at_start(state) || names_node(trip, state)
 }
 
-// Whether node 0 is still to be traversed.
+/// Returns whether node 0 is still to be traversed.
 fn is_at_start(state: &StateMessage) -> bool
     ensures { result ≡ is_at_start state.now }
 {
     state.node_seqs.as_slice().iter().any(|seq| *seq == 0)
 }
 
-// Whether the number is that of a node of the trip, and the name is the node's.
+/// Returns whether the last sequence number is that of a node of the trip, and the last node's name is this node's.
 fn names_node(trip: &Trip, state: &StateMessage) -> bool
     ensures { result ≡ names_node trip.now state.now }
 {
@@ -78,7 +78,7 @@ fn names_node(trip: &Trip, state: &StateMessage) -> bool
     }
 }
 
-// The place of the last node that is released for a vehicle which has this update.
+/// Returns the place of the last node that is released for a vehicle which has this update.
 fn base_of(trip: &Trip, update: u32) -> u32
     ensures { result ≡ base_of trip.now update }
 {

@@ -1,4 +1,4 @@
-//! What a state says of actions.
+//! The actions that a state lists.
 ghost use Rattle.std.specs.Prelude.{◌≡◌, length, ◌≤◌};
 ghost use Rattle.agv_track.specs.ActionId.{id_text};
 ghost use Rattle.agv_track.specs.Reports.{is_twice, told, has_act_twice, status_after, statuses_after, has_pending_twice, pending_told, is_pending_over, is_cancel, is_pending_cancel, is_cancelled};
@@ -6,10 +6,10 @@ ghost use Rattle.agv_track.specs.Judgements.{nth_status, eight, new_statuses};
 
 use crate::Pending;
 use crate::action_id::ActionId;
-use agv_message::{InstantKind, StateMessage, Status, Text};
+use agv_message_core::{InstantKind, StateMessage, Status, Text};
 use agv_order::Trip;
 
-// Whether the id of some act stands twice.
+/// Returns whether the id of some act is listed twice or more.
 pub(crate) fn has_act_twice(trip: &Trip, state: &StateMessage) -> bool
     ensures { result ≡ has_act_twice state.now.actions trip.now.order trip.now.acts }
 {
@@ -19,7 +19,7 @@ pub(crate) fn has_act_twice(trip: &Trip, state: &StateMessage) -> bool
     acts.any(|(n, _)| is_twice(reports, ActionId::Act { order, n }))
 }
 
-// The statuses of the acts after the state, and Waiting up to eight.
+/// Returns the statuses of the acts after the state, filled up to eight with Waiting.
 pub(crate) fn statuses_after(trip: &Trip, state: &StateMessage) -> [Status; 8]
     ensures { result ≡ eight (new_statuses trip.now state.now) }
 {
@@ -30,7 +30,7 @@ pub(crate) fn statuses_after(trip: &Trip, state: &StateMessage) -> [Status; 8]
     statuses
 }
 
-// The status of act n after the state; Waiting where there is no such act.
+/// Returns the status of act n after the state, or Waiting if there is no such act.
 fn status_after(trip: &Trip, state: &StateMessage, n: usize) -> Status
     ensures { result ≡ nth_status (new_statuses trip.now state.now) n }
 {
@@ -43,7 +43,7 @@ fn status_after(trip: &Trip, state: &StateMessage, n: usize) -> Status
     }
 }
 
-// Whether the id of the pending action stands twice.
+/// Returns whether the id of the pending action is listed twice or more.
 pub(crate) fn has_pending_twice(pending: Option<Pending>, state: &StateMessage) -> bool
     ensures { result ≡ has_pending_twice state.now.actions pending }
 {
@@ -56,7 +56,7 @@ pub(crate) fn has_pending_twice(pending: Option<Pending>, state: &StateMessage) 
     }
 }
 
-// Whether the id stands twice or more.
+/// Returns whether the id is listed twice or more.
 fn is_twice(reports: &[(Text, Status)], id: ActionId) -> bool
     ensures { result ≡ is_twice reports.now (id_text id) }
 {
@@ -67,7 +67,7 @@ fn is_twice(reports: &[(Text, Status)], id: ActionId) -> bool
         > 1
 }
 
-// Whether the pending action is listed as finished or failed.
+/// Returns whether the pending action is listed as finished or failed.
 pub(crate) fn is_pending_over(pending: Option<Pending>, state: &StateMessage) -> bool
     ensures { result ≡ is_pending_over state.now.actions pending }
 {
@@ -77,14 +77,14 @@ pub(crate) fn is_pending_over(pending: Option<Pending>, state: &StateMessage) ->
     )
 }
 
-// Whether the pending cancelOrder is listed as finished.
+/// Returns whether the pending cancelOrder is listed as finished.
 pub(crate) fn is_cancelled(pending: Option<Pending>, state: &StateMessage) -> bool
     ensures { result ≡ is_cancelled state.now.actions pending }
 {
     is_pending_cancel(pending) && matches!(pending_told(pending, state), Some(Status::Finished))
 }
 
-// Whether the pending action is a cancelOrder.
+/// Returns whether the pending action is a cancelOrder.
 fn is_pending_cancel(pending: Option<Pending>) -> bool
     ensures { result ≡ is_pending_cancel pending }
 {
@@ -94,7 +94,7 @@ fn is_pending_cancel(pending: Option<Pending>) -> bool
     }
 }
 
-// The status of the pending action, if it is listed.
+/// Returns the status of the pending action, if it is listed.
 fn pending_told(pending: Option<Pending>, state: &StateMessage) -> Option<Status>
     ensures { result ≡ pending_told state.now.actions pending }
 {
@@ -102,7 +102,7 @@ fn pending_told(pending: Option<Pending>, state: &StateMessage) -> Option<Status
     told(state.actions.as_slice(), ActionId::Instant { number })
 }
 
-// The status that is listed for the id.
+/// Returns the status listed for the id, if it is listed; the first if there are several.
 fn told(reports: &[(Text, Status)], id: ActionId) -> Option<Status>
     ensures { result ≡ told reports.now (id_text id) }
 {

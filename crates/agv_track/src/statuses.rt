@@ -1,4 +1,4 @@
-//! What the new statuses of a trip's acts say.
+//! Tests of a trip's acts with their new statuses.
 ghost use Rattle.std.specs.Prelude.{◌≡◌, ◌&&◌, not, nat_eq};
 ghost use Rattle.std.specs.List.{list_all, list_any, zip};
 ghost use Rattle.std.specs.Cmp.Lexicographic.{pointwise};
@@ -11,10 +11,10 @@ ghost use Rattle.agv_track.specs.Judgements.{goes_back, is_running, is_carried_o
 ghost use Rattle.agv_track.specs.Acts.{is_pick_of};
 
 use agv_header::Name;
-use agv_message::Status;
+use agv_message_core::Status;
 use agv_order::{Act, is_drop, is_final, is_finished, merge};
 
-// Whether some new status can't follow the old one.
+/// Returns whether some new status can't follow the old one.
 pub(crate) fn goes_back(acts: &[Act], statuses: &[Status]) -> bool
     ensures { result ≡ list_any goes_back (zip acts.now statuses.now) }
 {
@@ -23,7 +23,7 @@ pub(crate) fn goes_back(acts: &[Act], statuses: &[Status]) -> bool
         .any(|(act, status)| merge(act.status, *status).is_none())
 }
 
-// Whether each act is finished only where the vehicle has reached its node.
+/// Returns whether each act is finished only if the vehicle has reached its node.
 pub(crate) fn are_reached(seen: u32, acts: &[Act], statuses: &[Status]) -> bool
     ensures { result ≡ list_all (λ pair. is_reached seen (with_status pair)) (zip acts.now statuses.now) }
 {
@@ -32,14 +32,14 @@ pub(crate) fn are_reached(seen: u32, acts: &[Act], statuses: &[Status]) -> bool
         .all(|(act, status)| is_reached(seen, act, *status))
 }
 
-// Whether the act is finished only where the vehicle has reached its node.
+/// Returns whether the act is finished only if the vehicle has reached its node.
 fn is_reached(seen: u32, act: &Act, status: Status) -> bool
     ensures { result ≡ is_reached seen (with_status (act.now, status)) }
 {
     !is_finished(status) || act.place_at <= seen
 }
 
-// Whether each act is a finished drop only where its job's load was picked.
+/// Returns whether each act is a finished drop only if its job's load was picked.
 pub(crate) fn are_in_turn(acts: &[Act], statuses: &[Status]) -> bool
     ensures { result ≡ list_all (λ pair. is_in_turn (renewed acts.now statuses.now) (with_status pair)) (zip acts.now statuses.now) }
 {
@@ -48,21 +48,21 @@ pub(crate) fn are_in_turn(acts: &[Act], statuses: &[Status]) -> bool
         .all(|(act, status)| is_in_turn(acts, statuses, act, *status))
 }
 
-// Whether the act is a finished drop only where its job's load was picked.
+/// Returns whether the act is a finished drop only if its job's load was picked.
 fn is_in_turn(acts: &[Act], statuses: &[Status], act: &Act, status: Status) -> bool
     ensures { result ≡ is_in_turn (renewed acts.now statuses.now) (with_status (act.now, status)) }
 {
     !is_done_drop(act, status) || is_picked(act.job, acts, statuses)
 }
 
-// Whether the act is a finished drop.
+/// Returns whether the act is a finished drop.
 fn is_done_drop(act: &Act, status: Status) -> bool
     ensures { result ≡ (is_drop act.now.kind && is_finished status) }
 {
     is_drop(act.kind) && is_finished(status)
 }
 
-// Whether the load of the job was picked.
+/// Returns whether the load of the job was picked.
 fn is_picked(job: Name, acts: &[Act], statuses: &[Status]) -> bool
     ensures { result ≡ list_any (λ pair. is_pick_of job (with_status pair)) (zip acts.now statuses.now) }
 {
@@ -71,14 +71,14 @@ fn is_picked(job: Name, acts: &[Act], statuses: &[Status]) -> bool
         .any(|(act, status)| is_pick_of(job, act, *status))
 }
 
-// Whether the act is a finished pick of the job.
+/// Returns whether the act is a finished pick of the job.
 fn is_pick_of(job: Name, act: &Act, status: Status) -> bool
     ensures { result ≡ is_pick_of job (with_status (act.now, status)) }
 {
     !is_drop(act.kind) && is_finished(status) && act.job == job
 }
 
-// Whether an act is active: begun, and not over. The statuses are those of the acts.
+/// Returns whether an act is active: begun, and not over. The statuses are those of the acts.
 pub(crate) fn is_running(acts: &[Act], statuses: &[Status]) -> bool
     ensures { result ≡ list_any (λ pair. is_running (with_status pair)) (zip acts.now statuses.now) }
 {
@@ -87,6 +87,7 @@ pub(crate) fn is_running(acts: &[Act], statuses: &[Status]) -> bool
         .any(|(_, status)| is_active(*status))
 }
 
+/// Returns whether an action with this status is active: begun, and not over.
 fn is_active(status: Status) -> bool
     ensures { result ≡ is_active status }
 {
@@ -96,7 +97,7 @@ fn is_active(status: Status) -> bool
     )
 }
 
-// Whether each act is over.
+/// Returns whether each act is over.
 pub(crate) fn are_over(acts: &[Act], statuses: &[Status]) -> bool
     ensures { result ≡ list_all (λ pair. is_over (with_status pair)) (zip acts.now statuses.now) }
 {
@@ -105,7 +106,7 @@ pub(crate) fn are_over(acts: &[Act], statuses: &[Status]) -> bool
         .all(|(_, status)| is_final(*status))
 }
 
-// Whether each act is finished.
+/// Returns whether each act is finished.
 pub(crate) fn are_carried_out(acts: &[Act], statuses: &[Status]) -> bool
     ensures { result ≡ list_all (λ pair. is_carried_out (with_status pair)) (zip acts.now statuses.now) }
 {

@@ -4,22 +4,22 @@ use Rattle.std.specs.FinSet as set
 use Rattle.std.specs.List.{slice_get}
 use Rattle.std.proofs.lemmas.Bool.{false≢true}
 use Rattle.agv_header.specs.declared.key.VehicleKey.{VehicleKey}
-use Rattle.agv_message.specs.Order.{act_id}
-use Rattle.agv_message.specs.declared.instant.InstantKind.{InstantKind}
-use Rattle.agv_message.specs.declared.state.StateMessage.{StateMessage}
-use Rattle.agv_message.specs.declared.status.Status.{Status}
+use Rattle.agv_message_core.specs.Order.{act_id}
+use Rattle.agv_message_core.specs.declared.instant.InstantKind.{InstantKind}
+use Rattle.agv_message_core.specs.declared.state.StateMessage.{StateMessage}
+use Rattle.agv_message_core.specs.declared.status.Status.{Status}
 use Rattle.agv_order.specs.Statuses.{may_follow}
 use Rattle.agv_order.specs.declared.act.Act.{Act}
 use Rattle.agv_order.specs.declared.trip.Trip.{Trip}
 use Rattle.agv_track.specs.Reached.{reported_node}
 use Rattle.agv_track.specs.Reports.{is_cancelled, told}
 use Rattle.agv_track.specs.declared.pending.Pending.{Pending}
-use Rattle.agv_world.proofs.LawfulInParts.{vehicles_of}
-use Rattle.agv_world.specs.ConsistentTrips.{HasTrip}
-use Rattle.agv_world.specs.Lawful.{IsLawful}
-use Rattle.agv_world.specs.Questions.{row_of}
-use Rattle.agv_world.specs.Worlds.{World}
-use Rattle.agv_world.specs.declared.row.VehicleRow.{VehicleRow}
+use Rattle.agv_world_core.proofs.LawfulInParts.{vehicles_of}
+use Rattle.agv_world_core.specs.ConsistentTrips.{HasTrip}
+use Rattle.agv_world_core.specs.Lawful.{IsLawful}
+use Rattle.agv_world_core.specs.Questions.{row_of}
+use Rattle.agv_world_core.specs.Worlds.{World}
+use Rattle.agv_world_core.specs.declared.row.VehicleRow.{VehicleRow}
 use Rattle.agv_desk.specs.Histories.{HasNoResync}
 use Rattle.agv_desk.specs.Outcomes.{Outcome, Refused, Made, after}
 use Rattle.agv_desk.specs.Step.{step, steps}

@@ -6,9 +6,9 @@ use Rattle.std.specs.List.{slice_get}
 use Rattle.std.specs.Option.{option_map, option_and_then}
 use Rattle.std.proofs.lemmas.Bool.{false≢true}
 use Rattle.agv_header.specs.declared.key.VehicleKey.{VehicleKey}
-use Rattle.agv_message.specs.Order.{act_id}
-use Rattle.agv_message.specs.declared.state.StateMessage.{StateMessage}
-use Rattle.agv_message.specs.declared.status.Status.{Status}
+use Rattle.agv_message_core.specs.Order.{act_id}
+use Rattle.agv_message_core.specs.declared.state.StateMessage.{StateMessage}
+use Rattle.agv_message_core.specs.declared.status.Status.{Status}
 use Rattle.agv_order.specs.Statuses.{may_follow}
 use Rattle.agv_order.specs.declared.act.Act.{Act}
 use Rattle.agv_order.specs.declared.trip.Trip.{Trip}
@@ -16,11 +16,11 @@ use Rattle.agv_track.specs.Progressed.{progressed}
 use Rattle.agv_track.specs.Reached.{reported_node}
 use Rattle.agv_track.specs.Reports.{told}
 use Rattle.agv_track.specs.declared.progress.Progress.{Progress}
-use Rattle.agv_world.specs.ConsistentTrips.{HasTrip}
-use Rattle.agv_world.specs.LawfulParts.{HasLawfulVehicles}
-use Rattle.agv_world.specs.Questions.{row_of, trip_of}
-use Rattle.agv_world.specs.Worlds.{Vehicle, World}
-use Rattle.agv_world.specs.declared.row.VehicleRow.{VehicleRow}
+use Rattle.agv_world_core.specs.ConsistentTrips.{HasTrip}
+use Rattle.agv_world_core.specs.LawfulParts.{HasLawfulVehicles}
+use Rattle.agv_world_core.specs.Questions.{row_of, trip_of}
+use Rattle.agv_world_core.specs.Worlds.{Vehicle, World}
+use Rattle.agv_world_core.specs.declared.row.VehicleRow.{VehicleRow}
 use Rattle.agv_desk.specs.Outcomes.{Effect, Outcome, Refused, Made, RowOnly, Whole, after, answer_of, with_touched, with_effect}
 use Rattle.agv_desk.specs.StateSteps.{idle_state, pending_of, with_state, trip_left, trip_state, fresh_state, take_state}
 use Rattle.agv_desk.specs.declared.answer.Answer.TheVariants as answer

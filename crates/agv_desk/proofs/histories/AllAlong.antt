@@ -1,8 +1,8 @@
 -- What every call leaves of the history of a world, and which worlds come after others.
 use Rattle.std.proofs.Common.{◌≡◌, ◌≢◌, ℕ, refl, ap}
 use Rattle.agv_header.specs.declared.key.VehicleKey.{VehicleKey}
-use Rattle.agv_world.specs.LawfulParts.{HasLawfulVehicles}
-use Rattle.agv_world.specs.Worlds.{World}
+use Rattle.agv_world_core.specs.LawfulParts.{HasLawfulVehicles}
+use Rattle.agv_world_core.specs.Worlds.{World}
 use Rattle.agv_desk.specs.Outcomes.{Outcome, Refused, Made, after}
 use Rattle.agv_desk.specs.Step.{step}
 use Rattle.agv_desk.specs.declared.call.Call.{Call}
@@ -39,9 +39,7 @@ Forgets (call.GetInstant key) other = ⊥
 Forgets (call.Stocktake reference rows) other = ⊥
 Forgets (call.GetLoad load) other = ⊥
 Forgets (call.GetVehicle key) other = ⊥
-Forgets call.StockReport other = ⊥
-Forgets call.HoldReport other = ⊥
-Forgets call.LoadsExport other = ⊥
+Forgets (call.Report report) other = ⊥
 
 pub not_forgotten : (made : Call) (key : VehicleKey) → made ≢ call.Resync key → Forgets made key → ⊥
 not_forgotten (call.Resync other) key differs same = differs (ap call.Resync same)
@@ -64,9 +62,7 @@ not_forgotten (call.GetInstant other) key differs none = none
 not_forgotten (call.Stocktake reference rows) key differs none = none
 not_forgotten (call.GetLoad load) key differs none = none
 not_forgotten (call.GetVehicle other) key differs none = none
-not_forgotten call.StockReport key differs none = none
-not_forgotten call.HoldReport key differs none = none
-not_forgotten call.LoadsExport key differs none = none
+not_forgotten (call.Report report) key differs none = none
 
 module _ (advances : AdvancesTrips) (fits : FitsAsSaid) (seats : ℕ) (world : World) (lawful : HasLawfulVehicles seats world) where
   pub goes_along : (at : ℕ) (made : Call) → IfMade (GoesAlong world (Forgets made)) (step seats world at made)
@@ -90,9 +86,7 @@ module _ (advances : AdvancesTrips) (fits : FitsAsSaid) (seats : ℕ) (world : W
   goes_along at (call.Stocktake reference rows) = takes_stock world _ reference rows
   goes_along at (call.GetLoad load) = tells_load world _ load
   goes_along at (call.GetVehicle key) = tells_vehicle world _ key
-  goes_along at call.StockReport = touches_none world _ _ refl (λ kind order job. refl)
-  goes_along at call.HoldReport = touches_none world _ _ refl (λ kind order job. refl)
-  goes_along at call.LoadsExport = touches_none world _ _ refl (λ kind order job. refl)
+  goes_along at (call.Report report) = touches_none world _ _ refl (λ kind order job. refl)
 
   follows_made : (forgets : VehicleKey → Type 0) (outcome : Outcome) → IfMade (GoesAlong world forgets) outcome → IfMade (FollowsBy world) outcome
   follows_made forgets (Refused why) goes = tt

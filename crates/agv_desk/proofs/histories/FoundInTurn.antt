@@ -1,11 +1,11 @@
 -- Over a list of calls from a lawful world each act that becomes finished finds its load, and each drop is for its own job.
 use Rattle.std.proofs.Common.{◌≡◌, ◌⊎◌, inl, inr, ℕ, List, [], ◌∷◌, ◌++◌, append_assoc, refl, sym, ap, subst, ◌∙◌}
-use Rattle.agv_message.specs.declared.order.ActKind.{ActKind}
-use Rattle.agv_message.specs.declared.order.ActKind.TheVariants.{Drop}
+use Rattle.agv_message_core.specs.declared.order.ActKind.{ActKind}
+use Rattle.agv_message_core.specs.declared.order.ActKind.TheVariants.{Drop}
 use Rattle.agv_stock.specs.Phase.{is_live}
-use Rattle.agv_world.specs.StockInvariant.{Places}
-use Rattle.agv_world.specs.Lawful.{IsLawful}
-use Rattle.agv_world.specs.Worlds.{World}
+use Rattle.agv_world_core.specs.StockInvariant.{Places}
+use Rattle.agv_world_core.specs.Lawful.{IsLawful}
+use Rattle.agv_world_core.specs.Worlds.{World}
 use Rattle.agv_desk.specs.ActedMoves.{DropsForItsJob, DropsLoads, FindsItsLoad, FindsLoads, HasEffectAfter, IsFoundIn}
 use Rattle.agv_desk.specs.Outcomes.{Acted, Effect, Made, Move, Outcome, Refused, after, moved, moves_of}
 use Rattle.agv_desk.specs.Step.{moves, step, steps}

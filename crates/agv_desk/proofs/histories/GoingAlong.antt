@@ -4,16 +4,16 @@ use Rattle.std.specs.FinMap as finite
 use Rattle.std.specs.FinSet as set
 use Rattle.std.specs.Option.{option_map}
 use Rattle.agv_header.specs.declared.key.VehicleKey.{VehicleKey}
-use Rattle.agv_message.specs.declared.instant.InstantKind.{InstantKind}
-use Rattle.agv_message.specs.declared.order.ActKind.{ActKind}
+use Rattle.agv_message_core.specs.declared.instant.InstantKind.{InstantKind}
+use Rattle.agv_message_core.specs.declared.order.ActKind.{ActKind}
 use Rattle.agv_order.specs.Statuses.{is_finished}
 use Rattle.agv_order.specs.declared.act.Act.{Act}
 use Rattle.agv_order.specs.declared.trip.Trip.{Trip}
-use Rattle.agv_world.specs.ConsistentTrips.{HasTrip}
-use Rattle.agv_world.specs.Questions.{row_of, trip_of}
-use Rattle.agv_world.specs.VehicleChanges.{with_vehicle}
-use Rattle.agv_world.specs.Worlds.{Vehicle, World}
-use Rattle.agv_world.specs.declared.row.VehicleRow.{VehicleRow}
+use Rattle.agv_world_core.specs.ConsistentTrips.{HasTrip}
+use Rattle.agv_world_core.specs.Questions.{row_of, trip_of}
+use Rattle.agv_world_core.specs.VehicleChanges.{with_vehicle}
+use Rattle.agv_world_core.specs.Worlds.{Vehicle, World}
+use Rattle.agv_world_core.specs.declared.row.VehicleRow.{VehicleRow}
 use Rattle.std.specs.List.{slice_get}
 use Rattle.agv_desk.specs.Histories.{times}
 use Rattle.agv_desk.specs.Outcomes.{Effect, VehicleChange, Nothing, RowOnly, Whole, with_touched, with_effect}

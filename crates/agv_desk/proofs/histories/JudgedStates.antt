@@ -2,9 +2,9 @@
 use Rattle.std.proofs.Common.{◌≡◌, ◌≤◌, ℕ, ◌+◌, zero, suc, Bool, true, false, cond, List, [], ◌∷◌, length, map, zip, Option, None, Some, unwrap_or, Ok, refl, sym, ap, ◌∙◌, arith}
 use Rattle.std.specs.List.{enumerate_from, slice_get}
 use Rattle.agv_header.specs.declared.refusal.Refusal.{Refusal}
-use Rattle.agv_message.specs.Order.{act_id}
-use Rattle.agv_message.specs.declared.state.StateMessage.{StateMessage}
-use Rattle.agv_message.specs.declared.status.Status.{Status}
+use Rattle.agv_message_core.specs.Order.{act_id}
+use Rattle.agv_message_core.specs.declared.state.StateMessage.{StateMessage}
+use Rattle.agv_message_core.specs.declared.status.Status.{Status}
 use Rattle.agv_order.specs.declared.act.Act.{Act}
 use Rattle.agv_order.specs.declared.trip.Trip.{Trip}
 use Rattle.agv_track.proofs.Eight.{eight_are_new}

@@ -3,14 +3,14 @@ use Rattle.std.proofs.Common.{◌≡◌, ◌≤◌, ◌⊎◌, inl, inr, ℕ, �
 use Rattle.std.specs.FinSet as set
 use Rattle.std.proofs.lemmas.Bool.{false≢true}
 use Rattle.agv_header.specs.declared.key.VehicleKey.{VehicleKey}
-use Rattle.agv_message.specs.declared.order.ActKind.{ActKind}
-use Rattle.agv_message.specs.declared.status.Status.{Status}
-use Rattle.agv_message.specs.declared.status.Status.TheVariants.{Waiting, Initializing, Running, Paused, Finished, Failed}
+use Rattle.agv_message_core.specs.declared.order.ActKind.{ActKind}
+use Rattle.agv_message_core.specs.declared.status.Status.{Status}
+use Rattle.agv_message_core.specs.declared.status.Status.TheVariants.{Waiting, Initializing, Running, Paused, Finished, Failed}
 use Rattle.agv_order.specs.Statuses.{is_final, is_finished}
 use Rattle.agv_order.specs.Trips.{Task}
-use Rattle.agv_world.proofs.LawfulInParts.{vehicles_of}
-use Rattle.agv_world.specs.Lawful.{IsLawful}
-use Rattle.agv_world.specs.Worlds.{World}
+use Rattle.agv_world_core.proofs.LawfulInParts.{vehicles_of}
+use Rattle.agv_world_core.specs.Lawful.{IsLawful}
+use Rattle.agv_world_core.specs.Worlds.{World}
 use Rattle.agv_desk.specs.Histories.{times}
 use Rattle.agv_desk.specs.Outcomes.{Outcome, Refused, Made, after, moves_of}
 use Rattle.agv_desk.specs.Step.{step, steps, moves}

@@ -7,10 +7,10 @@ use Rattle.agv_order.specs.Releases.{released}
 use Rattle.agv_order.specs.declared.fault.PlanFault.{PlanFault}
 use Rattle.agv_order.specs.declared.trip.Trip.{Trip}
 use Rattle.agv_stock.specs.declared.job.Job.{Job}
-use Rattle.agv_world.specs.Questions.{row_of, trip_of, is_used}
-use Rattle.agv_world.specs.Worlds.{World}
-use Rattle.agv_world.specs.declared.key.UseKind.TheVariants as used
-use Rattle.agv_world.specs.declared.row.VehicleRow.{VehicleRow}
+use Rattle.agv_world_core.specs.Questions.{row_of, trip_of, is_used}
+use Rattle.agv_world_core.specs.Worlds.{World}
+use Rattle.agv_world_core.specs.declared.key.UseKind.TheVariants as used
+use Rattle.agv_world_core.specs.declared.row.VehicleRow.{VehicleRow}
 use Rattle.agv_desk.specs.OrderParts.{send_trip}
 use Rattle.agv_desk.specs.OrderSteps.{AskedOrder, if_planned, start_order, trip_for, send_update, advance}
 use Rattle.agv_desk.specs.Outcomes.{Effect, Outcome}

@@ -4,7 +4,7 @@ use Rattle.std.specs.Cmp.Lexicographic.{pointwise, nat_list_cmp_total}
 use Rattle.std.specs.FinMap as finite
 use Rattle.agv_header.specs.Name.{name_cmp}
 use Rattle.agv_stock.specs.declared.place.Place.{Place}
-use Rattle.agv_world.specs.Worlds.{World}
+use Rattle.agv_world_core.specs.Worlds.{World}
 use Rattle.agv_desk.specs.Histories.{last_place, later_of}
 use Rattle.agv_desk.specs.Outcomes.{Outcome, Refused, Made, Move, moved, after, moves_of}
 use Rattle.agv_desk.specs.Step.{step, steps, moves}

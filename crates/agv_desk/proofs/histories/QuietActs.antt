@@ -3,8 +3,8 @@ use Rattle.std.proofs.Common.{◌≡◌, ◌&&◌, ℕ, ◌+◌, suc, Bool, true
 use Rattle.std.specs.List.{cons_option, enumerate_from, list_all, slice_get}
 use Rattle.std.proofs.lemmas.Bool.{and_from, and_parts}
 use Rattle.agv_header.specs.declared.key.VehicleKey.{VehicleKey}
-use Rattle.agv_message.specs.Order.{act_id}
-use Rattle.agv_message.specs.declared.status.Status.{Status}
+use Rattle.agv_message_core.specs.Order.{act_id}
+use Rattle.agv_message_core.specs.declared.status.Status.{Status}
 use Rattle.agv_order.specs.Statuses.{is_final, is_finished, may_follow}
 use Rattle.agv_order.specs.WellFormed.{is_over}
 use Rattle.agv_order.specs.declared.act.Act.{Act}

@@ -2,15 +2,15 @@
 use Rattle.std.proofs.Common.{◌≡◌, ◌⊎◌, inl, inr, ℕ, true, List, [], ◌∷◌, ◌++◌, Option, None, Some, refl, sym, ap, subst, ◌∙◌, arith}
 use Rattle.std.specs.Option.{option_map}
 use Rattle.agv_header.specs.declared.key.VehicleKey.{VehicleKey}
-use Rattle.agv_message.specs.declared.state.StateMessage.{StateMessage}
+use Rattle.agv_message_core.specs.declared.state.StateMessage.{StateMessage}
 use Rattle.agv_order.specs.declared.trip.Trip.{Trip}
-use Rattle.agv_world.proofs.LawfulInParts.{vehicles_of}
-use Rattle.agv_world.specs.ConsistentTrips.{HasTrip}
-use Rattle.agv_world.specs.Lawful.{IsLawful}
-use Rattle.agv_world.specs.Questions.{row_of}
-use Rattle.agv_world.specs.Maps.{maps_of}
-use Rattle.agv_world.specs.Worlds.{Vehicle, World}
-use Rattle.agv_world.specs.declared.row.VehicleRow.{VehicleRow}
+use Rattle.agv_world_core.proofs.LawfulInParts.{vehicles_of}
+use Rattle.agv_world_core.specs.ConsistentTrips.{HasTrip}
+use Rattle.agv_world_core.specs.Lawful.{IsLawful}
+use Rattle.agv_world_core.specs.Questions.{row_of}
+use Rattle.agv_world_core.specs.Maps.{maps_of}
+use Rattle.agv_world_core.specs.Worlds.{Vehicle, World}
+use Rattle.agv_world_core.specs.declared.row.VehicleRow.{VehicleRow}
 use Rattle.agv_desk.specs.Histories.{CancelsSince, HasNoResync, IsRepeated, SpeaksOfTrip}
 use Rattle.agv_desk.specs.Outcomes.{after, answer_of, moves_of}
 use Rattle.agv_desk.specs.StateSteps.{pending_of, take_state}

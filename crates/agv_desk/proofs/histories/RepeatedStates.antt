@@ -7,26 +7,26 @@ use Rattle.agv_header.specs.Count.{is_fresh}
 use Rattle.agv_header.specs.Key.{thing_cmp}
 use Rattle.agv_header.specs.declared.key.Thing.{Thing}
 use Rattle.agv_header.specs.declared.key.VehicleKey.{VehicleKey}
-use Rattle.agv_message.specs.Order.{act_id}
-use Rattle.agv_message.specs.declared.instant.InstantKind.{InstantKind}
-use Rattle.agv_message.specs.declared.state.StateMessage.{StateMessage}
+use Rattle.agv_message_core.specs.Order.{act_id}
+use Rattle.agv_message_core.specs.declared.instant.InstantKind.{InstantKind}
+use Rattle.agv_message_core.specs.declared.state.StateMessage.{StateMessage}
 use Rattle.agv_order.specs.Trips.{node_at}
 use Rattle.agv_order.specs.WellFormed.{IsUnderWay}
 use Rattle.agv_order.specs.declared.trip.Trip.{Trip}
-use Rattle.agv_holds.specs.Footprints.{footprint_of, from_node, once}
+use Rattle.agv_track_holds.specs.Footprints.{footprint_of, from_node, once}
 use Rattle.agv_track.specs.Judgements.{is_through}
 use Rattle.agv_track.specs.Progressed.{progressed, Advances}
 use Rattle.agv_track.specs.Reached.{reported_node}
 use Rattle.agv_track.specs.Reports.{is_cancelled, told}
 use Rattle.agv_track.specs.declared.pending.Pending.{Pending}
 use Rattle.agv_track.specs.declared.progress.Progress.{Progress}
-use Rattle.agv_world.specs.ConsistentTrips.{HasTrip, SharesNothing}
-use Rattle.agv_world.specs.LawfulParts.{HasLawfulVehicles}
-use Rattle.agv_world.specs.Questions.{row_of, trip_of}
-use Rattle.agv_world.specs.Maps.{hold_rows, maps_of, standing_of}
+use Rattle.agv_world_core.specs.ConsistentTrips.{HasTrip, SharesNothing}
+use Rattle.agv_world_core.specs.LawfulParts.{HasLawfulVehicles}
+use Rattle.agv_world_core.specs.Questions.{row_of, trip_of}
+use Rattle.agv_world_core.specs.Maps.{hold_rows, maps_of, standing_of}
 use Rattle.agv_header.specs.Spread.{spread}
-use Rattle.agv_world.specs.Worlds.{Vehicle, World}
-use Rattle.agv_world.specs.declared.row.VehicleRow.{VehicleRow}
+use Rattle.agv_world_core.specs.Worlds.{Vehicle, World}
+use Rattle.agv_world_core.specs.declared.row.VehicleRow.{VehicleRow}
 use Rattle.agv_desk.specs.Histories.{CancelsSince}
 use Rattle.agv_desk.specs.ActSteps.{act_moves}
 use Rattle.agv_desk.specs.Outcomes.{Effect, Outcome, Refused, Made, Nothing, RowOnly, Whole, after, moves_of, with_effect, with_touched}

@@ -4,10 +4,10 @@ use Rattle.std.specs.FinMap as finite
 use Rattle.agv_header.specs.ThingOrder.{thing_cmp-total, thing_cmp-IsAntisymmetric}
 use Rattle.agv_header.specs.declared.key.Thing.{Thing}
 use Rattle.agv_header.specs.declared.key.VehicleKey.{VehicleKey}
-use Rattle.agv_holds.specs.Footprints.{footprint_of}
-use Rattle.agv_world.specs.ConsistentTrips.{IsHolder, SharesNothing}
-use Rattle.agv_world.specs.Maps.{maps_of, standing_of}
-use Rattle.agv_world.specs.Worlds.{Vehicle, World}
+use Rattle.agv_track_holds.specs.Footprints.{footprint_of}
+use Rattle.agv_world_core.specs.ConsistentTrips.{IsHolder, SharesNothing}
+use Rattle.agv_world_core.specs.Maps.{maps_of, standing_of}
+use Rattle.agv_world_core.specs.Worlds.{Vehicle, World}
 use Rattle.agv_desk.proofs.outcomes.EffectParts.{which_vehicle}
 use Rattle.agv_desk.proofs.outcomes.Known.{same_some}
 

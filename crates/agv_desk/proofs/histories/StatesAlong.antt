@@ -5,18 +5,18 @@ use Rattle.std.specs.List.{slice_get}
 use Rattle.std.proofs.lemmas.Bool.{false≢true}
 use Rattle.agv_header.specs.Count.{is_fresh}
 use Rattle.agv_header.specs.declared.key.VehicleKey.{VehicleKey}
-use Rattle.agv_message.specs.declared.order.ActKind.{ActKind}
-use Rattle.agv_message.specs.declared.state.StateMessage.{StateMessage}
-use Rattle.agv_message.specs.declared.instant.InstantKind.{InstantKind}
+use Rattle.agv_message_core.specs.declared.order.ActKind.{ActKind}
+use Rattle.agv_message_core.specs.declared.state.StateMessage.{StateMessage}
+use Rattle.agv_message_core.specs.declared.instant.InstantKind.{InstantKind}
 use Rattle.agv_order.specs.Statuses.{is_finished}
 use Rattle.agv_order.specs.declared.act.Act.{Act}
 use Rattle.agv_order.specs.declared.trip.Trip.{Trip}
 use Rattle.agv_track.specs.declared.progress.Progress.{Progress}
-use Rattle.agv_world.specs.ConsistentTrips.{HasTrip}
-use Rattle.agv_world.specs.LawfulParts.{HasLawfulVehicles}
-use Rattle.agv_world.specs.Questions.{row_of, trip_of}
-use Rattle.agv_world.specs.Worlds.{Vehicle, World}
-use Rattle.agv_world.specs.declared.row.VehicleRow.{VehicleRow}
+use Rattle.agv_world_core.specs.ConsistentTrips.{HasTrip}
+use Rattle.agv_world_core.specs.LawfulParts.{HasLawfulVehicles}
+use Rattle.agv_world_core.specs.Questions.{row_of, trip_of}
+use Rattle.agv_world_core.specs.Worlds.{Vehicle, World}
+use Rattle.agv_world_core.specs.declared.row.VehicleRow.{VehicleRow}
 use Rattle.agv_desk.specs.Histories.{times}
 use Rattle.agv_desk.specs.ActSteps.{Renewed, act_moves}
 use Rattle.agv_desk.specs.Outcomes.{Effect, Whole, Outcome, branch, with_effect}

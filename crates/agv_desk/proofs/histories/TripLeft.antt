@@ -6,9 +6,9 @@ use Rattle.std.proofs.lemmas.List.{length-map}
 use Rattle.std.proofs.lemmas.Option.{slice_get-map}
 use Rattle.std.specs.Option.{option_map}
 use Rattle.agv_header.specs.declared.key.VehicleKey.{VehicleKey}
-use Rattle.agv_message.specs.declared.order.ActKind.{ActKind}
-use Rattle.agv_message.specs.declared.order.ActKind.TheVariants.{Pick, Drop}
-use Rattle.agv_message.specs.declared.status.Status.{Status}
+use Rattle.agv_message_core.specs.declared.order.ActKind.{ActKind}
+use Rattle.agv_message_core.specs.declared.order.ActKind.TheVariants.{Pick, Drop}
+use Rattle.agv_message_core.specs.declared.status.Status.{Status}
 use Rattle.agv_order.specs.StopPlaces.{IsAt, CanBeDone}
 use Rattle.agv_order.specs.Stops.{stops_fit}
 use Rattle.agv_order.specs.Trips.{task_of, stop_of}
@@ -21,9 +21,9 @@ use Rattle.agv_track.specs.Progressed.{progressed, Advances, ActGoesOn}
 use Rattle.agv_track.specs.Reports.{with_status, renewed}
 use Rattle.agv_track.specs.declared.progress.End.{End}
 use Rattle.agv_track.specs.declared.progress.Progress.{Progress}
-use Rattle.agv_world.specs.ConsistentTrips.{HasTrip, HasOneTripAnOrder}
-use Rattle.agv_world.specs.LawfulParts.{HasLawfulVehicles, IsTripOf}
-use Rattle.agv_world.specs.Worlds.{Vehicle, World}
+use Rattle.agv_world_core.specs.ConsistentTrips.{HasTrip, HasOneTripAnOrder}
+use Rattle.agv_world_core.specs.LawfulParts.{HasLawfulVehicles, IsTripOf}
+use Rattle.agv_world_core.specs.Worlds.{Vehicle, World}
 use Rattle.agv_desk.specs.Outcomes.{Effect, Whole, with_touched, with_effect}
 use Rattle.agv_desk.specs.StateSteps.{trip_left}
 use Rattle.agv_desk.proofs.outcomes.EffectParts.{HasTripIn, which_vehicle, effect_vehicles}

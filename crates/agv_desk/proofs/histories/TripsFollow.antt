@@ -2,13 +2,13 @@
 use Rattle.std.proofs.Common.{◌≡◌, inl, inr, ℕ, Bool, true, false, not, IsTrue, List, refl, sym, ap, subst, ◌∙◌, arith}
 use Rattle.std.specs.FinSet as set
 use Rattle.std.proofs.lemmas.Bool.{false≢true}
-use Rattle.agv_message.specs.declared.status.Status.{Status}
-use Rattle.agv_message.specs.declared.status.Status.TheVariants.{Waiting, Initializing, Running, Paused, Finished, Failed}
+use Rattle.agv_message_core.specs.declared.status.Status.{Status}
+use Rattle.agv_message_core.specs.declared.status.Status.TheVariants.{Waiting, Initializing, Running, Paused, Finished, Failed}
 use Rattle.agv_order.specs.Statuses.{is_waiting, is_final, may_follow}
 use Rattle.agv_order.specs.declared.act.Act.{Act}
 use Rattle.agv_order.specs.declared.trip.Trip.{Trip}
 use Rattle.agv_track.specs.Progressed.{ActGoesOn}
-use Rattle.agv_world.specs.Worlds.{World}
+use Rattle.agv_world_core.specs.Worlds.{World}
 use Rattle.agv_desk.proofs.outcomes.Keeping.{Continues, Follows}
 
 -- ---- statuses

@@ -2,9 +2,9 @@
 use Rattle.std.proofs.Common.{◌≡◌, ℕ, Option, None, Some, refl}
 use Rattle.agv_header.specs.declared.key.VehicleKey.{VehicleKey}
 use Rattle.agv_order.specs.declared.trip.Trip.{Trip}
-use Rattle.agv_world.specs.LawfulParts.{HasLawfulVehicles}
-use Rattle.agv_world.specs.Questions.{trip_of}
-use Rattle.agv_world.specs.Worlds.{World}
+use Rattle.agv_world_core.specs.LawfulParts.{HasLawfulVehicles}
+use Rattle.agv_world_core.specs.Questions.{trip_of}
+use Rattle.agv_world_core.specs.Worlds.{World}
 use Rattle.agv_desk.specs.Sizes.{IsOfSize, IsWithinTripLimits}
 use Rattle.agv_desk.specs.declared.call.Call.{Call}
 use Rattle.agv_desk.specs.declared.call.Call.TheVariants as call
@@ -42,6 +42,4 @@ module _ (seats : ℕ) (world : World) (lawful : HasLawfulVehicles seats world) 
   is_served (call.Stocktake reference rows) = tt
   is_served (call.GetLoad load) = tt
   is_served (call.GetVehicle key) = tt
-  is_served call.StockReport = tt
-  is_served call.HoldReport = tt
-  is_served call.LoadsExport = tt
+  is_served (call.Report report) = tt

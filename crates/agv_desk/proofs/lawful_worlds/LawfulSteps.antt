@@ -1,10 +1,10 @@
 -- From a lawful world each call leads to a lawful world, and each act that becomes finished finds its load.
 use Rattle.std.proofs.Common.{◌≡◌, ◌↔◌, ℕ}
-use Rattle.agv_world.specs.StockInvariant.{HasStockInvariant}
-use Rattle.agv_world.specs.Lawful.{IsLawful}
-use Rattle.agv_world.specs.LawfulParts.{HasLawfulVehicles, HasLawfulLoads}
-use Rattle.agv_world.specs.Worlds.{World}
-use Rattle.agv_world.proofs.LawfulInParts.{lawful_by, loads_of, vehicles_of}
+use Rattle.agv_world_core.specs.StockInvariant.{HasStockInvariant}
+use Rattle.agv_world_core.specs.Lawful.{IsLawful}
+use Rattle.agv_world_core.specs.LawfulParts.{HasLawfulVehicles, HasLawfulLoads}
+use Rattle.agv_world_core.specs.Worlds.{World}
+use Rattle.agv_world_core.proofs.LawfulInParts.{lawful_by, loads_of, vehicles_of}
 use Rattle.agv_desk.specs.ActedMoves.{FindsLoads}
 use Rattle.agv_desk.specs.Outcomes.{Effect, Made, after}
 use Rattle.agv_desk.specs.Step.{step}

@@ -1,7 +1,7 @@
 -- Every call keeps the layout, the vehicles and their trips lawful.
 use Rattle.std.proofs.Common.{ℕ}
-use Rattle.agv_world.specs.LawfulParts.{HasLawfulVehicles}
-use Rattle.agv_world.specs.Worlds.{World}
+use Rattle.agv_world_core.specs.LawfulParts.{HasLawfulVehicles}
+use Rattle.agv_world_core.specs.Worlds.{World}
 use Rattle.agv_desk.specs.Outcomes.{Outcome, Refused, Made, after}
 use Rattle.agv_desk.specs.Step.{step}
 use Rattle.agv_desk.specs.WellTyped.{IsMoment, IsSeats, IsWellTyped}
@@ -37,9 +37,7 @@ module _ (given : Given) (more : GivenMore) (seats : ℕ) (world : World) (lawfu
   keeps_vehicles at (call.Stocktake reference rows) is_seats moment typed = takes_stock given more seats world lawful reference rows typed
   keeps_vehicles at (call.GetLoad load) is_seats moment typed = tells_load given more seats world lawful load
   keeps_vehicles at (call.GetVehicle key) is_seats moment typed = tells_vehicle given more seats world lawful key
-  keeps_vehicles at call.StockReport is_seats moment typed = record { vehicles = lawful }
-  keeps_vehicles at call.HoldReport is_seats moment typed = record { vehicles = lawful }
-  keeps_vehicles at call.LoadsExport is_seats moment typed = record { vehicles = lawful }
+  keeps_vehicles at (call.Report report) is_seats moment typed = record { vehicles = lawful }
 
   -- a call that is refused changes nothing
   lawful_if_made : (outcome : Outcome) → IfMade (KeepsVehicles seats world) outcome → HasLawfulVehicles seats (after world outcome)

@@ -6,7 +6,7 @@ use Rattle.agv_layout.specs.Layout.{Layout, KeepsRules, Name}
 use Rattle.agv_layout.specs.LayoutOf.{layout_of}
 use Rattle.agv_layout.specs.Rows.{AreNamed}
 use Rattle.agv_layout.specs.declared.row.LayoutRow.{LayoutRow}
-use Rattle.agv_message.specs.declared.state.StateMessage.{StateMessage}
+use Rattle.agv_message_core.specs.declared.state.StateMessage.{StateMessage}
 use Rattle.agv_order.specs.Plans.{planned}
 use Rattle.agv_order.specs.Releases.{CanRelease, released}
 use Rattle.agv_order.specs.StopPlaces.{stop_picks}
@@ -20,9 +20,9 @@ use Rattle.agv_track.specs.Judgements.{judged}
 use Rattle.agv_track.specs.Progressed.{progressed}
 use Rattle.agv_track.specs.declared.pending.Pending.{Pending}
 use Rattle.agv_track.specs.declared.progress.Progress.{Progress}
-use Rattle.agv_world.specs.ConsistentTrips.{HasOneTripAnOrder, SharesNothing}
-use Rattle.agv_world.specs.VehicleChanges.{StandsAsBefore, with_vehicle}
-use Rattle.agv_world.specs.Worlds.{Vehicle, World}
+use Rattle.agv_world_core.specs.ConsistentTrips.{HasOneTripAnOrder, SharesNothing}
+use Rattle.agv_world_core.specs.VehicleChanges.{StandsAsBefore, with_vehicle}
+use Rattle.agv_world_core.specs.Worlds.{Vehicle, World}
 
 abbrev pub PlansAreWellFormed : Type 0
 PlansAreWellFormed = (layout : Layout) (vehicle : VehicleKey) (jobs : List Job) (stops : List Stop) (order at : Name) (base : ℕ) (trip : Trip)

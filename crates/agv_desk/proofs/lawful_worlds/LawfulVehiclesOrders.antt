@@ -16,16 +16,16 @@ use Rattle.agv_order.specs.WellFormed.{IsWellFormed}
 use Rattle.agv_order.specs.declared.stop.Stop.{Stop}
 use Rattle.agv_order.specs.declared.trip.Trip.{Trip}
 use Rattle.agv_stock.specs.declared.job.Job.{Job}
-use Rattle.agv_world.specs.ConsistentTrips.{IsVehicle}
-use Rattle.agv_world.specs.Lawful.{picks}
-use Rattle.agv_world.specs.LawfulParts.{HasLawfulVehicles, IsTripOf}
-use Rattle.agv_world.specs.Questions.{given as set_where, row_of, trip_of, is_used, layout_set, loads_on, count_of}
-use Rattle.agv_world.specs.TableChanges.{with_use}
-use Rattle.agv_world.specs.VehicleChanges.{with_vehicle}
-use Rattle.agv_world.specs.Worlds.{World}
-use Rattle.agv_world.specs.declared.floor.Counted.TheVariants as counted
-use Rattle.agv_world.specs.declared.key.UseKind.TheVariants as used
-use Rattle.agv_world.specs.declared.row.VehicleRow.{VehicleRow}
+use Rattle.agv_world_core.specs.ConsistentTrips.{IsVehicle}
+use Rattle.agv_world_core.specs.Lawful.{picks}
+use Rattle.agv_world_core.specs.LawfulParts.{HasLawfulVehicles, IsTripOf}
+use Rattle.agv_world_core.specs.Questions.{given as set_where, row_of, trip_of, is_used, layout_set, loads_on, count_of}
+use Rattle.agv_world_core.specs.TableChanges.{with_use}
+use Rattle.agv_world_core.specs.VehicleChanges.{with_vehicle}
+use Rattle.agv_world_core.specs.Worlds.{World}
+use Rattle.agv_world_core.specs.declared.floor.Counted.TheVariants as counted
+use Rattle.agv_world_core.specs.declared.key.UseKind.TheVariants as used
+use Rattle.agv_world_core.specs.declared.row.VehicleRow.{VehicleRow}
 use Rattle.agv_desk.specs.OrderParts.{send_trip, send_order, take_order}
 use Rattle.agv_desk.specs.OrderSteps.{AskedOrder, is_last_confirmed, can_release, sent_on, start_order, send_update, advance}
 use Rattle.agv_desk.specs.Outcomes.{Effect}

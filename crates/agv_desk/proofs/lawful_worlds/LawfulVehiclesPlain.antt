@@ -8,17 +8,17 @@ use Rattle.agv_header.specs.Name.{IsName}
 use Rattle.agv_header.specs.declared.key.VehicleKey.{VehicleKey}
 use Rattle.agv_layout.specs.Rows.{AreNamed}
 use Rattle.agv_layout.specs.declared.row.LayoutRow.{LayoutRow}
-use Rattle.agv_message.specs.declared.instant.InstantKind.{InstantKind}
-use Rattle.agv_message.specs.declared.state.StateMessage.{StateMessage}
-use Rattle.agv_holds.specs.Footprints.{footprint_of}
-use Rattle.agv_world.specs.ConsistentTrips.{IsVehicle}
-use Rattle.agv_world.specs.Lawful.{IsKey}
-use Rattle.agv_world.specs.LawfulParts.{HasLawfulVehicles, IsVehicleOf}
-use Rattle.agv_world.specs.Questions.{row_of, trip_of, count_of}
-use Rattle.agv_world.specs.VehicleChanges.{StandsAsBefore, with_vehicle}
-use Rattle.agv_world.specs.Worlds.{World}
-use Rattle.agv_world.specs.declared.floor.Counted.TheVariants as counted
-use Rattle.agv_world.specs.declared.row.VehicleRow.{VehicleRow}
+use Rattle.agv_message_core.specs.declared.instant.InstantKind.{InstantKind}
+use Rattle.agv_message_core.specs.declared.state.StateMessage.{StateMessage}
+use Rattle.agv_track_holds.specs.Footprints.{footprint_of}
+use Rattle.agv_world_core.specs.ConsistentTrips.{IsVehicle}
+use Rattle.agv_world_core.specs.Lawful.{IsKey}
+use Rattle.agv_world_core.specs.LawfulParts.{HasLawfulVehicles, IsVehicleOf}
+use Rattle.agv_world_core.specs.Questions.{row_of, trip_of, count_of}
+use Rattle.agv_world_core.specs.VehicleChanges.{StandsAsBefore, with_vehicle}
+use Rattle.agv_world_core.specs.Worlds.{World}
+use Rattle.agv_world_core.specs.declared.floor.Counted.TheVariants as counted
+use Rattle.agv_world_core.specs.declared.row.VehicleRow.{VehicleRow}
 use Rattle.agv_desk.specs.InstantSteps.{instruct, cancel, pause, resume}
 use Rattle.agv_desk.specs.JobSteps.{add_job, stop_job}
 use Rattle.agv_desk.specs.LayoutSteps.{set_layout}

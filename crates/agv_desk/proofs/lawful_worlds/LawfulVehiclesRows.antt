@@ -5,13 +5,13 @@ use Rattle.agv_header.specs.Count.{next_number}
 use Rattle.agv_header.specs.Name.{IsName, as_name, is_name}
 use Rattle.agv_header.specs.declared.key.VehicleKey.{VehicleKey}
 use Rattle.agv_layout.specs.Layout.{Layout, IsNode}
-use Rattle.agv_message.specs.declared.instant.InstantKind.{InstantKind}
-use Rattle.agv_message.specs.declared.state.StateMessage.{StateMessage}
+use Rattle.agv_message_core.specs.declared.instant.InstantKind.{InstantKind}
+use Rattle.agv_message_core.specs.declared.state.StateMessage.{StateMessage}
 use Rattle.agv_order.specs.declared.trip.Trip.{Trip}
-use Rattle.agv_world.specs.Lawful.{IsRestAt, IsSent, picks}
-use Rattle.agv_world.specs.LawfulParts.{IsTripOf, IsVehicleOf}
-use Rattle.agv_world.specs.declared.row.Sent.{Sent}
-use Rattle.agv_world.specs.declared.row.VehicleRow.{VehicleRow}
+use Rattle.agv_world_core.specs.Lawful.{IsRestAt, IsSent, picks}
+use Rattle.agv_world_core.specs.LawfulParts.{IsTripOf, IsVehicleOf}
+use Rattle.agv_world_core.specs.declared.row.Sent.{Sent}
+use Rattle.agv_world_core.specs.declared.row.VehicleRow.{VehicleRow}
 use Rattle.agv_desk.specs.OrderSteps.{sent_on}
 use Rattle.agv_desk.specs.StateSteps.{with_state}
 use Rattle.agv_desk.specs.VehicleSteps.{new_vehicle, placed}

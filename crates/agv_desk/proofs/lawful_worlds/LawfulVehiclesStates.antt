@@ -4,7 +4,7 @@ use Rattle.std.specs.FinSet as set
 use Rattle.std.specs.Option.{unwrap_or}
 use Rattle.agv_header.specs.declared.key.VehicleKey.{VehicleKey}
 use Rattle.agv_layout.specs.Layout.{Layout, IsNode, KeepsRules}
-use Rattle.agv_message.specs.declared.state.StateMessage.{StateMessage}
+use Rattle.agv_message_core.specs.declared.state.StateMessage.{StateMessage}
 use Rattle.agv_order.specs.Trips.{Plan, node_at}
 use Rattle.agv_order.specs.declared.trip.Trip.{Trip}
 use Rattle.agv_track.specs.Judgements.{judged}
@@ -12,13 +12,13 @@ use Rattle.agv_track.specs.Progressed.{Advances, progressed}
 use Rattle.agv_track.specs.declared.progress.End.{End}
 use Rattle.agv_track.specs.declared.progress.End.TheVariants.{Stopped}
 use Rattle.agv_track.specs.declared.progress.Progress.{Progress}
-use Rattle.agv_world.specs.ConsistentTrips.{IsVehicle}
-use Rattle.agv_world.specs.Lawful.{IsRestAt}
-use Rattle.agv_world.specs.LawfulParts.{HasLawfulVehicles, IsTripOf, IsVehicleOf}
-use Rattle.agv_world.specs.Questions.{row_of, trip_of}
-use Rattle.agv_world.specs.VehicleChanges.{with_vehicle}
-use Rattle.agv_world.specs.Worlds.{World}
-use Rattle.agv_world.specs.declared.row.VehicleRow.{VehicleRow}
+use Rattle.agv_world_core.specs.ConsistentTrips.{IsVehicle}
+use Rattle.agv_world_core.specs.Lawful.{IsRestAt}
+use Rattle.agv_world_core.specs.LawfulParts.{HasLawfulVehicles, IsTripOf, IsVehicleOf}
+use Rattle.agv_world_core.specs.Questions.{row_of, trip_of}
+use Rattle.agv_world_core.specs.VehicleChanges.{with_vehicle}
+use Rattle.agv_world_core.specs.Worlds.{World}
+use Rattle.agv_world_core.specs.declared.row.VehicleRow.{VehicleRow}
 use Rattle.agv_desk.specs.Outcomes.{Effect}
 use Rattle.agv_desk.specs.StateSteps.{pending_of, with_state, row_after, trip_state, fresh_state, take_state}
 use Rattle.agv_desk.proofs.row_changes.Given.{Given}

@@ -17,7 +17,7 @@ use Rattle.agv_order.specs.declared.stop.Stop.{Stop}
 use Rattle.agv_order.specs.declared.trip.Trip.{Trip}
 use Rattle.agv_stock.specs.declared.job.Job.{Job}
 use Rattle.agv_track.specs.Progressed.{IsNextOf}
-use Rattle.agv_world.specs.Lawful.{IsRestAt, picks}
+use Rattle.agv_world_core.specs.Lawful.{IsRestAt, picks}
 use Rattle.agv_desk.proofs.outcomes.Known.{none_some, same_some}
 
 -- ---- nodes and edges of a walk

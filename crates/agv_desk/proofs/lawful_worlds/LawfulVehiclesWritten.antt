@@ -14,15 +14,15 @@ use Rattle.agv_header.specs.declared.key.VehicleKey.{VehicleKey}
 use Rattle.agv_layout.specs.Layout.{Layout, KeepsRules}
 use Rattle.agv_order.specs.Trips.{task_of}
 use Rattle.agv_order.specs.declared.trip.Trip.{Trip}
-use Rattle.agv_world.specs.StockInvariant.{Jobs, Places}
-use Rattle.agv_world.specs.ConsistentTrips.{IsVehicle, HasOneTripAnOrder, SharesNothing}
-use Rattle.agv_world.specs.Lawful.{IsKey}
-use Rattle.agv_world.specs.LawfulParts.{HasLawfulVehicles, IsTripOf, IsVehicleOf}
-use Rattle.agv_world.specs.VehicleChanges.{with_vehicle}
-use Rattle.agv_world.specs.TableChanges.{with_use}
-use Rattle.agv_world.specs.Worlds.{Vehicle, World, empty_layout}
-use Rattle.agv_world.specs.declared.key.UseKind.TheVariants as used
-use Rattle.agv_world.specs.declared.row.VehicleRow.{VehicleRow}
+use Rattle.agv_world_core.specs.StockInvariant.{Jobs, Places}
+use Rattle.agv_world_core.specs.ConsistentTrips.{IsVehicle, HasOneTripAnOrder, SharesNothing}
+use Rattle.agv_world_core.specs.Lawful.{IsKey}
+use Rattle.agv_world_core.specs.LawfulParts.{HasLawfulVehicles, IsTripOf, IsVehicleOf}
+use Rattle.agv_world_core.specs.VehicleChanges.{with_vehicle}
+use Rattle.agv_world_core.specs.TableChanges.{with_use}
+use Rattle.agv_world_core.specs.Worlds.{Vehicle, World, empty_layout}
+use Rattle.agv_world_core.specs.declared.key.UseKind.TheVariants as used
+use Rattle.agv_world_core.specs.declared.row.VehicleRow.{VehicleRow}
 use Rattle.agv_desk.specs.InOrder.{IsInOrder, IsOpen}
 use Rattle.agv_desk.proofs.outcomes.Known.{same_some}
 

@@ -1,8 +1,8 @@
 -- Questions to a floor that are asked one after the other.
 use Rattle.std.proofs.Common.{◌∙◌, Result, Ok, Err}
-use Rattle.agv_world.specs.Asks.{Facts, Answers, Asks}
-use Rattle.agv_world.specs.Worlds.{World}
-use Rattle.agv_world.specs.declared.fault.Fault.{Fault}
+use Rattle.agv_world_core.specs.Asks.{Facts, Answers, Asks}
+use Rattle.agv_world_core.specs.Worlds.{World}
+use Rattle.agv_world_core.specs.declared.fault.Fault.{Fault}
 
 module _ {S : Type 0} {f : Facts S} {old now new : S} {one two : Type 0} where
   -- one more is answered

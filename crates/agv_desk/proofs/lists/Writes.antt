@@ -7,7 +7,7 @@ use Rattle.std.specs.List.{AllByRecursion}
 use Rattle.std.specs.Ordering.{eq_by_cmp}
 use Rattle.std.proofs.lemmas.Bool.{false≢true}
 use Rattle.std.proofs.lemmas.List.Sums.{sum_by-cons}
-use Rattle.agv_world.proofs.lists.Entries.{entries_found, is_same, same_Some}
+use Rattle.agv_world_core.proofs.lists.Entries.{entries_found, is_same, same_Some}
 
 -- ---- counting
 

@@ -5,13 +5,13 @@ use Rattle.std.proofs.lemmas.Bool.{false≢true}
 use Rattle.agv_header.specs.declared.key.VehicleKey.{VehicleKey}
 use Rattle.agv_layout.specs.Layout.{Layout}
 use Rattle.agv_layout.specs.declared.fault.LayoutFault.{LayoutFault}
-use Rattle.agv_message.specs.declared.instant.InstantKind.{InstantKind}
-use Rattle.agv_message.specs.declared.state.StateMessage.{StateMessage}
+use Rattle.agv_message_core.specs.declared.instant.InstantKind.{InstantKind}
+use Rattle.agv_message_core.specs.declared.state.StateMessage.{StateMessage}
 use Rattle.agv_order.specs.declared.fault.PlanFault.{PlanFault}
 use Rattle.agv_order.specs.declared.trip.Trip.{Trip}
 use Rattle.agv_stock.specs.declared.place.Place.{Place}
-use Rattle.agv_world.specs.Worlds.{World}
-use Rattle.agv_world.specs.declared.row.VehicleRow.{VehicleRow}
+use Rattle.agv_world_core.specs.Worlds.{World}
+use Rattle.agv_world_core.specs.declared.row.VehicleRow.{VehicleRow}
 use Rattle.agv_desk.specs.Causes.{is_acted, is_recorded, is_refusal, moves_for}
 use Rattle.agv_desk.specs.ActSteps.{Renewed, becomes_finished, taken_to, act_move, act_moves}
 use Rattle.agv_desk.specs.InstantSteps.{instruct}
@@ -154,9 +154,7 @@ module _ (world : World) where
       made_refuse_unless (IsCaused _) _ _ _ (λ f. made_refuse_unless (IsCaused _) _ _ _ (λ g. record { answered = refl; caused = all_recorded (new_places world rows) })))))))
   each seats at (call.GetLoad load) = made_refuse_if_none (IsCaused _) _ _ _ (λ place a. record { answered = refl; caused = refl })
   each seats at (call.GetVehicle key) = made_refuse_if_none (IsCaused _) _ _ _ (λ row a. record { answered = refl; caused = refl })
-  each seats at call.StockReport = record { answered = refl; caused = refl }
-  each seats at call.HoldReport = record { answered = refl; caused = refl }
-  each seats at call.LoadsExport = record { answered = refl; caused = refl }
+  each seats at (call.Report report) = record { answered = refl; caused = refl }
 
   -- ---- the laws
 

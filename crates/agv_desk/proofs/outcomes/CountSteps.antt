@@ -6,20 +6,20 @@ use Rattle.std.specs.FinSet as set
 use Rattle.agv_header.specs.KeyOrder.{key_cmp-total}
 use Rattle.agv_header.specs.declared.key.VehicleKey.{VehicleKey}
 use Rattle.agv_layout.specs.declared.row.LayoutRow.{LayoutRow}
-use Rattle.agv_message.specs.declared.instant.InstantKind.{InstantKind}
-use Rattle.agv_message.specs.declared.state.StateMessage.{StateMessage}
+use Rattle.agv_message_core.specs.declared.instant.InstantKind.{InstantKind}
+use Rattle.agv_message_core.specs.declared.state.StateMessage.{StateMessage}
 use Rattle.agv_order.specs.declared.act.Act.{Act}
 use Rattle.agv_order.specs.declared.trip.Trip.{Trip}
-use Rattle.agv_world.specs.ConsistentTrips.{HasTrip}
-use Rattle.agv_world.specs.Counts.{limit_of, one_more}
-use Rattle.agv_world.specs.LawfulParts.{HasLawfulLoads}
-use Rattle.agv_world.specs.Questions.{count_of, is_used, row_of, trip_of}
-use Rattle.agv_world.specs.Worlds.{Vehicle, World}
-use Rattle.agv_world.specs.declared.floor.Counted.{Counted}
-use Rattle.agv_world.specs.declared.floor.Counted.TheVariants as counted
-use Rattle.agv_world.specs.declared.key.UseKind.TheVariants as used
-use Rattle.agv_world.specs.declared.row.VehicleRow.{VehicleRow}
-use Rattle.agv_world.proofs.lists.Orders.{names_total}
+use Rattle.agv_world_core.specs.ConsistentTrips.{HasTrip}
+use Rattle.agv_world_core.specs.Counts.{limit_of, one_more}
+use Rattle.agv_world_core.specs.LawfulParts.{HasLawfulLoads}
+use Rattle.agv_world_core.specs.Questions.{count_of, is_used, row_of, trip_of}
+use Rattle.agv_world_core.specs.Worlds.{Vehicle, World}
+use Rattle.agv_world_core.specs.declared.floor.Counted.{Counted}
+use Rattle.agv_world_core.specs.declared.floor.Counted.TheVariants as counted
+use Rattle.agv_world_core.specs.declared.key.UseKind.TheVariants as used
+use Rattle.agv_world_core.specs.declared.row.VehicleRow.{VehicleRow}
+use Rattle.agv_world_core.proofs.lists.Orders.{names_total}
 use Rattle.agv_desk.specs.Causes.{is_refusal}
 use Rattle.agv_desk.specs.Counts.{added, adds_to}
 use Rattle.agv_desk.specs.InstantSteps.{cancel, instruct, pause, resume}
@@ -249,9 +249,7 @@ module _ (world : World) where
   each seats at (call.Stocktake reference rows) = takes_stock reference rows
   each seats at (call.GetLoad load) = made_refuse_if_none P _ _ _ (λ place is. tells _)
   each seats at (call.GetVehicle key) = made_refuse_if_none P _ _ _ (λ row is. tells _)
-  each seats at call.StockReport = tells _
-  each seats at call.HoldReport = tells _
-  each seats at call.LoadsExport = tells _
+  each seats at (call.Report report) = tells _
 
   -- ---- the laws
 

@@ -2,8 +2,8 @@
 use Rattle.std.proofs.Common.{◌≡◌, Option, None, Some, refl}
 use Rattle.agv_header.specs.declared.key.VehicleKey.{VehicleKey}
 use Rattle.agv_order.specs.declared.trip.Trip.{Trip}
-use Rattle.agv_world.specs.Questions.{trip_of}
-use Rattle.agv_world.specs.Worlds.{World}
+use Rattle.agv_world_core.specs.Questions.{trip_of}
+use Rattle.agv_world_core.specs.Worlds.{World}
 use Rattle.agv_desk.specs.declared.call.Call.{Call}
 use Rattle.agv_desk.specs.declared.call.Call.TheVariants as call
 use Rattle.agv_desk.specs.InOrder.{IsInOrder, IsOpen}
@@ -37,6 +37,4 @@ of_size world in_order (call.GetInstant key) = tt
 of_size world in_order (call.Stocktake reference rows) = tt
 of_size world in_order (call.GetLoad load) = tt
 of_size world in_order (call.GetVehicle key) = tt
-of_size world in_order call.StockReport = tt
-of_size world in_order call.HoldReport = tt
-of_size world in_order call.LoadsExport = tt
+of_size world in_order (call.Report report) = tt

@@ -1,9 +1,9 @@
 -- What a floor knows as a decision ends.
 use Rattle.std.proofs.Common.{◌≡◌, Result, Ok, Err}
-use Rattle.agv_world.specs.Asks.{Asks, Facts, IsStill, failed_by}
-use Rattle.agv_world.specs.Worlds.{World}
-use Rattle.agv_world.specs.declared.fault.Fault.{Fault}
-use Rattle.agv_world.proofs.lists.Asking.{kept_here, left}
+use Rattle.agv_world_core.specs.Asks.{Asks, Facts, IsStill, failed_by}
+use Rattle.agv_world_core.specs.Worlds.{World}
+use Rattle.agv_world_core.specs.declared.fault.Fault.{Fault}
+use Rattle.agv_world_core.proofs.lists.Asking.{kept_here, left}
 use Rattle.agv_desk.specs.DecisionEnds.{LeavesWorld}
 
 module _ {S A : Type 0} (f : Facts S) (floor floor_then : S) (says : World → A → Type 0) where

@@ -12,11 +12,11 @@ use Rattle.agv_header.specs.Name.{name_cmp}
 use Rattle.agv_header.specs.declared.key.VehicleKey.{VehicleKey}
 use Rattle.agv_layout.specs.Layout.{Layout}
 use Rattle.agv_order.specs.declared.trip.Trip.{Trip}
-use Rattle.agv_world.specs.TableChanges.{with_use}
-use Rattle.agv_world.specs.Worlds.{Vehicle, World}
-use Rattle.agv_world.specs.declared.key.UseKey.{UseKey}
-use Rattle.agv_world.specs.declared.key.UseKind.{UseKind}
-use Rattle.agv_world.specs.declared.key.UseKind.TheVariants.{Order, Reference}
+use Rattle.agv_world_core.specs.TableChanges.{with_use}
+use Rattle.agv_world_core.specs.Worlds.{Vehicle, World}
+use Rattle.agv_world_core.specs.declared.key.UseKey.{UseKey}
+use Rattle.agv_world_core.specs.declared.key.UseKind.{UseKind}
+use Rattle.agv_world_core.specs.declared.key.UseKind.TheVariants.{Order, Reference}
 use Rattle.agv_desk.specs.Outcomes.{Effect, VehicleChange, Nothing, RowOnly, Whole, moved, with_uses, with_touched, with_layout, with_effect}
 
 -- the vehicle has the trip open, among these vehicles

@@ -7,7 +7,7 @@ use Rattle.std.specs.FinSet as set
 use Rattle.std.specs.List.{AllByRecursion, cons_option}
 use Rattle.agv_header.specs.Name.{name_cmp}
 use Rattle.agv_header.specs.declared.key.VehicleKey.{VehicleKey}
-use Rattle.agv_message.specs.declared.status.Status.{Status}
+use Rattle.agv_message_core.specs.declared.status.Status.{Status}
 use Rattle.agv_order.specs.StopPlaces.{stop_picks}
 use Rattle.agv_order.specs.declared.act.Act.{Act}
 use Rattle.agv_order.specs.declared.stop.Stop.{Stop}
@@ -15,15 +15,15 @@ use Rattle.agv_order.specs.declared.trip.Trip.{Trip}
 use Rattle.agv_stock.specs.declared.job.Job.{Job}
 use Rattle.agv_stock.specs.declared.job.Phase.{Phase}
 use Rattle.agv_stock.specs.declared.job.Phase.TheVariants as phase
-use Rattle.agv_world.specs.Counts.{one_more}
-use Rattle.agv_world.specs.StockInvariant.{Jobs, Places}
-use Rattle.agv_world.specs.Questions.{count_of}
-use Rattle.agv_world.specs.TableChanges.{written}
-use Rattle.agv_world.specs.Worlds.{World}
-use Rattle.agv_world.specs.declared.floor.Counted.{Counted}
-use Rattle.agv_world.specs.declared.floor.Counted.TheVariants as counted
-use Rattle.agv_world.specs.declared.row.JobRow.{JobRow}
-use Rattle.agv_world.proofs.lists.Orders.{names_total, names_apart}
+use Rattle.agv_world_core.specs.Counts.{one_more}
+use Rattle.agv_world_core.specs.StockInvariant.{Jobs, Places}
+use Rattle.agv_world_core.specs.Questions.{count_of}
+use Rattle.agv_world_core.specs.TableChanges.{written}
+use Rattle.agv_world_core.specs.Worlds.{World}
+use Rattle.agv_world_core.specs.declared.floor.Counted.{Counted}
+use Rattle.agv_world_core.specs.declared.floor.Counted.TheVariants as counted
+use Rattle.agv_world_core.specs.declared.row.JobRow.{JobRow}
+use Rattle.agv_world_core.proofs.lists.Orders.{names_total, names_apart}
 use Rattle.agv_desk.specs.ActSteps.{Renewed, act_job, act_jobs, act_move, act_moves, as_it_is, becomes_finished, job_in, jobs_stopped, phase_by, taken_to}
 use Rattle.agv_desk.specs.OrderSteps.{jobs_for, riding}
 use Rattle.agv_desk.specs.Outcomes.{Acted, Move, moved}

@@ -6,10 +6,10 @@ use Rattle.agv_header.specs.declared.key.VehicleKey.{VehicleKey}
 use Rattle.agv_order.specs.declared.act.Act.{Act}
 use Rattle.agv_order.specs.declared.trip.Trip.{Trip}
 use Rattle.agv_track.specs.Progressed.{ActGoesOn}
-use Rattle.agv_world.specs.StockInvariant.{HasStockInvariant}
-use Rattle.agv_world.specs.ConsistentTrips.{HasTrip}
-use Rattle.agv_world.specs.LawfulParts.{HasLawfulVehicles}
-use Rattle.agv_world.specs.Worlds.{World}
+use Rattle.agv_world_core.specs.StockInvariant.{HasStockInvariant}
+use Rattle.agv_world_core.specs.ConsistentTrips.{HasTrip}
+use Rattle.agv_world_core.specs.LawfulParts.{HasLawfulVehicles}
+use Rattle.agv_world_core.specs.Worlds.{World}
 use Rattle.agv_desk.specs.Outcomes.{Effect, with_effect}
 
 -- the layout, the vehicles and their trips are lawful afterwards

@@ -1,4 +1,4 @@
--- Whatever a call is refused for, it is for a refusal of calls: down each ladder of checks.
+-- Whatever a call is refused for, it is for a refusal of calls, and only a call that asks for a report is answered by one: down each ladder of checks.
 use Rattle.std.proofs.Common.{◌≡◌, ◌≤◌, ◌&&◌, nat_le, nat_lt, not, is_some, ℕ, Bool, true, false, cond, List, [], ◌∷◌, length, Option, None, Some, Result, Ok, Err, refl, subst, arith}
 use Rattle.std.specs.FinMap as finite
 use Rattle.std.proofs.lemmas.Bool.{and_parts}
@@ -12,8 +12,8 @@ use Rattle.agv_layout.specs.Layout.{Layout}
 use Rattle.agv_layout.specs.LayoutOf.{is_over_limit, is_sound, layout_in, layout_of}
 use Rattle.agv_layout.specs.declared.fault.LayoutFault.TheVariants as unlaid
 use Rattle.agv_layout.specs.declared.row.LayoutRow.{LayoutRow}
-use Rattle.agv_message.specs.declared.instant.InstantKind.{InstantKind}
-use Rattle.agv_message.specs.declared.state.StateMessage.{StateMessage}
+use Rattle.agv_message_core.specs.declared.instant.InstantKind.{InstantKind}
+use Rattle.agv_message_core.specs.declared.state.StateMessage.{StateMessage}
 use Rattle.agv_order.specs.Plans.{stop_routes_to, planned, trip_along, trip_over, way_of}
 use Rattle.agv_order.specs.declared.fault.PlanFault.TheVariants as unplanned
 use Rattle.agv_order.specs.declared.stop.Stop.{Stop}
@@ -26,8 +26,8 @@ use Rattle.agv_stock.specs.declared.place.Place.{Place}
 use Rattle.agv_track.specs.Idle.{idle_refusals, judged_idle}
 use Rattle.agv_track.specs.Judgements.{act_refusals, first_of, judged, unless, way_refusals}
 use Rattle.agv_track.specs.declared.pending.Pending.{Pending}
-use Rattle.agv_world.specs.Worlds.{World}
-use Rattle.agv_world.specs.declared.row.VehicleRow.{VehicleRow}
+use Rattle.agv_world_core.specs.Worlds.{World}
+use Rattle.agv_world_core.specs.declared.row.VehicleRow.{VehicleRow}
 use Rattle.agv_desk.specs.InstantSteps.{instruct}
 use Rattle.agv_desk.specs.LayoutSteps.{if_given, lay}
 use Rattle.agv_desk.specs.OrderParts.{send_trip}
@@ -35,6 +35,7 @@ use Rattle.agv_desk.specs.OrderSteps.{AskedOrder, advance, if_planned, start_ord
 use Rattle.agv_desk.specs.Outcomes.{Effect, Made, Outcome, answer_of, branch, checked, refuse_if_none, refuse_unless, answer_only, unheld}
 use Rattle.agv_desk.specs.ReadSteps.{instant_told, order_told}
 use Rattle.agv_desk.specs.Refusals.{IsOfCall}
+use Rattle.agv_desk.specs.Reports.{report_asked, served}
 use Rattle.agv_desk.specs.Shared.{goal_of, is_in_job}
 use Rattle.agv_desk.specs.StateSteps.{fresh_state, idle_state, if_judged, take_state, trip_state}
 use Rattle.agv_desk.specs.Step.{step}
@@ -44,6 +45,7 @@ use Rattle.agv_desk.specs.declared.answer.Answer.{Answer}
 use Rattle.agv_desk.specs.declared.answer.Answer.TheVariants as answer
 use Rattle.agv_desk.specs.declared.call.Call.{Call}
 use Rattle.agv_desk.specs.declared.call.Call.TheVariants as call
+use Rattle.agv_desk.specs.declared.report.Report.{Report}
 
 -- the refusal is one of calls
 abbrev is_of_call : Refusal → Bool
@@ -52,10 +54,14 @@ is_of_call why = nat_le 20 (number_of why) && nat_le (number_of why) 81
 of_call : (n : ℕ) → (nat_le 20 n && nat_le n 81) ≡ true → (20 ≤ n) × (n ≤ 81)
 of_call n is = let parts = and_parts (nat_le 20 n) (nat_le n 81) is in (grind (arith, nat_tests), grind (arith, nat_tests))
 
--- so is the answer, if it is a refusal
+-- so is the answer, if it is a refusal; and where no report is asked for, it is none
+abbrev IsFitFor : Answer → Option Report → Type 0
+IsFitFor (answer.Refused why) asked = is_of_call why ≡ true
+IsFitFor (answer.Report report text) None = ⊥
+IsFitFor _ _ = Unit {0}
+
 abbrev IsFit : Answer → Type 0
-IsFit (answer.Refused why) = is_of_call why ≡ true
-IsFit _ = Unit {0}
+IsFit said = IsFitFor said None
 
 abbrev Fits : Outcome → Type 0
 Fits outcome = IsFit (answer_of outcome)
@@ -100,6 +106,10 @@ by_judged : {X : Type 0} (judged : Result X Refusal) (rest : X → Outcome) → 
 unfolding if_judged answer_of
 by_judged (Ok x) rest of h = h x
 by_judged (Err why) rest of h = of
+
+reports : (report : Report) → IsFitFor (answer_of (Made (answer_only (answer.Report report [])))) (Some report)
+unfolding answer_of
+reports report = tt
 
 -- ---- a layout, and a plan
 
@@ -257,7 +267,7 @@ module _ (world : World) where
       (by_refuse_unless _ refusal.OnVehicle _ refl (by_refuse_unless _ refusal.InJob _ refl
       (by_refuse_unless _ refusal.Full _ refl (by_refuse_unless _ refusal.Limit _ refl (by_made _ tt)))))))
 
-  each : (seats at : ℕ) (made : Call) → Fits (step seats world at made)
+  each : (seats at : ℕ) (made : Call) → IsFitFor (answer_of (step seats world at made)) (report_asked made)
   each seats at (call.SetLayout rows) = by_refuse_unless _ refusal.LayoutSet _ refl (lays rows)
   each seats at (call.RegisterVehicle key node capacity) = registers seats key node capacity
   each seats at (call.RegisterLoad load station) =
@@ -285,10 +295,27 @@ module _ (world : World) where
   each seats at (call.Stocktake reference rows) = counts reference rows
   each seats at (call.GetLoad load) = by_refuse_if_none _ refusal.NoLoad _ refl (λ place. by_made _ tt)
   each seats at (call.GetVehicle key) = by_refuse_if_none _ refusal.NoVehicle _ refl (λ row. by_made _ tt)
-  each seats at call.StockReport = by_made _ tt
-  each seats at call.HoldReport = by_made _ tt
-  each seats at call.LoadsExport = by_made _ tt
+  each seats at (call.Report report) = reports report
+
+-- an answer that is no report is served as it is
+as_it_is : (world : World) (said : Answer) → IsFit said → served world said ≡ said
+as_it_is world (answer.Refused why) fit = refl
+as_it_is world answer.Done fit = refl
+as_it_is world (answer.Update n) fit = refl
+as_it_is world (answer.Instructed n) fit = refl
+as_it_is world (answer.Accepted newer) fit = refl
+as_it_is world answer.NoMessage fit = refl
+as_it_is world (answer.Order header order) fit = refl
+as_it_is world (answer.Instant header instant) fit = refl
+as_it_is world (answer.Counted moved unknown) fit = refl
+as_it_is world (answer.Load load place job) fit = refl
+as_it_is world (answer.Vehicle key row order) fit = refl
+as_it_is world (answer.Report report text) fit = absurd fit
+
+-- a call that asks for no report is served as it was decided
+pub served_so : (seats : ℕ) (world : World) (at : ℕ) (made : Call) → report_asked made ≡ None → served world (answer_of (step seats world at made)) ≡ answer_of (step seats world at made)
+served_so seats world at made none = as_it_is world _ (subst (λ asked. IsFitFor (answer_of (step seats world at made)) asked) none (each world seats at made))
 
 -- a call is refused for a refusal of calls
 pub refused_so : (seats : ℕ) (world : World) (at : ℕ) (made : Call) (why : Refusal) → answer_of (step seats world at made) ≡ answer.Refused why → IsOfCall why
-refused_so seats world at made why is = of_call (number_of why) (subst IsFit is (each world seats at made))
+refused_so seats world at made why is = of_call (number_of why) (subst (λ said. IsFitFor said (report_asked made)) is (each world seats at made))

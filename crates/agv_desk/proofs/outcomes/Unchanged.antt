@@ -6,9 +6,9 @@ use Rattle.agv_header.specs.Count.{is_fresh}
 use Rattle.agv_header.specs.declared.key.VehicleKey.{VehicleKey}
 use Rattle.agv_header.specs.declared.refusal.Refusal.{Refusal}
 use Rattle.agv_header.specs.declared.refusal.Refusal.TheVariants as refusal
-use Rattle.agv_message.specs.declared.state.StateMessage.{StateMessage}
-use Rattle.agv_world.specs.Questions.{trip_of}
-use Rattle.agv_world.specs.Worlds.{World}
+use Rattle.agv_message_core.specs.declared.state.StateMessage.{StateMessage}
+use Rattle.agv_world_core.specs.Questions.{trip_of}
+use Rattle.agv_world_core.specs.Worlds.{World}
 use Rattle.agv_desk.specs.Outcomes.{Made, Outcome, after, answer_of, branch, decided, refuse_if_none, answer_only}
 use Rattle.agv_desk.specs.StateSteps.{fresh_state, take_state}
 use Rattle.agv_desk.specs.Step.{step}
@@ -51,9 +51,7 @@ tells seats world at (call.GetInstant key) h = finds world _ _ _
 tells seats world at (call.Stocktake reference rows) h = absurd (false≢true h)
 tells seats world at (call.GetLoad load) h = finds world _ _ _
 tells seats world at (call.GetVehicle key) h = finds world _ _ _
-tells seats world at call.StockReport h = says world _
-tells seats world at call.HoldReport h = says world _
-tells seats world at call.LoadsExport h = says world _
+tells seats world at (call.Report report) h = says world _
 
 -- ---- an old state
 

@@ -1,8 +1,8 @@
 -- Every call leads to the maps of the world after it.
 use Rattle.std.proofs.Common.{◌≡◌, ℕ}
-use Rattle.agv_world.specs.Changes.{changed}
-use Rattle.agv_world.specs.Maps.{maps_of}
-use Rattle.agv_world.specs.Worlds.{World}
+use Rattle.agv_world_core.specs.Changes.{changed}
+use Rattle.agv_world_core.specs.Maps.{maps_of}
+use Rattle.agv_world_core.specs.Worlds.{World}
 use Rattle.agv_desk.specs.InOrder.{IsInOrder}
 use Rattle.agv_desk.specs.Outcomes.{after, decided}
 use Rattle.agv_desk.specs.Step.{step}
@@ -39,9 +39,7 @@ module _ (given : Given) (world : World) (in_order : IsInOrder world) where
   each seats at (call.Stocktake reference rows) = takes_stock given world in_order reference rows
   each seats at (call.GetLoad load) = tells_load given world in_order load
   each seats at (call.GetVehicle key) = tells_vehicle given world in_order key
-  each seats at call.StockReport = leads given world in_order _ (lays_none world) (touches_none world)
-  each seats at call.HoldReport = leads given world in_order _ (lays_none world) (touches_none world)
-  each seats at call.LoadsExport = leads given world in_order _ (lays_none world) (touches_none world)
+  each seats at (call.Report report) = leads given world in_order _ (lays_none world) (touches_none world)
 
   -- the rows that a call changes lead from the maps of the world to those of the world after it
   pub leads_all : (seats at : ℕ) (made : Call) → changed (decided (step seats world at made)).changes (maps_of world) ≡ maps_of (after world (step seats world at made))

@@ -1,14 +1,14 @@
 -- The rows that an effect changes lead to the maps of the world after it, part by part.
 use Rattle.std.proofs.Common.{◌≡◌, ℕ, List, [], ◌∷◌, ◌++◌, map, Option, None, refl, ap, ◌∙◌}
 use Rattle.agv_layout.specs.Layout.{Layout}
-use Rattle.agv_world.specs.Changes.{change, changed}
-use Rattle.agv_world.specs.Maps.{Maps, maps_of}
-use Rattle.agv_world.specs.TableChanges.{with_use, written}
-use Rattle.agv_world.specs.Worlds.{World}
-use Rattle.agv_world.specs.declared.change.Change.{Change}
-use Rattle.agv_world.specs.declared.change.Change.TheVariants as row
-use Rattle.agv_world.specs.declared.key.UseKey.{UseKey}
-use Rattle.agv_world.specs.declared.row.JobRow.{JobRow}
+use Rattle.agv_world_core.specs.Changes.{change, changed}
+use Rattle.agv_world_core.specs.Maps.{Maps, maps_of}
+use Rattle.agv_world_core.specs.TableChanges.{with_use, written}
+use Rattle.agv_world_core.specs.Worlds.{World}
+use Rattle.agv_world_core.specs.declared.change.Change.{Change}
+use Rattle.agv_world_core.specs.declared.change.Change.TheVariants as row
+use Rattle.agv_world_core.specs.declared.key.UseKey.{UseKey}
+use Rattle.agv_world_core.specs.declared.row.JobRow.{JobRow}
 use Rattle.agv_desk.specs.Outcomes.{Move, VehicleChange, Effect, moved, with_uses, with_touched, with_layout, with_effect, laid_changes, touched_changes, changes_of}
 
 -- one list of changes after another

@@ -5,24 +5,24 @@ use Rattle.agv_header.specs.declared.key.Thing.{Thing}
 use Rattle.agv_header.specs.declared.key.VehicleKey.{VehicleKey}
 use Rattle.agv_layout.specs.Layout.{Layout, KeepsRules}
 use Rattle.agv_layout.specs.LayoutOf.{layout_of, rows_in}
-use Rattle.agv_message.specs.declared.state.StateMessage.{StateMessage}
+use Rattle.agv_message_core.specs.declared.state.StateMessage.{StateMessage}
 use Rattle.agv_order.specs.WellFormed.{IsUnderWay}
 use Rattle.agv_order.specs.declared.trip.Trip.{Trip}
-use Rattle.agv_holds.specs.Footprints.{Occupies, IsOnBase, footprint_of}
-use Rattle.agv_holds.specs.Holds.{first_held}
+use Rattle.agv_track_holds.specs.Footprints.{Occupies, IsOnBase, footprint_of}
+use Rattle.agv_track_holds.specs.Holds.{first_held}
 use Rattle.agv_track.specs.Judgements.{judged}
 use Rattle.agv_track.specs.Progressed.{Advances}
 use Rattle.agv_track.specs.declared.pending.Pending.{Pending}
 use Rattle.agv_track.specs.declared.progress.Progress.{Progress}
-use Rattle.agv_holds.specs.declared.standing.Standing.{Standing}
-use Rattle.agv_world.specs.Changes.{changed}
-use Rattle.agv_world.specs.ConsistentTrips.{HasTrip, HasOneTripAnOrder, SharesNothing}
-use Rattle.agv_world.specs.Maps.{maps_of, standing_of}
-use Rattle.agv_world.specs.VehicleChanges.{KeepsOrderAndEdges, StandsAsBefore, own_changes, trip_before, vehicle_changes, with_vehicle}
-use Rattle.agv_world.specs.TableChanges.{with_use}
-use Rattle.agv_world.specs.Worlds.{Vehicle, World, empty_layout}
-use Rattle.agv_world.specs.declared.change.Change.TheVariants as row
-use Rattle.agv_world.specs.declared.key.UseKey.{UseKey}
+use Rattle.agv_track_holds.specs.declared.standing.Standing.{Standing}
+use Rattle.agv_world_core.specs.Changes.{changed}
+use Rattle.agv_world_core.specs.ConsistentTrips.{HasTrip, HasOneTripAnOrder, SharesNothing}
+use Rattle.agv_world_core.specs.Maps.{maps_of, standing_of}
+use Rattle.agv_world_core.specs.VehicleChanges.{KeepsOrderAndEdges, StandsAsBefore, own_changes, trip_before, vehicle_changes, with_vehicle}
+use Rattle.agv_world_core.specs.TableChanges.{with_use}
+use Rattle.agv_world_core.specs.Worlds.{Vehicle, World, empty_layout}
+use Rattle.agv_world_core.specs.declared.change.Change.TheVariants as row
+use Rattle.agv_world_core.specs.declared.key.UseKey.{UseKey}
 use Rattle.agv_desk.specs.Outcomes.{laid_changes, with_layout}
 
 abbrev pub KeepsApartByClaim : Type 0

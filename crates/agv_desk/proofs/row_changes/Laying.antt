@@ -7,7 +7,7 @@ use Rattle.agv_layout.specs.LayoutOf.{layout_of, rows_in}
 use Rattle.agv_layout.specs.declared.fault.LayoutFault.{LayoutFault}
 use Rattle.agv_layout.specs.declared.fault.LayoutFault.TheVariants as fault
 use Rattle.agv_layout.specs.declared.row.LayoutRow.{LayoutRow}
-use Rattle.agv_world.specs.TableChanges.{layout_changes}
+use Rattle.agv_world_core.specs.TableChanges.{layout_changes}
 use Rattle.agv_desk.specs.LayoutSteps.{IsWhy, if_given, lay, not_set, row_written}
 use Rattle.agv_desk.specs.Outcomes.{Outcome, Made, decided, answer_only}
 use Rattle.agv_desk.specs.declared.answer.Answer.TheVariants as answer

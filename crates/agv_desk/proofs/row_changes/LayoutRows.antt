@@ -3,8 +3,8 @@ use Rattle.std.proofs.Common.{◌≡◌, ◌⊎◌, inl, inr, List, None, Some, 
 use Rattle.agv_layout.specs.Layout.{Layout, KeepsRules}
 use Rattle.agv_layout.specs.declared.fault.LayoutFault.{LayoutFault}
 use Rattle.agv_layout.specs.declared.row.LayoutRow.{LayoutRow}
-use Rattle.agv_world.specs.Questions.{given as set_where, layout_set}
-use Rattle.agv_world.specs.Worlds.{World, empty_layout}
+use Rattle.agv_world_core.specs.Questions.{given as set_where, layout_set}
+use Rattle.agv_world_core.specs.Worlds.{World, empty_layout}
 use Rattle.agv_desk.specs.InOrder.{IsInOrder}
 use Rattle.agv_desk.specs.LayoutSteps.{if_given, set_layout}
 use Rattle.agv_desk.specs.Outcomes.{Effect, Outcome, with_layout}

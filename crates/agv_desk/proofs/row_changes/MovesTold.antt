@@ -11,16 +11,16 @@ use Rattle.agv_layout.specs.declared.edge.Edge.{Edge}
 use Rattle.agv_layout.specs.declared.edge.EdgeEnds.{EdgeEnds}
 use Rattle.agv_layout.specs.declared.station.StationSite.{StationSite}
 use Rattle.agv_order.specs.declared.trip.Trip.{Trip}
-use Rattle.agv_holds.specs.Footprints.{footprint_of}
-use Rattle.agv_holds.specs.Holders.{gained}
-use Rattle.agv_world.specs.Maps.{standing_of, trip_row}
-use Rattle.agv_world.specs.SameRows.{same_row, same_trip_row}
-use Rattle.agv_world.specs.VehicleChanges.{own_changes, trip_changes, hold_changes, row_before, trip_before, held_before}
-use Rattle.agv_world.specs.declared.change.Change.{Change}
-use Rattle.agv_world.specs.declared.change.Change.TheVariants as row
-use Rattle.agv_world.specs.declared.key.UseKey.{UseKey}
-use Rattle.agv_world.specs.declared.row.JobRow.{JobRow}
-use Rattle.agv_world.specs.declared.row.VehicleRow.{VehicleRow}
+use Rattle.agv_track_holds.specs.Footprints.{footprint_of}
+use Rattle.agv_track_holds.specs.Holders.{gained}
+use Rattle.agv_world_core.specs.Maps.{standing_of, trip_row}
+use Rattle.agv_world_core.specs.SameRows.{same_row, same_trip_row}
+use Rattle.agv_world_core.specs.VehicleChanges.{own_changes, trip_changes, hold_changes, row_before, trip_before, held_before}
+use Rattle.agv_world_core.specs.declared.change.Change.{Change}
+use Rattle.agv_world_core.specs.declared.change.Change.TheVariants as row
+use Rattle.agv_world_core.specs.declared.key.UseKey.{UseKey}
+use Rattle.agv_world_core.specs.declared.row.JobRow.{JobRow}
+use Rattle.agv_world_core.specs.declared.row.VehicleRow.{VehicleRow}
 use Rattle.agv_desk.specs.Moves.{move_in, moves_in, moves_made}
 use Rattle.agv_desk.specs.Outcomes.{Effect, Move, VehicleChange, Nothing, RowOnly, Whole, laid_changes, touched_changes, changes_of}
 

@@ -12,11 +12,11 @@ use Rattle.agv_order.specs.declared.fault.PlanFault.TheVariants as fault
 use Rattle.agv_order.specs.declared.stop.Stop.{Stop}
 use Rattle.agv_order.specs.declared.trip.Trip.{Trip}
 use Rattle.agv_stock.specs.declared.job.Job.{Job}
-use Rattle.agv_world.specs.ConsistentTrips.{HasTrip}
-use Rattle.agv_world.specs.Questions.{row_of, trip_of, is_used}
-use Rattle.agv_world.specs.Worlds.{World}
-use Rattle.agv_world.specs.declared.key.UseKind.TheVariants as used
-use Rattle.agv_world.specs.declared.row.VehicleRow.{VehicleRow}
+use Rattle.agv_world_core.specs.ConsistentTrips.{HasTrip}
+use Rattle.agv_world_core.specs.Questions.{row_of, trip_of, is_used}
+use Rattle.agv_world_core.specs.Worlds.{World}
+use Rattle.agv_world_core.specs.declared.key.UseKind.TheVariants as used
+use Rattle.agv_world_core.specs.declared.row.VehicleRow.{VehicleRow}
 use Rattle.agv_desk.specs.InOrder.{IsInOrder}
 use Rattle.agv_desk.specs.OrderParts.{send_trip, send_order, take_order}
 use Rattle.agv_desk.specs.OrderSteps.{AskedOrder, if_planned, sent_on, start_order, trip_for, send_update, advance}

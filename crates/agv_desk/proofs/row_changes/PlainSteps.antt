@@ -1,14 +1,14 @@
 -- The calls that touch no trip lead to the maps of the world after them.
 use Rattle.std.proofs.Common.{◌≡◌, ℕ, List, Option, None, Some, refl}
 use Rattle.agv_header.specs.declared.key.VehicleKey.{VehicleKey}
-use Rattle.agv_message.specs.declared.instant.InstantKind.{InstantKind}
-use Rattle.agv_message.specs.declared.state.StateMessage.{StateMessage}
+use Rattle.agv_message_core.specs.declared.instant.InstantKind.{InstantKind}
+use Rattle.agv_message_core.specs.declared.state.StateMessage.{StateMessage}
 use Rattle.agv_order.specs.declared.trip.Trip.{Trip}
-use Rattle.agv_holds.specs.Footprints.{footprint_of}
-use Rattle.agv_world.specs.Questions.{row_of, trip_of}
-use Rattle.agv_world.specs.VehicleChanges.{KeepsOrderAndEdges}
-use Rattle.agv_world.specs.Worlds.{World}
-use Rattle.agv_world.specs.declared.row.VehicleRow.{VehicleRow}
+use Rattle.agv_track_holds.specs.Footprints.{footprint_of}
+use Rattle.agv_world_core.specs.Questions.{row_of, trip_of}
+use Rattle.agv_world_core.specs.VehicleChanges.{KeepsOrderAndEdges}
+use Rattle.agv_world_core.specs.Worlds.{World}
+use Rattle.agv_world_core.specs.declared.row.VehicleRow.{VehicleRow}
 use Rattle.agv_desk.specs.InOrder.{IsInOrder}
 use Rattle.agv_desk.specs.InstantSteps.{instruct, cancel, pause, resume}
 use Rattle.agv_desk.specs.JobSteps.{add_job, stop_job}

@@ -6,18 +6,18 @@ use Rattle.agv_header.specs.declared.key.Thing.{Thing}
 use Rattle.agv_header.specs.declared.key.Thing.TheVariants as thing
 use Rattle.agv_header.specs.declared.key.VehicleKey.{VehicleKey}
 use Rattle.agv_layout.specs.declared.edge.Edge.{Edge}
-use Rattle.agv_message.specs.declared.state.StateMessage.{StateMessage}
+use Rattle.agv_message_core.specs.declared.state.StateMessage.{StateMessage}
 use Rattle.agv_order.specs.Trips.{node_at}
 use Rattle.agv_order.specs.declared.trip.Trip.{Trip}
-use Rattle.agv_holds.specs.Footprints.{IsOnBase, IsOnTrip, IsHeldBy, IsOnRest, footprint_of}
+use Rattle.agv_track_holds.specs.Footprints.{IsOnBase, IsOnTrip, IsHeldBy, IsOnRest, footprint_of}
 use Rattle.agv_track.specs.Progressed.{progressed, Advances, IsNextOf}
 use Rattle.agv_track.specs.declared.progress.Progress.{Progress}
-use Rattle.agv_world.specs.Questions.{row_of, trip_of}
-use Rattle.agv_world.specs.Maps.{standing_of}
-use Rattle.agv_world.specs.VehicleChanges.{KeepsOrderAndEdges, with_vehicle}
-use Rattle.agv_world.specs.ConsistentTrips.{HasOneTripAnOrder}
-use Rattle.agv_world.specs.Worlds.{Vehicle, World}
-use Rattle.agv_world.specs.declared.row.VehicleRow.{VehicleRow}
+use Rattle.agv_world_core.specs.Questions.{row_of, trip_of}
+use Rattle.agv_world_core.specs.Maps.{standing_of}
+use Rattle.agv_world_core.specs.VehicleChanges.{KeepsOrderAndEdges, with_vehicle}
+use Rattle.agv_world_core.specs.ConsistentTrips.{HasOneTripAnOrder}
+use Rattle.agv_world_core.specs.Worlds.{Vehicle, World}
+use Rattle.agv_world_core.specs.declared.row.VehicleRow.{VehicleRow}
 use Rattle.agv_desk.specs.InOrder.{IsInOrder, IsOpen}
 use Rattle.agv_desk.specs.Outcomes.{Effect}
 use Rattle.agv_desk.specs.StateSteps.{pending_of, row_after, trip_left, trip_state, fresh_state, take_state}

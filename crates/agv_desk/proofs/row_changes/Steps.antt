@@ -2,13 +2,13 @@
 use Rattle.std.proofs.Common.{◌≡◌, Bool, true, false, not, Option, None, Some, is_none, refl, subst}
 use Rattle.std.specs.FinMap as finite
 use Rattle.agv_header.specs.declared.key.VehicleKey.{VehicleKey}
-use Rattle.agv_world.specs.Changes.{changed}
-use Rattle.agv_world.specs.ConsistentTrips.{HasOneTripAnOrder, SharesNothing}
-use Rattle.agv_world.specs.Questions.{row_of, trip_of}
-use Rattle.agv_world.specs.Maps.{maps_of}
-use Rattle.agv_world.specs.VehicleChanges.{KeepsOrderAndEdges, trip_before, vehicle_changes, with_vehicle}
-use Rattle.agv_world.specs.Worlds.{Vehicle, World}
-use Rattle.agv_world.specs.declared.row.VehicleRow.{VehicleRow}
+use Rattle.agv_world_core.specs.Changes.{changed}
+use Rattle.agv_world_core.specs.ConsistentTrips.{HasOneTripAnOrder, SharesNothing}
+use Rattle.agv_world_core.specs.Questions.{row_of, trip_of}
+use Rattle.agv_world_core.specs.Maps.{maps_of}
+use Rattle.agv_world_core.specs.VehicleChanges.{KeepsOrderAndEdges, trip_before, vehicle_changes, with_vehicle}
+use Rattle.agv_world_core.specs.Worlds.{Vehicle, World}
+use Rattle.agv_world_core.specs.declared.row.VehicleRow.{VehicleRow}
 use Rattle.agv_desk.specs.InOrder.{IsInOrder}
 use Rattle.agv_desk.specs.Outcomes.{Effect, Outcome, Refused, Made, RowOnly, Whole, after, decided, with_layout}
 use Rattle.agv_desk.proofs.row_changes.Effects.{LaysRows, TouchesRows, LeadsTo, leads_to}

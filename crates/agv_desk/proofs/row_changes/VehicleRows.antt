@@ -2,14 +2,14 @@
 use Rattle.std.proofs.Common.{◌≡◌, ℕ, List, [], ◌∷◌, ◌++◌, map, Option, None, Some, append_assoc, ap, ◌∙◌}
 use Rattle.agv_header.specs.declared.key.VehicleKey.{VehicleKey}
 use Rattle.agv_order.specs.declared.trip.Trip.{Trip}
-use Rattle.agv_holds.specs.Footprints.{footprint_of}
-use Rattle.agv_holds.specs.declared.standing.Standing.{Standing}
-use Rattle.agv_world.specs.VehicleChanges.{hold_changes, own_changes, trip_changes}
-use Rattle.agv_world.specs.Worlds.{World}
-use Rattle.agv_world.specs.declared.change.Change.{Change}
-use Rattle.agv_world.specs.declared.change.Change.TheVariants as row
-use Rattle.agv_world.specs.declared.row.JobRow.{JobRow}
-use Rattle.agv_world.specs.declared.row.VehicleRow.{VehicleRow}
+use Rattle.agv_track_holds.specs.Footprints.{footprint_of}
+use Rattle.agv_track_holds.specs.declared.standing.Standing.{Standing}
+use Rattle.agv_world_core.specs.VehicleChanges.{hold_changes, own_changes, trip_changes}
+use Rattle.agv_world_core.specs.Worlds.{World}
+use Rattle.agv_world_core.specs.declared.change.Change.{Change}
+use Rattle.agv_world_core.specs.declared.change.Change.TheVariants as row
+use Rattle.agv_world_core.specs.declared.row.JobRow.{JobRow}
+use Rattle.agv_world_core.specs.declared.row.VehicleRow.{VehicleRow}
 use Rattle.agv_desk.specs.ActSteps.{jobs_stopped}
 use Rattle.agv_desk.specs.Outcomes.{decided}
 use Rattle.agv_desk.specs.Shared.{reference_key}

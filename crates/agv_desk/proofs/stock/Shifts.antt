@@ -6,17 +6,17 @@ use Rattle.agv_header.specs.KeyOrder.{key_cmp-total, key_cmp-IsAntisymmetric}
 use Rattle.agv_header.specs.Name.{IsName}
 use Rattle.agv_header.specs.declared.key.VehicleKey.{VehicleKey}
 use Rattle.agv_layout.specs.Layout.{Layout}
-use Rattle.agv_message.specs.declared.order.ActKind.{ActKind}
-use Rattle.agv_message.specs.declared.order.ActKind.TheVariants.{Pick, Drop}
+use Rattle.agv_message_core.specs.declared.order.ActKind.{ActKind}
+use Rattle.agv_message_core.specs.declared.order.ActKind.TheVariants.{Pick, Drop}
 use Rattle.agv_stock.specs.Phase.{is_live}
 use Rattle.agv_stock.specs.Rooms.{is_at, is_on}
 use Rattle.agv_stock.specs.declared.job.Phase.{Phase}
 use Rattle.agv_stock.specs.declared.job.Phase.TheVariants.{Waiting, Riding}
 use Rattle.agv_stock.specs.declared.place.Place.{Place}
-use Rattle.agv_world.specs.StockInvariant.{ActionView, StockInvariant, IsCarried, IsJobOn, IsKnownPlace, Jobs, Places, ActStands, to_pick, stored}
-use Rattle.agv_world.specs.Questions.{is_live_to, loads_on_vehicle, reserved_by}
-use Rattle.agv_world.specs.declared.row.JobRow.{JobRow}
-use Rattle.agv_world.proofs.lists.Orders.{names_total, names_apart}
+use Rattle.agv_world_core.specs.StockInvariant.{ActionView, StockInvariant, IsCarried, IsJobOn, IsKnownPlace, Jobs, Places, ActStands, to_pick, stored}
+use Rattle.agv_world_core.specs.Questions.{is_live_to, loads_on_vehicle, reserved_by}
+use Rattle.agv_world_core.specs.declared.row.JobRow.{JobRow}
+use Rattle.agv_world_core.proofs.lists.Orders.{names_total, names_apart}
 use Rattle.agv_desk.proofs.lists.Writes.{IsWritten, len-written, one_if, same_or_other, tally-written, weight, written_cases, written_has}
 
 pub live_if_riding : (phase : Phase) → phase ≡ Riding → is_live phase ≡ true

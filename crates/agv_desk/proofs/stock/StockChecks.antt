@@ -16,12 +16,12 @@ use Rattle.agv_stock.specs.Rooms.{is_at, room_left, station_of_place}
 use Rattle.agv_stock.specs.declared.goal.Goal.{Goal}
 use Rattle.agv_stock.specs.declared.place.Place.{Place}
 use Rattle.agv_stock.specs.declared.place.Place.TheVariants as place
-use Rattle.agv_world.specs.StockInvariant.{HasStockInvariant, IsKnownPlace, stored}
-use Rattle.agv_world.specs.Questions.{is_live_for, job_of, loads_at, reserved, room_at, reserved_by}
-use Rattle.agv_world.specs.Worlds.{World}
-use Rattle.agv_world.specs.declared.row.JobRow.{JobRow}
-use Rattle.agv_world.proofs.lists.Entries.{same_Some}
-use Rattle.agv_world.proofs.lists.Orders.{names_total}
+use Rattle.agv_world_core.specs.StockInvariant.{HasStockInvariant, IsKnownPlace, stored}
+use Rattle.agv_world_core.specs.Questions.{is_live_for, job_of, loads_at, reserved, room_at, reserved_by}
+use Rattle.agv_world_core.specs.Worlds.{World}
+use Rattle.agv_world_core.specs.declared.row.JobRow.{JobRow}
+use Rattle.agv_world_core.proofs.lists.Entries.{same_Some}
+use Rattle.agv_world_core.proofs.lists.Orders.{names_total}
 use Rattle.agv_desk.specs.LoadSteps.{place_of}
 use Rattle.agv_desk.specs.Shared.{goal_at, goal_of, is_in_job}
 use Rattle.agv_desk.proofs.stock.StockInvariantChanges.{IsFree}

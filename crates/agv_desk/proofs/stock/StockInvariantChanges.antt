@@ -14,12 +14,12 @@ use Rattle.agv_stock.specs.declared.job.Phase.{Phase}
 use Rattle.agv_stock.specs.declared.job.Phase.TheVariants.{Waiting, Riding}
 use Rattle.agv_stock.specs.declared.place.Place.{Place}
 use Rattle.agv_stock.specs.declared.place.Place.TheVariants as place
-use Rattle.agv_world.specs.StockInvariant.{ActionView, StockInvariant, HasStockInvariant, IsJobOn, IsKnownPlace, Jobs, Places, capacity_for, capacity_of, action_views_by, action_views_for, action_views_of, stored}
-use Rattle.agv_world.specs.Questions.{is_live_to, reserved_by}
-use Rattle.agv_world.specs.VehicleChanges.{with_vehicle}
-use Rattle.agv_world.specs.Worlds.{Vehicle, World}
-use Rattle.agv_world.specs.declared.row.JobRow.{JobRow}
-use Rattle.agv_world.proofs.lists.Orders.{names_total, names_apart}
+use Rattle.agv_world_core.specs.StockInvariant.{ActionView, StockInvariant, HasStockInvariant, IsJobOn, IsKnownPlace, Jobs, Places, capacity_for, capacity_of, action_views_by, action_views_for, action_views_of, stored}
+use Rattle.agv_world_core.specs.Questions.{is_live_to, reserved_by}
+use Rattle.agv_world_core.specs.VehicleChanges.{with_vehicle}
+use Rattle.agv_world_core.specs.Worlds.{Vehicle, World}
+use Rattle.agv_world_core.specs.declared.row.JobRow.{JobRow}
+use Rattle.agv_world_core.proofs.lists.Orders.{names_total, names_apart}
 use Rattle.agv_desk.proofs.stock.Shifts.{live_if_riding, live_if_waiting, stands_still}
 use Rattle.agv_desk.proofs.lists.Writes.{IsWritten, is_written, one_if, same_or_other, tally-written, weight, written_cases, written_has}
 

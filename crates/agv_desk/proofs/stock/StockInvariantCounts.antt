@@ -14,12 +14,12 @@ use Rattle.agv_stock.specs.Phase.{is_live}
 use Rattle.agv_stock.specs.Rooms.{is_at, is_on}
 use Rattle.agv_stock.specs.declared.place.Place.{Place}
 use Rattle.agv_stock.specs.declared.place.Place.TheVariants as place
-use Rattle.agv_world.specs.StockInvariant.{StockInvariant, ActionView, HasStockInvariant, IsKnownPlace, Jobs, Places, capacity_of, action_views_of, stored}
-use Rattle.agv_world.specs.Questions.{reserved, loads_on_vehicle, reserved_by}
-use Rattle.agv_world.specs.Worlds.{World}
-use Rattle.agv_world.specs.declared.row.JobRow.{JobRow}
-use Rattle.agv_world.proofs.lists.Entries.{entries_found, same_Some}
-use Rattle.agv_world.proofs.lists.Orders.{names_total, names_apart}
+use Rattle.agv_world_core.specs.StockInvariant.{StockInvariant, ActionView, HasStockInvariant, IsKnownPlace, Jobs, Places, capacity_of, action_views_of, stored}
+use Rattle.agv_world_core.specs.Questions.{reserved, loads_on_vehicle, reserved_by}
+use Rattle.agv_world_core.specs.Worlds.{World}
+use Rattle.agv_world_core.specs.declared.row.JobRow.{JobRow}
+use Rattle.agv_world_core.proofs.lists.Entries.{entries_found, same_Some}
+use Rattle.agv_world_core.proofs.lists.Orders.{names_total, names_apart}
 use Rattle.agv_desk.specs.Outcomes.{Effect, Move, moved}
 use Rattle.agv_desk.specs.Shared.{is_in_job}
 use Rattle.agv_desk.specs.StocktakeSteps.{Row, count_move, count_moves, finds_on_vehicle, fits, found_at, found_here, has_load, is_counted, new_entry, new_place, recounted, take_stock}

@@ -12,12 +12,12 @@ use Rattle.agv_order.specs.declared.fault.PlanFault.{PlanFault}
 use Rattle.agv_order.specs.declared.stop.Stop.{Stop}
 use Rattle.agv_order.specs.declared.trip.Trip.{Trip}
 use Rattle.agv_stock.specs.declared.job.Job.{Job}
-use Rattle.agv_world.specs.StockInvariant.{StockInvariant, HasStockInvariant, capacity_for, capacity_of, action_views_for, action_views_of}
-use Rattle.agv_world.specs.Questions.{loads_on, row_of, trip_of, loads_on_vehicle}
-use Rattle.agv_world.specs.TableChanges.{written}
-use Rattle.agv_world.specs.VehicleChanges.{with_vehicle}
-use Rattle.agv_world.specs.Worlds.{World}
-use Rattle.agv_world.specs.declared.row.VehicleRow.{VehicleRow}
+use Rattle.agv_world_core.specs.StockInvariant.{StockInvariant, HasStockInvariant, capacity_for, capacity_of, action_views_for, action_views_of}
+use Rattle.agv_world_core.specs.Questions.{loads_on, row_of, trip_of, loads_on_vehicle}
+use Rattle.agv_world_core.specs.TableChanges.{written}
+use Rattle.agv_world_core.specs.VehicleChanges.{with_vehicle}
+use Rattle.agv_world_core.specs.Worlds.{World}
+use Rattle.agv_world_core.specs.declared.row.VehicleRow.{VehicleRow}
 use Rattle.agv_desk.specs.OrderParts.{send_order, send_trip}
 use Rattle.agv_desk.specs.OrderSteps.{AskedOrder, if_planned, jobs_for, sent_on, start_order, waits}
 use Rattle.agv_desk.specs.Outcomes.{Effect, Outcome}

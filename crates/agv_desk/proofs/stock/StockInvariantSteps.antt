@@ -1,10 +1,10 @@
 -- The stock invariant holds after every call, where it is after the three calls that change what a trip carries.
 use Rattle.std.proofs.Common.{ℕ, List}
 use Rattle.agv_header.specs.declared.key.VehicleKey.{VehicleKey}
-use Rattle.agv_message.specs.declared.state.StateMessage.{StateMessage}
-use Rattle.agv_world.specs.StockInvariant.{HasStockInvariant}
-use Rattle.agv_world.specs.LawfulParts.{HasLawfulVehicles}
-use Rattle.agv_world.specs.Worlds.{World}
+use Rattle.agv_message_core.specs.declared.state.StateMessage.{StateMessage}
+use Rattle.agv_world_core.specs.StockInvariant.{HasStockInvariant}
+use Rattle.agv_world_core.specs.LawfulParts.{HasLawfulVehicles}
+use Rattle.agv_world_core.specs.Worlds.{World}
 use Rattle.agv_desk.specs.OrderSteps.{AskedOrder, start_order}
 use Rattle.agv_desk.specs.Outcomes.{Outcome, Refused, Made, after}
 use Rattle.agv_desk.specs.StateSteps.{take_state}
@@ -49,9 +49,7 @@ module _ (gives : GivesItself) (seats : ℕ) (world : World) (lawful : HasLawful
   step_keeps at (call.Stocktake reference rows) typed = stocktake_keeps world stock reference rows
   step_keeps at (call.GetLoad load) typed = load_keeps world stock load
   step_keeps at (call.GetVehicle key) typed = vehicle_keeps world stock key
-  step_keeps at call.StockReport typed = record { stock = stock }
-  step_keeps at call.HoldReport typed = record { stock = stock }
-  step_keeps at call.LoadsExport typed = record { stock = stock }
+  step_keeps at (call.Report report) typed = record { stock = stock }
 
 -- the world after a call, refused or not
 pub stock_after : (world : World) (outcome : Outcome) → HasStockInvariant world → IfMade (KeepsStock world) outcome → HasStockInvariant (after world outcome)

@@ -7,19 +7,19 @@ use Rattle.std.proofs.lemmas.Bool.Decides.{nat_tests}
 use Rattle.agv_header.specs.Limits.{most_records}
 use Rattle.agv_header.specs.Name.{IsName, name_cmp}
 use Rattle.agv_header.specs.declared.key.VehicleKey.{VehicleKey}
-use Rattle.agv_message.specs.declared.order.ActKind.{ActKind}
-use Rattle.agv_message.specs.declared.order.ActKind.TheVariants.{Pick, Drop}
+use Rattle.agv_message_core.specs.declared.order.ActKind.{ActKind}
+use Rattle.agv_message_core.specs.declared.order.ActKind.TheVariants.{Pick, Drop}
 use Rattle.agv_stock.specs.Rooms.{is_on}
 use Rattle.agv_stock.specs.declared.job.Phase.{Phase}
 use Rattle.agv_stock.specs.declared.job.Phase.TheVariants.{Waiting, Riding, Done, Stopped}
 use Rattle.agv_stock.specs.declared.place.Place.TheVariants as place
-use Rattle.agv_world.specs.StockInvariant.{ActionView, HasStockInvariant, Places, ActStands, capacity_of, action_views_of}
-use Rattle.agv_world.specs.Questions.{count_of}
-use Rattle.agv_world.specs.Worlds.{World}
-use Rattle.agv_world.specs.declared.floor.Counted.TheVariants as counted
-use Rattle.agv_world.specs.declared.row.JobRow.{JobRow}
-use Rattle.agv_world.proofs.lists.Entries.{same_Some}
-use Rattle.agv_world.proofs.lists.Orders.{names_total, names_apart}
+use Rattle.agv_world_core.specs.StockInvariant.{ActionView, HasStockInvariant, Places, ActStands, capacity_of, action_views_of}
+use Rattle.agv_world_core.specs.Questions.{count_of}
+use Rattle.agv_world_core.specs.Worlds.{World}
+use Rattle.agv_world_core.specs.declared.floor.Counted.TheVariants as counted
+use Rattle.agv_world_core.specs.declared.row.JobRow.{JobRow}
+use Rattle.agv_world_core.proofs.lists.Entries.{same_Some}
+use Rattle.agv_world_core.proofs.lists.Orders.{names_total, names_apart}
 use Rattle.agv_desk.specs.JobSteps.{add_job, is_waiting, stop_job}
 use Rattle.agv_desk.specs.LoadSteps.{correct_load, leave_load, place_of, register_load}
 use Rattle.agv_desk.specs.Outcomes.{Effect}

@@ -7,7 +7,7 @@ use Rattle.std.specs.Ordering.{eq_by_cmp}
 use Rattle.agv_header.specs.Key.{key_cmp}
 use Rattle.agv_header.specs.KeyOrder.{key_cmp-total, key_cmp-IsAntisymmetric}
 use Rattle.agv_header.specs.declared.key.VehicleKey.{VehicleKey}
-use Rattle.agv_message.specs.declared.state.StateMessage.{StateMessage}
+use Rattle.agv_message_core.specs.declared.state.StateMessage.{StateMessage}
 use Rattle.agv_order.specs.StopPlaces.{CanBeDone}
 use Rattle.agv_order.specs.Stops.{stops_fit}
 use Rattle.agv_order.specs.Trips.{stop_of, task_of}
@@ -16,13 +16,13 @@ use Rattle.agv_order.specs.declared.trip.Trip.{Trip}
 use Rattle.agv_track.specs.Progressed.{Advances, progressed}
 use Rattle.agv_track.specs.declared.progress.End.{End}
 use Rattle.agv_track.specs.declared.progress.Progress.{Progress}
-use Rattle.agv_world.specs.StockInvariant.{StockInvariant, ActionView, HasStockInvariant, Jobs, Places, capacity_for, capacity_of, action_views_by, action_views_for, action_views_of}
-use Rattle.agv_world.specs.LawfulParts.{HasLawfulVehicles, IsTripOf}
-use Rattle.agv_world.specs.Questions.{row_of, trip_of}
-use Rattle.agv_world.specs.TableChanges.{written}
-use Rattle.agv_world.specs.VehicleChanges.{with_vehicle}
-use Rattle.agv_world.specs.Worlds.{Vehicle, World}
-use Rattle.agv_world.specs.declared.row.VehicleRow.{VehicleRow}
+use Rattle.agv_world_core.specs.StockInvariant.{StockInvariant, ActionView, HasStockInvariant, Jobs, Places, capacity_for, capacity_of, action_views_by, action_views_for, action_views_of}
+use Rattle.agv_world_core.specs.LawfulParts.{HasLawfulVehicles, IsTripOf}
+use Rattle.agv_world_core.specs.Questions.{row_of, trip_of}
+use Rattle.agv_world_core.specs.TableChanges.{written}
+use Rattle.agv_world_core.specs.VehicleChanges.{with_vehicle}
+use Rattle.agv_world_core.specs.Worlds.{Vehicle, World}
+use Rattle.agv_world_core.specs.declared.row.VehicleRow.{VehicleRow}
 use Rattle.agv_desk.specs.ActSteps.{act_jobs, act_moves, as_it_is, jobs_stopped}
 use Rattle.agv_desk.specs.Outcomes.{Effect, moved}
 use Rattle.agv_desk.specs.StateSteps.{fresh_state, pending_of, row_after, take_state, trip_state}

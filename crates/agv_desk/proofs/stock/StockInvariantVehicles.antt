@@ -8,21 +8,21 @@ use Rattle.agv_header.specs.declared.key.VehicleKey.{VehicleKey}
 use Rattle.agv_layout.specs.Layout.{Layout, IsStation, KeepsRules}
 use Rattle.agv_layout.specs.declared.row.LayoutRow.{LayoutRow}
 use Rattle.agv_layout.specs.declared.station.StationSite.{StationSite}
-use Rattle.agv_message.specs.declared.instant.InstantKind.{InstantKind}
-use Rattle.agv_message.specs.declared.state.StateMessage.{StateMessage}
+use Rattle.agv_message_core.specs.declared.instant.InstantKind.{InstantKind}
+use Rattle.agv_message_core.specs.declared.state.StateMessage.{StateMessage}
 use Rattle.agv_order.specs.Releases.{released}
 use Rattle.agv_order.specs.declared.trip.Trip.{Trip}
 use Rattle.agv_stock.specs.Rooms.{is_at}
 use Rattle.agv_stock.specs.declared.place.Place.{Place}
 use Rattle.agv_stock.specs.declared.place.Place.TheVariants as place
-use Rattle.agv_world.specs.StockInvariant.{HasStockInvariant, IsKnownPlace, capacity_for, capacity_of, action_views_by, action_views_for}
-use Rattle.agv_world.specs.LawfulParts.{HasLawfulVehicles}
-use Rattle.agv_world.specs.Questions.{is_live_to, given as set_where, layout_set, row_of, trip_of}
-use Rattle.agv_world.specs.VehicleChanges.{with_vehicle}
-use Rattle.agv_world.specs.Worlds.{Vehicle, World, empty_layout}
-use Rattle.agv_world.specs.declared.row.JobRow.{JobRow}
-use Rattle.agv_world.specs.declared.row.VehicleRow.{VehicleRow}
-use Rattle.agv_world.proofs.lists.Orders.{names_total}
+use Rattle.agv_world_core.specs.StockInvariant.{HasStockInvariant, IsKnownPlace, capacity_for, capacity_of, action_views_by, action_views_for}
+use Rattle.agv_world_core.specs.LawfulParts.{HasLawfulVehicles}
+use Rattle.agv_world_core.specs.Questions.{is_live_to, given as set_where, layout_set, row_of, trip_of}
+use Rattle.agv_world_core.specs.VehicleChanges.{with_vehicle}
+use Rattle.agv_world_core.specs.Worlds.{Vehicle, World, empty_layout}
+use Rattle.agv_world_core.specs.declared.row.JobRow.{JobRow}
+use Rattle.agv_world_core.specs.declared.row.VehicleRow.{VehicleRow}
+use Rattle.agv_world_core.proofs.lists.Orders.{names_total}
 use Rattle.agv_desk.specs.InstantSteps.{cancel, instruct, pause, resume}
 use Rattle.agv_desk.specs.LayoutSteps.{set_layout}
 use Rattle.agv_desk.specs.OrderSteps.{advance, send_update, sent_on, trip_for}

@@ -1,8 +1,8 @@
 -- The stock invariant holds after every call, and every act that becomes finished finds its load.
 use Rattle.std.proofs.Common.{◌≡◌, ℕ, subst}
-use Rattle.agv_world.specs.StockInvariant.{HasStockInvariant}
-use Rattle.agv_world.specs.LawfulParts.{HasLawfulVehicles}
-use Rattle.agv_world.specs.Worlds.{World}
+use Rattle.agv_world_core.specs.StockInvariant.{HasStockInvariant}
+use Rattle.agv_world_core.specs.LawfulParts.{HasLawfulVehicles}
+use Rattle.agv_world_core.specs.Worlds.{World}
 use Rattle.agv_desk.specs.ActedMoves.{FindsLoads}
 use Rattle.agv_desk.specs.Outcomes.{Effect, Made, after}
 use Rattle.agv_desk.specs.Step.{step}

@@ -5,8 +5,8 @@ use Rattle.std.specs.FinMap as map
 use Rattle.std.proofs.lemmas.List.{at_drop_more, at_drop_all}
 use Rattle.std.proofs.lemmas.List.Sums.{count_by_more_yes, count_by_more_no, count_by-le-length}
 use Rattle.agv_header.specs.Name.{name_cmp}
-use Rattle.agv_world.specs.Worlds.{World}
-use Rattle.agv_world.proofs.lists.Orders.{names_total}
+use Rattle.agv_world_core.specs.Worlds.{World}
+use Rattle.agv_world_core.proofs.lists.Orders.{names_total}
 use Rattle.agv_desk.specs.CountParts.{counted_up, is_found_at, count_at, counted_loads, with_counted_load}
 use Rattle.agv_desk.specs.StocktakeSteps.{Row, is_here}
 use Rattle.agv_desk.specs.declared.stocktake.counted_load.CountedLoad.{CountedLoad}

@@ -14,10 +14,10 @@ use Rattle.agv_layout.specs.declared.station.StationSite.{StationSite}
 use Rattle.agv_stock.specs.Rooms.{is_at}
 use Rattle.agv_stock.specs.declared.place.Place.{Place}
 use Rattle.agv_stock.specs.declared.place.Place.TheVariants as place
-use Rattle.agv_world.specs.Questions.{loads_at}
-use Rattle.agv_world.specs.Worlds.{World}
-use Rattle.agv_world.proofs.lists.Entries.{entries_found}
-use Rattle.agv_world.proofs.lists.Orders.{names_total, names_apart}
+use Rattle.agv_world_core.specs.Questions.{loads_at}
+use Rattle.agv_world_core.specs.Worlds.{World}
+use Rattle.agv_world_core.proofs.lists.Entries.{entries_found}
+use Rattle.agv_world_core.proofs.lists.Orders.{names_total, names_apart}
 use Rattle.agv_desk.specs.CountParts.{AreThere, moves_in, moves_list, found_in, recorded, recorded_at, counted_loads, standing, standing_at, stations_in}
 use Rattle.agv_desk.specs.StocktakeSteps.{Row, are_known, found_at, from_station, has_load, is_counted, new_place, new_places, recounted}
 use Rattle.agv_desk.proofs.stocktakes.FoundLoads.{get-found_in}

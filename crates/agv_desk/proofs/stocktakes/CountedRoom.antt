@@ -11,10 +11,10 @@ use Rattle.agv_header.specs.Name.{name_cmp}
 use Rattle.agv_stock.specs.Rooms.{is_at}
 use Rattle.agv_stock.specs.declared.place.Place.{Place}
 use Rattle.agv_stock.specs.declared.place.Place.TheVariants as place
-use Rattle.agv_world.specs.StockInvariant.{Places, stored}
-use Rattle.agv_world.specs.Worlds.{World}
-use Rattle.agv_world.proofs.lists.Entries.{entries_found, same_Some}
-use Rattle.agv_world.proofs.lists.Orders.{names_total}
+use Rattle.agv_world_core.specs.StockInvariant.{Places, stored}
+use Rattle.agv_world_core.specs.Worlds.{World}
+use Rattle.agv_world_core.proofs.lists.Entries.{entries_found, same_Some}
+use Rattle.agv_world_core.proofs.lists.Orders.{names_total}
 use Rattle.agv_desk.specs.StockTaken.{IsStockTaken}
 use Rattle.agv_desk.specs.StocktakeSteps.{Row, finds_known, found_at, found_here, has_load, is_counted}
 use Rattle.agv_desk.proofs.outcomes.Known.{none_some}

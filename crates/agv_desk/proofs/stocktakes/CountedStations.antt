@@ -10,8 +10,8 @@ use Rattle.std.proofs.lemmas.List.Folds.{list_all_at}
 use Rattle.std.proofs.lemmas.Option.{cond_some}
 use Rattle.agv_header.specs.Name.{name_cmp}
 use Rattle.agv_layout.specs.declared.station.StationSite.{StationSite}
-use Rattle.agv_world.specs.Worlds.{World}
-use Rattle.agv_world.proofs.lists.Orders.{names_total, names_apart}
+use Rattle.agv_world_core.specs.Worlds.{World}
+use Rattle.agv_world_core.proofs.lists.Orders.{names_total, names_apart}
 use Rattle.agv_desk.specs.CountParts.{AreCounted, noted_station, stations_in}
 use Rattle.agv_desk.specs.StocktakeSteps.{Row, are_known, is_counted}
 use Rattle.agv_desk.proofs.lists.SameNames.{same_name, tie_turned}

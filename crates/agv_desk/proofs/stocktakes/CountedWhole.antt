@@ -13,11 +13,11 @@ use Rattle.agv_header.specs.Name.{name_cmp}
 use Rattle.agv_header.specs.declared.refusal.Refusal.TheVariants as refusal
 use Rattle.agv_layout.specs.declared.station.StationSite.{StationSite}
 use Rattle.agv_stock.specs.declared.place.Place.{Place}
-use Rattle.agv_world.specs.Questions.{reserved, count_of}
-use Rattle.agv_world.specs.Worlds.{World}
-use Rattle.agv_world.specs.declared.floor.Counted.TheVariants as counted
-use Rattle.agv_world.proofs.lists.Entries.{entries_found}
-use Rattle.agv_world.proofs.lists.Orders.{names_total}
+use Rattle.agv_world_core.specs.Questions.{reserved, count_of}
+use Rattle.agv_world_core.specs.Worlds.{World}
+use Rattle.agv_world_core.specs.declared.floor.Counted.TheVariants as counted
+use Rattle.agv_world_core.proofs.lists.Entries.{entries_found}
+use Rattle.agv_world_core.proofs.lists.Orders.{names_total}
 use Rattle.agv_desk.specs.CountParts.{all_have_room, count_by_parts, found_in, has_room_for, is_found_at, moves_list, count_at, counted_loads, standing, stations_in, unknown_one}
 use Rattle.agv_desk.specs.Outcomes.{Outcome, Made, Move, Refused, refuse_unless, answer_only}
 use Rattle.agv_desk.specs.Shared.{is_in_job, reference_key}

@@ -6,7 +6,7 @@ use Rattle.std.specs.List.{list_any}
 use Rattle.std.proofs.lemmas.Bool.{false≢true}
 use Rattle.std.proofs.lemmas.List.{at_drop_all, at_drop_more}
 use Rattle.agv_header.specs.Name.{name_cmp}
-use Rattle.agv_world.proofs.lists.Orders.{names_total, names_apart}
+use Rattle.agv_world_core.proofs.lists.Orders.{names_total, names_apart}
 use Rattle.agv_desk.specs.CountParts.{AreFound, found_entry, found_in, noted_load, noted_anew}
 use Rattle.agv_desk.specs.StocktakeSteps.{Row, found_at, has_load, has_twice}
 use Rattle.agv_desk.proofs.lists.SameNames.{same_name, name_turned, tie_turned}

@@ -10,7 +10,7 @@ use Rattle.std.proofs.Math.Bool.{or_assoc}
 use Rattle.std.proofs.lemmas.Bool.{false≢true}
 use Rattle.agv_header.specs.Name.{name_cmp}
 use Rattle.agv_stock.specs.declared.place.Place.{Place}
-use Rattle.agv_world.proofs.lists.Orders.{names_total, names_apart}
+use Rattle.agv_world_core.proofs.lists.Orders.{names_total, names_apart}
 use Rattle.agv_desk.specs.CountParts.{with_new_place, settled}
 use Rattle.agv_desk.specs.StocktakeSteps.{new_place}
 use Rattle.agv_desk.proofs.lists.SameNames.{same_name, tie_turned}

@@ -7,9 +7,9 @@ use Rattle.std.proofs.lemmas.List.{at_drop_more, at_drop_all}
 use Rattle.agv_header.specs.Name.{name_cmp}
 use Rattle.agv_layout.specs.declared.station.StationSite.{StationSite}
 use Rattle.agv_stock.specs.declared.place.Place.{Place}
-use Rattle.agv_world.specs.Questions.{loads_at}
-use Rattle.agv_world.specs.Worlds.{World}
-use Rattle.agv_world.proofs.lists.Orders.{names_total}
+use Rattle.agv_world_core.specs.Questions.{loads_at}
+use Rattle.agv_world_core.specs.Worlds.{World}
+use Rattle.agv_world_core.proofs.lists.Orders.{names_total}
 use Rattle.agv_desk.specs.CountParts.{AreThere, Tells, standing, standing_at}
 use Rattle.agv_desk.proofs.lists.SameNames.{same_name, tie_turned}
 

@@ -11,8 +11,8 @@ use Rattle.agv_header.specs.Name.{name_cmp}
 use Rattle.agv_header.specs.declared.refusal.Refusal.{Refusal}
 use Rattle.agv_stock.specs.declared.place.Place.{Place}
 use Rattle.agv_stock.specs.declared.place.Place.TheVariants as place
-use Rattle.agv_world.specs.Worlds.{World}
-use Rattle.agv_world.proofs.lists.Orders.{names_total}
+use Rattle.agv_world_core.specs.Worlds.{World}
+use Rattle.agv_world_core.proofs.lists.Orders.{names_total}
 use Rattle.agv_desk.specs.Outcomes.{Effect, Outcome, Made, Refused, moved, refuse_unless, with_effect}
 use Rattle.agv_desk.specs.StockTaken.{IsStockTaken}
 use Rattle.agv_desk.specs.StocktakeSteps.{Row, count_move, count_moves, finds_on_vehicle, found_at, has_load, is_on_vehicle, is_counted, is_here, new_place, new_places, recounted, take_stock}

@@ -11,10 +11,10 @@ use Rattle.agv_header.specs.KeyOrder.{key_eq}
 use Rattle.agv_header.specs.declared.key.VehicleKey.{VehicleKey}
 use Rattle.agv_stock.specs.declared.place.Place.{Place}
 use Rattle.agv_stock.specs.declared.place.Place.TheVariants as place
-use Rattle.agv_world.proofs.lists.Entries.{entries_found}
-use Rattle.agv_world.proofs.lists.Orders.{names_total}
-use Rattle.agv_world.specs.StockInvariant.{Places}
-use Rattle.agv_world.specs.Worlds.{World}
+use Rattle.agv_world_core.proofs.lists.Entries.{entries_found}
+use Rattle.agv_world_core.proofs.lists.Orders.{names_total}
+use Rattle.agv_world_core.specs.StockInvariant.{Places}
+use Rattle.agv_world_core.specs.Worlds.{World}
 use Rattle.agv_desk.specs.Outcomes.{Effect, Made, moved, with_effect}
 use Rattle.agv_desk.specs.StockTaken.{number_moved, is_still_at}
 use Rattle.agv_desk.specs.StocktakeSteps.{Row, count_move, count_moves, found_at, from_station, is_counted, new_place, new_places, recounted, take_stock, unknown_in}

@@ -2,13 +2,13 @@
 use Rattle.std.proofs.Common.{◌≡◌, ◌≢◌, ◌⊎◌, ℕ, zero, suc, ◌+◌, true, List, [], ◌∷◌, map, Some, inl, inr, refl, sym, ap, arith}
 use Rattle.std.specs.List.{slice_get}
 use Rattle.std.proofs.lemmas.List.Sums.{sum_by-cons}
-use Rattle.agv_message.specs.declared.order.ActKind.TheVariants.{Pick, Drop}
+use Rattle.agv_message_core.specs.declared.order.ActKind.TheVariants.{Pick, Drop}
 use Rattle.agv_order.specs.StopPlaces.{IsAt}
 use Rattle.agv_order.specs.Trips.{task_of, stop_of}
 use Rattle.agv_order.specs.declared.act.Act.{Act}
 use Rattle.agv_order.specs.declared.stop.Stop.{Stop}
 use Rattle.agv_track.specs.Reports.{with_status}
-use Rattle.agv_world.specs.StockInvariant.{ActionView, action_view, is_to_pick, to_pick}
+use Rattle.agv_world_core.specs.StockInvariant.{ActionView, action_view, is_to_pick, to_pick}
 use Rattle.agv_desk.specs.ActSteps.{Renewed}
 use Rattle.agv_desk.proofs.outcomes.Known.{none_some, same_some}
 use Rattle.agv_desk.proofs.lists.Writes.{one_if}

@@ -3,18 +3,18 @@ use Rattle.std.proofs.Common.{◌≡◌, ◌≢◌, ◌⊎◌, ◌+◌, ◌&&◌
 use Rattle.std.specs.Cmp.Lexicographic.{pointwise}
 use Rattle.std.specs.FinMap as finite
 use Rattle.std.specs.List.{cons_option, slice_get}
-use Rattle.agv_message.specs.declared.order.ActKind.{ActKind}
-use Rattle.agv_message.specs.declared.order.ActKind.TheVariants.{Pick, Drop}
+use Rattle.agv_message_core.specs.declared.order.ActKind.{ActKind}
+use Rattle.agv_message_core.specs.declared.order.ActKind.TheVariants.{Pick, Drop}
 use Rattle.agv_order.specs.StopPlaces.{IsAt}
 use Rattle.agv_order.specs.declared.stop.Stop.{Stop}
 use Rattle.agv_stock.specs.Phase.{is_live}
 use Rattle.agv_stock.specs.declared.job.Phase.TheVariants as phase
-use Rattle.agv_world.specs.StockInvariant.{Jobs}
-use Rattle.agv_world.specs.Questions.{is_live_to, reserved_by}
-use Rattle.agv_world.specs.TableChanges.{written}
-use Rattle.agv_world.specs.Worlds.{World}
-use Rattle.agv_world.specs.declared.row.JobRow.{JobRow}
-use Rattle.agv_world.proofs.lists.Orders.{names_total, names_apart}
+use Rattle.agv_world_core.specs.StockInvariant.{Jobs}
+use Rattle.agv_world_core.specs.Questions.{is_live_to, reserved_by}
+use Rattle.agv_world_core.specs.TableChanges.{written}
+use Rattle.agv_world_core.specs.Worlds.{World}
+use Rattle.agv_world_core.specs.declared.row.JobRow.{JobRow}
+use Rattle.agv_world_core.proofs.lists.Orders.{names_total, names_apart}
 use Rattle.agv_desk.proofs.outcomes.Known.{none_some, same_some}
 use Rattle.agv_desk.proofs.trip_acts.OrderJobs.{WaitsIn, begins}
 use Rattle.agv_desk.proofs.trip_acts.WalkHeads.{written-first, written_job}

@@ -1,8 +1,8 @@
 -- Stops that fit, stop by stop: each stands there once, and each pick has a later drop.
 use Rattle.std.proofs.Common.{◌≡◌, ℕ, zero, suc, ◌+◌, ◌-◌, ◌<◌, List, [], ◌∷◌, Some, sym, ap, subst, ◌∙◌, arith}
 use Rattle.std.specs.List.{slice_get}
-use Rattle.agv_message.specs.declared.order.ActKind.{ActKind}
-use Rattle.agv_message.specs.declared.order.ActKind.TheVariants.{Pick, Drop}
+use Rattle.agv_message_core.specs.declared.order.ActKind.{ActKind}
+use Rattle.agv_message_core.specs.declared.order.ActKind.TheVariants.{Pick, Drop}
 use Rattle.agv_order.specs.StopPlaces.{IsAt, IsPickedThenDropped, CanBeDone}
 use Rattle.agv_order.specs.declared.stop.Stop.{Stop}
 use Rattle.agv_desk.proofs.outcomes.Known.{none_some, same_some}

@@ -4,9 +4,9 @@ use Rattle.std.specs.FinMap as finite
 use Rattle.std.specs.List.{cons_option, list_all}
 use Rattle.agv_header.specs.declared.key.VehicleKey.{VehicleKey}
 use Rattle.agv_layout.specs.Layout.{Layout}
-use Rattle.agv_message.specs.declared.order.ActKind.{ActKind}
-use Rattle.agv_message.specs.declared.order.ActKind.TheVariants.{Pick, Drop}
-use Rattle.agv_message.specs.declared.state.StateMessage.{StateMessage}
+use Rattle.agv_message_core.specs.declared.order.ActKind.{ActKind}
+use Rattle.agv_message_core.specs.declared.order.ActKind.TheVariants.{Pick, Drop}
+use Rattle.agv_message_core.specs.declared.state.StateMessage.{StateMessage}
 use Rattle.agv_order.specs.Statuses.{is_finished}
 use Rattle.agv_order.specs.WellFormed.{is_in_turn}
 use Rattle.agv_order.specs.declared.trip.Trip.{Trip}
@@ -17,9 +17,9 @@ use Rattle.agv_track.proofs.Judging.{judged-ok}
 use Rattle.agv_track.specs.Reports.{renewed, with_status}
 use Rattle.agv_track.specs.declared.pending.Pending.{Pending}
 use Rattle.agv_track.specs.declared.progress.Progress.{Progress}
-use Rattle.agv_world.specs.StockInvariant.{ActionView, Jobs, Places}
-use Rattle.agv_world.specs.ConsistentTrips.{HasTrip}
-use Rattle.agv_world.specs.Worlds.{World}
+use Rattle.agv_world_core.specs.StockInvariant.{ActionView, Jobs, Places}
+use Rattle.agv_world_core.specs.ConsistentTrips.{HasTrip}
+use Rattle.agv_world_core.specs.Worlds.{World}
 use Rattle.agv_desk.specs.ActedMoves.{FindsItsLoad}
 use Rattle.agv_desk.specs.ActSteps.{Renewed, act_move, act_moves}
 use Rattle.agv_desk.specs.Outcomes.{Acted, Cause, Move, moved}

@@ -5,8 +5,8 @@ use Rattle.std.specs.FinMap as finite
 use Rattle.agv_order.specs.Plans.{job_named}
 use Rattle.agv_order.specs.declared.stop.Stop.{Stop}
 use Rattle.agv_stock.specs.declared.job.Job.{Job}
-use Rattle.agv_world.specs.Worlds.{World}
-use Rattle.agv_world.specs.declared.row.JobRow.{JobRow}
+use Rattle.agv_world_core.specs.Worlds.{World}
+use Rattle.agv_world_core.specs.declared.row.JobRow.{JobRow}
 use Rattle.agv_desk.specs.FoundJobs.{AreFound, job_by}
 use Rattle.agv_desk.specs.OrderSteps.{job_for, named}
 use Rattle.agv_desk.proofs.lists.SameNames.{same_name}

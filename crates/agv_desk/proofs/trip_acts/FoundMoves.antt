@@ -5,16 +5,16 @@ use Rattle.std.specs.FinMap as finite
 use Rattle.std.specs.List.{zip}
 use Rattle.agv_header.specs.declared.key.VehicleKey.{VehicleKey}
 use Rattle.agv_layout.specs.declared.row.LayoutRow.{LayoutRow}
-use Rattle.agv_message.specs.declared.instant.InstantKind.{InstantKind}
-use Rattle.agv_message.specs.declared.state.StateMessage.{StateMessage}
+use Rattle.agv_message_core.specs.declared.instant.InstantKind.{InstantKind}
+use Rattle.agv_message_core.specs.declared.state.StateMessage.{StateMessage}
 use Rattle.agv_order.specs.Trips.{task_of}
 use Rattle.agv_order.specs.declared.trip.Trip.{Trip}
 use Rattle.agv_stock.specs.declared.place.Place.{Place}
-use Rattle.agv_world.specs.StockInvariant.{HasStockInvariant, Places, capacity_of, action_views_of}
-use Rattle.agv_world.specs.LawfulParts.{HasLawfulVehicles}
-use Rattle.agv_world.specs.Questions.{row_of, trip_of}
-use Rattle.agv_world.specs.Worlds.{World}
-use Rattle.agv_world.specs.declared.row.VehicleRow.{VehicleRow}
+use Rattle.agv_world_core.specs.StockInvariant.{HasStockInvariant, Places, capacity_of, action_views_of}
+use Rattle.agv_world_core.specs.LawfulParts.{HasLawfulVehicles}
+use Rattle.agv_world_core.specs.Questions.{row_of, trip_of}
+use Rattle.agv_world_core.specs.Worlds.{World}
+use Rattle.agv_world_core.specs.declared.row.VehicleRow.{VehicleRow}
 use Rattle.agv_desk.specs.ActedMoves.{FindsLoads}
 use Rattle.agv_desk.specs.InstantSteps.{cancel, instruct, pause, resume}
 use Rattle.agv_desk.specs.JobSteps.{add_job, stop_job}
@@ -199,6 +199,4 @@ module _ (world : World) where
     finds_all at (call.Stocktake reference rows) = takes_stock reference rows
     finds_all at (call.GetLoad load) = tells_load load
     finds_all at (call.GetVehicle key) = tells_vehicle key
-    finds_all at call.StockReport = plain _ tt
-    finds_all at call.HoldReport = plain _ tt
-    finds_all at call.LoadsExport = plain _ tt
+    finds_all at (call.Report report) = plain _ tt

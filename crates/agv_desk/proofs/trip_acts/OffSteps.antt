@@ -7,17 +7,17 @@ use Rattle.agv_header.specs.KeyOrder.{key_cmp-total, key_cmp-IsAntisymmetric}
 use Rattle.agv_header.specs.declared.key.VehicleKey.{VehicleKey}
 use Rattle.agv_layout.specs.Layout.{Layout, IsStation}
 use Rattle.agv_layout.specs.declared.station.StationSite.{StationSite}
-use Rattle.agv_message.specs.declared.order.ActKind.TheVariants.{Drop}
+use Rattle.agv_message_core.specs.declared.order.ActKind.TheVariants.{Drop}
 use Rattle.agv_stock.specs.Phase.{is_live}
 use Rattle.agv_stock.specs.Rooms.{is_at, is_on}
 use Rattle.agv_stock.specs.declared.job.Phase.{Phase}
 use Rattle.agv_stock.specs.declared.job.Phase.TheVariants as phase
 use Rattle.agv_stock.specs.declared.place.Place.{Place}
 use Rattle.agv_stock.specs.declared.place.Place.TheVariants as place
-use Rattle.agv_world.specs.StockInvariant.{ActionView, IsKnownPlace, Jobs, Places, to_pick, is_to_pick}
-use Rattle.agv_world.specs.Questions.{is_live_to, loads_on_vehicle}
-use Rattle.agv_world.specs.declared.row.JobRow.{JobRow}
-use Rattle.agv_world.proofs.lists.Orders.{names_total, names_apart}
+use Rattle.agv_world_core.specs.StockInvariant.{ActionView, IsKnownPlace, Jobs, Places, to_pick, is_to_pick}
+use Rattle.agv_world_core.specs.Questions.{is_live_to, loads_on_vehicle}
+use Rattle.agv_world_core.specs.declared.row.JobRow.{JobRow}
+use Rattle.agv_world_core.proofs.lists.Orders.{names_total, names_apart}
 use Rattle.agv_desk.proofs.trip_acts.ActionViews.{due-cons}
 use Rattle.agv_desk.proofs.outcomes.Known.{same_some}
 use Rattle.agv_desk.proofs.stock.Shifts.{live_if_riding, shift_kept}

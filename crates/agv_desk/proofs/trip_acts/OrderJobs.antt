@@ -7,9 +7,9 @@ use Rattle.std.specs.List.{cons_option, list_all, slice_get}
 use Rattle.agv_header.specs.Each.{each}
 use Rattle.agv_layout.specs.Layout.{Layout}
 use Rattle.agv_layout.specs.declared.edge.Edge.{Edge}
-use Rattle.agv_message.specs.declared.order.ActKind.{ActKind}
-use Rattle.agv_message.specs.declared.order.ActKind.TheVariants.{Pick, Drop}
-use Rattle.agv_message.specs.declared.status.Status.TheVariants as status
+use Rattle.agv_message_core.specs.declared.order.ActKind.{ActKind}
+use Rattle.agv_message_core.specs.declared.order.ActKind.TheVariants.{Pick, Drop}
+use Rattle.agv_message_core.specs.declared.status.Status.TheVariants as status
 use Rattle.agv_order.specs.Plans.{job_named, stop_station}
 use Rattle.agv_order.specs.StopPlaces.{stop_picks}
 use Rattle.agv_order.specs.Tours.{MakesStop, MakesStops}
@@ -18,9 +18,9 @@ use Rattle.agv_order.specs.declared.stop.Stop.{Stop}
 use Rattle.agv_stock.specs.declared.job.Job.{Job}
 use Rattle.agv_stock.specs.declared.job.Phase.{Phase}
 use Rattle.agv_stock.specs.declared.job.Phase.TheVariants as phase
-use Rattle.agv_world.specs.Lawful.{station_for}
-use Rattle.agv_world.specs.Worlds.{World}
-use Rattle.agv_world.specs.declared.row.JobRow.{JobRow}
+use Rattle.agv_world_core.specs.Lawful.{station_for}
+use Rattle.agv_world_core.specs.Worlds.{World}
+use Rattle.agv_world_core.specs.declared.row.JobRow.{JobRow}
 use Rattle.agv_desk.specs.ActSteps.{job_in}
 use Rattle.agv_desk.specs.JobSteps.{is_waiting}
 use Rattle.agv_desk.specs.OrderSteps.{job_for, named, riding, riding_by, waits}

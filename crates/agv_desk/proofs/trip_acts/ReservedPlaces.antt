@@ -5,10 +5,10 @@ use Rattle.std.specs.FinMap as finite
 use Rattle.agv_stock.specs.Phase.{is_live}
 use Rattle.agv_stock.specs.declared.job.Phase.{Phase}
 use Rattle.agv_stock.specs.declared.job.Phase.TheVariants.{Riding}
-use Rattle.agv_world.proofs.lists.Orders.{names_total}
-use Rattle.agv_world.specs.Questions.{is_live_to, reserved}
-use Rattle.agv_world.specs.Worlds.{World}
-use Rattle.agv_world.specs.declared.row.JobRow.{JobRow}
+use Rattle.agv_world_core.proofs.lists.Orders.{names_total}
+use Rattle.agv_world_core.specs.Questions.{is_live_to, reserved}
+use Rattle.agv_world_core.specs.Worlds.{World}
+use Rattle.agv_world_core.specs.declared.row.JobRow.{JobRow}
 use Rattle.agv_desk.proofs.lists.SameNames.{name_itself}
 use Rattle.agv_desk.proofs.lists.Writes.{one_if, tally, weight, weight-le}
 

@@ -5,8 +5,8 @@ use Rattle.std.specs.List.{slice_get}
 use Rattle.std.proofs.lemmas.List.Sums.{sum_by-cons}
 use Rattle.agv_header.specs.KeyOrder.{key_cmp-total, key_cmp-IsAntisymmetric}
 use Rattle.agv_header.specs.declared.key.VehicleKey.{VehicleKey}
-use Rattle.agv_message.specs.declared.order.ActKind.{ActKind}
-use Rattle.agv_message.specs.declared.order.ActKind.TheVariants.{Pick, Drop}
+use Rattle.agv_message_core.specs.declared.order.ActKind.{ActKind}
+use Rattle.agv_message_core.specs.declared.order.ActKind.TheVariants.{Pick, Drop}
 use Rattle.agv_order.specs.Statuses.{is_finished}
 use Rattle.agv_order.specs.StopPlaces.{CanBeDone, IsAt, IsPickedThenDropped, stop_picks}
 use Rattle.agv_order.specs.Stops.{is_drop}
@@ -16,12 +16,12 @@ use Rattle.agv_stock.specs.Phase.{is_live}
 use Rattle.agv_stock.specs.declared.job.Phase.{Phase}
 use Rattle.agv_stock.specs.declared.job.Phase.TheVariants as phase
 use Rattle.agv_stock.specs.declared.place.Place.TheVariants as place
-use Rattle.agv_world.specs.Questions.{loads_on_vehicle}
-use Rattle.agv_world.specs.StockInvariant.{StockInvariant, ActionView, HasStockInvariant, IsCarried, IsJobOn, Jobs, Places, ActStands, capacity_of, to_pick, action_view, action_views, action_views_of, stored}
-use Rattle.agv_world.specs.Lawful.{station_for}
-use Rattle.agv_world.specs.TableChanges.{written}
-use Rattle.agv_world.specs.Worlds.{World}
-use Rattle.agv_world.specs.declared.row.JobRow.{JobRow}
+use Rattle.agv_world_core.specs.Questions.{loads_on_vehicle}
+use Rattle.agv_world_core.specs.StockInvariant.{StockInvariant, ActionView, HasStockInvariant, IsCarried, IsJobOn, Jobs, Places, ActStands, capacity_of, to_pick, action_view, action_views, action_views_of, stored}
+use Rattle.agv_world_core.specs.Lawful.{station_for}
+use Rattle.agv_world_core.specs.TableChanges.{written}
+use Rattle.agv_world_core.specs.Worlds.{World}
+use Rattle.agv_world_core.specs.declared.row.JobRow.{JobRow}
 use Rattle.agv_desk.proofs.trip_acts.Beginnings.{Begun, begun_all, none_begun, rides, rides_at}
 use Rattle.agv_desk.proofs.trip_acts.ActionViews.{due-cons, stop_by}
 use Rattle.agv_desk.proofs.trip_acts.FitStops.{one_place}

@@ -4,10 +4,10 @@ use Rattle.std.proofs.lemmas.Bool.{and_parts}
 use Rattle.std.specs.Cmp.Lexicographic.{pointwise}
 use Rattle.std.specs.List.{list_all, slice_get, zip}
 use Rattle.agv_header.specs.declared.key.VehicleKey.{VehicleKey}
-use Rattle.agv_message.specs.declared.order.ActKind.{ActKind}
-use Rattle.agv_message.specs.declared.order.ActKind.TheVariants.{Pick, Drop}
-use Rattle.agv_message.specs.declared.status.Status.{Status}
-use Rattle.agv_message.specs.declared.status.Status.TheVariants.{Waiting, Initializing, Running, Paused, Finished, Failed}
+use Rattle.agv_message_core.specs.declared.order.ActKind.{ActKind}
+use Rattle.agv_message_core.specs.declared.order.ActKind.TheVariants.{Pick, Drop}
+use Rattle.agv_message_core.specs.declared.status.Status.{Status}
+use Rattle.agv_message_core.specs.declared.status.Status.TheVariants.{Waiting, Initializing, Running, Paused, Finished, Failed}
 use Rattle.agv_order.specs.Statuses.{is_finished, may_follow}
 use Rattle.agv_order.specs.Stops.{is_drop}
 use Rattle.agv_order.specs.Trips.{stop_of, task_of}
@@ -15,7 +15,7 @@ use Rattle.agv_order.specs.WellFormed.{is_in_turn, is_picked}
 use Rattle.agv_order.specs.declared.act.Act.{Act}
 use Rattle.agv_track.specs.Progressed.{ActGoesOn}
 use Rattle.agv_track.specs.Reports.{renewed, with_status}
-use Rattle.agv_world.specs.StockInvariant.{ActionView, action_view, action_views}
+use Rattle.agv_world_core.specs.StockInvariant.{ActionView, action_view, action_views}
 use Rattle.agv_desk.specs.ActSteps.{Renewed, act_moves, as_it_is}
 use Rattle.agv_desk.proofs.trip_acts.ActionViews.{AfterPicks, IsPicked, all_after, all_before, stops_by}
 use Rattle.agv_desk.proofs.outcomes.Known.{none_some, same_some}

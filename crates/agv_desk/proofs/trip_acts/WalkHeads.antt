@@ -4,18 +4,18 @@ use Rattle.std.specs.FinMap as finite
 use Rattle.std.specs.List.{cons_option, slice_get}
 use Rattle.agv_header.specs.declared.key.VehicleKey.{VehicleKey}
 use Rattle.agv_layout.specs.Layout.{Layout}
-use Rattle.agv_message.specs.declared.order.ActKind.{ActKind}
-use Rattle.agv_message.specs.declared.order.ActKind.TheVariants.{Pick, Drop}
+use Rattle.agv_message_core.specs.declared.order.ActKind.{ActKind}
+use Rattle.agv_message_core.specs.declared.order.ActKind.TheVariants.{Pick, Drop}
 use Rattle.agv_order.specs.Statuses.{is_finished}
 use Rattle.agv_order.specs.StopPlaces.{IsAt}
 use Rattle.agv_order.specs.Stops.{is_drop}
 use Rattle.agv_stock.specs.declared.job.Phase.{Phase}
 use Rattle.agv_stock.specs.declared.job.Phase.TheVariants as phase
-use Rattle.agv_world.specs.StockInvariant.{ActionView, Jobs, Places}
-use Rattle.agv_world.specs.TableChanges.{written}
-use Rattle.agv_world.specs.Worlds.{World}
-use Rattle.agv_world.specs.declared.row.JobRow.{JobRow}
-use Rattle.agv_world.proofs.lists.Orders.{names_total, names_apart}
+use Rattle.agv_world_core.specs.StockInvariant.{ActionView, Jobs, Places}
+use Rattle.agv_world_core.specs.TableChanges.{written}
+use Rattle.agv_world_core.specs.Worlds.{World}
+use Rattle.agv_world_core.specs.declared.row.JobRow.{JobRow}
+use Rattle.agv_world_core.proofs.lists.Orders.{names_total, names_apart}
 use Rattle.agv_desk.specs.ActSteps.{Renewed, act_job, job_in, taken_to}
 use Rattle.agv_desk.specs.Outcomes.{Acted, Move, moved}
 use Rattle.agv_desk.proofs.trip_acts.ActionViews.{IsPicked, in_rest, stops_by, whole}

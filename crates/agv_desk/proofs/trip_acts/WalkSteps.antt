@@ -10,17 +10,17 @@ use Rattle.agv_header.specs.KeyOrder.{key_cmp-ties, key_cmp-total, key_cmp-IsAnt
 use Rattle.agv_header.specs.declared.key.VehicleKey.{VehicleKey}
 use Rattle.agv_layout.specs.Layout.{Layout, IsStation}
 use Rattle.agv_layout.specs.declared.station.StationSite.{StationSite}
-use Rattle.agv_message.specs.declared.order.ActKind.{ActKind}
-use Rattle.agv_message.specs.declared.order.ActKind.TheVariants.{Pick, Drop}
+use Rattle.agv_message_core.specs.declared.order.ActKind.{ActKind}
+use Rattle.agv_message_core.specs.declared.order.ActKind.TheVariants.{Pick, Drop}
 use Rattle.agv_stock.specs.Phase.{is_live}
 use Rattle.agv_stock.specs.declared.job.Phase.{Phase}
 use Rattle.agv_stock.specs.declared.job.Phase.TheVariants as phase
 use Rattle.agv_stock.specs.declared.place.Place.TheVariants as place
-use Rattle.agv_world.specs.Questions.{loads_on_vehicle}
-use Rattle.agv_world.specs.StockInvariant.{ActionView, StockInvariant, IsCarried, Jobs, Places, ActStands, to_pick}
-use Rattle.agv_world.specs.Lawful.{station_for}
-use Rattle.agv_world.specs.declared.row.JobRow.{JobRow}
-use Rattle.agv_world.proofs.lists.Orders.{names_total, names_apart}
+use Rattle.agv_world_core.specs.Questions.{loads_on_vehicle}
+use Rattle.agv_world_core.specs.StockInvariant.{ActionView, StockInvariant, IsCarried, Jobs, Places, ActStands, to_pick}
+use Rattle.agv_world_core.specs.Lawful.{station_for}
+use Rattle.agv_world_core.specs.declared.row.JobRow.{JobRow}
+use Rattle.agv_world_core.proofs.lists.Orders.{names_total, names_apart}
 use Rattle.agv_desk.proofs.trip_acts.ActionViews.{IsPicked, Swap, swap_here, swap_whole, whole}
 use Rattle.agv_desk.proofs.outcomes.Known.{same_some}
 use Rattle.agv_desk.proofs.stock.Shifts.{live_if_riding, shift_kept}

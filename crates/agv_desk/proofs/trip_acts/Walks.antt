@@ -3,13 +3,13 @@ use Rattle.std.proofs.Common.{◌≡◌, ℕ, zero, suc, true, false, List, [], 
 use Rattle.std.specs.List.{cons_option, slice_get}
 use Rattle.agv_header.specs.declared.key.VehicleKey.{VehicleKey}
 use Rattle.agv_layout.specs.Layout.{Layout}
-use Rattle.agv_message.specs.declared.order.ActKind.{ActKind}
-use Rattle.agv_message.specs.declared.order.ActKind.TheVariants.{Pick, Drop}
+use Rattle.agv_message_core.specs.declared.order.ActKind.{ActKind}
+use Rattle.agv_message_core.specs.declared.order.ActKind.TheVariants.{Pick, Drop}
 use Rattle.agv_order.specs.Statuses.{is_finished}
 use Rattle.agv_order.specs.StopPlaces.{IsAt}
-use Rattle.agv_world.specs.StockInvariant.{ActionView, Jobs, Places}
-use Rattle.agv_world.specs.TableChanges.{written}
-use Rattle.agv_world.specs.Worlds.{World}
+use Rattle.agv_world_core.specs.StockInvariant.{ActionView, Jobs, Places}
+use Rattle.agv_world_core.specs.TableChanges.{written}
+use Rattle.agv_world_core.specs.Worlds.{World}
 use Rattle.agv_desk.specs.ActSteps.{Renewed, act_job, act_jobs, act_move, act_moves}
 use Rattle.agv_desk.specs.Outcomes.{moved}
 use Rattle.agv_desk.proofs.trip_acts.ActionViews.{AfterPicks, IsPicked, after, all_after, all_before, in_rest, in_whole, stop_after, stop_before, stop_by, stops_by, whole}

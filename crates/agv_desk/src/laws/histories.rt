@@ -1,9 +1,9 @@
-//! What holds of lists of calls, for every lawful world and every list. Each function's clause says it.
+//! What is true of lists of calls, for every lawful world and every list. Each function's clause is the law.
 ghost use Rattle.std.specs.Prelude.{◌≡◌, ◌≤◌, ◌⊎◌, ℕ, List, [], ◌∷◌, ◌++◌};
 ghost use Rattle.std.specs.FinMap as finite;
 ghost use Rattle.agv_header.specs.declared.key.VehicleKey.{VehicleKey};
-ghost use Rattle.agv_message.specs.declared.order.ActKind.{ActKind};
-ghost use Rattle.agv_message.specs.declared.state.StateMessage.{StateMessage as Message};
+ghost use Rattle.agv_message_core.specs.declared.order.ActKind.{ActKind};
+ghost use Rattle.agv_message_core.specs.declared.state.StateMessage.{StateMessage as Message};
 ghost use Rattle.agv_desk.specs.ActedMoves.{DropsLoads, FindsLoads, HasEffectAfter, IsFoundIn};
 ghost use Rattle.agv_desk.specs.Histories.{CancelsSince, HasNoResync, IsRepeated, last_place, later_of, times};
 ghost use Rattle.agv_desk.specs.Outcomes.{Acted, Effect, Move, after, moved, moves_of};
@@ -11,19 +11,19 @@ ghost use Rattle.agv_desk.specs.Step.{moves, step, steps};
 ghost use Rattle.agv_desk.specs.WellTyped.{AreWellTyped, IsSeats};
 ghost use Rattle.agv_desk.specs.declared.call.Call.{Call as CallOf};
 ghost use Rattle.agv_desk.specs.declared.call.Call.TheVariants as call;
-ghost use Rattle.agv_world.specs.Lawful.{IsLawful};
-ghost use Rattle.agv_world.specs.Maps.{maps_of};
-ghost use Rattle.agv_world.specs.Worlds.{World};
+ghost use Rattle.agv_world_core.specs.Lawful.{IsLawful};
+ghost use Rattle.agv_world_core.specs.Maps.{maps_of};
+ghost use Rattle.agv_world_core.specs.Worlds.{World};
 
 use crate::Call;
 use crate::laws::lawful::{finds_each_load, keeps_lawful};
 use agv_header::Moment;
 use agv_order::laws::fits_as_said;
 use agv_track::laws::advances;
-use agv_world::laws::holds_are_footprints;
+use agv_world_core::laws::holds_are_footprints;
 
-/// Each call of a list is made at a moment before 2100, and is well typed, since the parts of the list are of their types.
-/// It does nothing: a proof calls it for its clause, which the laws below take of a list of calls.
+/// Proves that each call of a list is made at a moment before 2100 and is well typed, which follows from the types
+/// of its parts. A proof calls it for its clause, a premise of the laws below.
 pub fn types_each_call(calls: &[(Moment, Call)])
     ensures { AreWellTyped calls.now }
 {
@@ -33,7 +33,8 @@ pub fn types_each_call(calls: &[(Moment, Call)])
     }
 }
 
-/// After a list of calls each load stands where the last of their moves of it has put it, else where it stood before.
+/// Proves that after a list of calls each load is where the last of their moves of it has put it, or where it was before
+/// if no call moves it.
 pub fn stands_where_it_was_put_last()
     ensures all { (seats : ℕ) (world : World) (calls : List (ℕ × CallOf))
         → (steps seats world calls).places ≡ moved world.places (moves seats world calls) }
@@ -41,7 +42,7 @@ pub fn stands_where_it_was_put_last()
         → finite.get (steps seats world calls).places load ≡ later_of (last_place (moves seats world calls) load) (finite.get world.places load) }
 {}
 
-/// From a lawful world each list of calls leads to a lawful world.
+/// Proves that each list of calls leads from a lawful world to a lawful world.
 pub fn stays_lawful()
     ensures { (seats : ℕ) → IsSeats seats → (world : World) (calls : List (ℕ × CallOf)) → IsLawful seats world → AreWellTyped calls
         → IsLawful seats (steps seats world calls) }
@@ -51,9 +52,9 @@ pub fn stays_lawful()
     fits_as_said();
 }
 
-/// In a list of calls from a lawful world each pick that becomes finished finds its load at the origin of its job, and
-/// each drop finds it on the vehicle, where the moves before it have left the loads. The job of a drop is live then, is
-/// for the load, and goes to the station where the load is put.
+/// Proves that in a list of calls from a lawful world each pick that becomes finished finds its load at the origin of
+/// its job, and each drop finds it on the vehicle, where the moves before it have left the loads. The job of a drop is
+/// then live, is for the load, and goes to the station where the load is put.
 pub fn finds_each_load_in_turn()
     ensures calls { (seats : ℕ) → IsSeats seats → (world : World) (calls earlier : List (ℕ × CallOf)) (effect : Effect) → IsLawful seats world → AreWellTyped calls
         → HasEffectAfter seats world calls earlier effect → FindsLoads (steps seats world earlier) effect }
@@ -67,7 +68,8 @@ pub fn finds_each_load_in_turn()
     stays_lawful();
 }
 
-/// In a list of calls from a lawful world each order picks the load of a job at most once, and drops it at most once.
+/// Proves that in a list of calls from a lawful world each order picks the load of a job at most once, and drops it
+/// at most once.
 pub fn carries_out_once()
     ensures { (seats : ℕ) → IsSeats seats → (world : World) (calls : List (ℕ × CallOf)) (kind : ActKind) (order job : List ℕ) → IsLawful seats world → AreWellTyped calls
         → times kind order job (moves seats world calls) ≤ 1 }
@@ -77,9 +79,9 @@ pub fn carries_out_once()
     fits_as_said();
 }
 
-/// A state message that is repeated after a list of calls from a lawful world moves no load, whatever came between. It
-/// changes no hold either, but where it lists as finished a cancelOrder that the desk has written only since then.
-/// Where the vehicle was not resynced since, the message changes nothing at all.
+/// Proves that a state message that is repeated after a list of calls from a lawful world moves no load, whatever came
+/// between. It changes no hold either, unless it reports as finished a cancelOrder that the desk has made only since
+/// then. If the vehicle was not resynced since then, the message changes nothing at all.
 pub fn repeats_quietly()
     ensures moves { (seats : ℕ) → IsSeats seats → (world : World) (calls : List (ℕ × CallOf)) (at : ℕ) (key : VehicleKey) (state : Message)
         → IsLawful seats world → AreWellTyped calls → IsRepeated seats world calls key state

@@ -1,8 +1,8 @@
-//! What holds of the loads and the jobs, for every lawful world and call.
+//! What is true of the loads and the jobs after each call in a lawful world.
 ghost use Rattle.std.specs.Prelude.{◌≡◌, ℕ};
-ghost use Rattle.agv_world.specs.StockInvariant.{HasStockInvariant};
-ghost use Rattle.agv_world.specs.LawfulParts.{HasLawfulVehicles};
-ghost use Rattle.agv_world.specs.Worlds.{World};
+ghost use Rattle.agv_world_core.specs.StockInvariant.{HasStockInvariant};
+ghost use Rattle.agv_world_core.specs.LawfulParts.{HasLawfulVehicles};
+ghost use Rattle.agv_world_core.specs.Worlds.{World};
 ghost use Rattle.agv_desk.specs.ActedMoves.{FindsLoads};
 ghost use Rattle.agv_desk.specs.Outcomes.{Effect, Made, after};
 ghost use Rattle.agv_desk.specs.Step.{step};
@@ -13,7 +13,8 @@ use agv_layout::laws::gives_itself;
 use agv_order::laws::{fits_as_said, plans_go_by_routes};
 use agv_track::laws::advances;
 
-/// Where the vehicles are lawful, and the loads, the jobs and the trips are joined, these are joined after each call.
+/// Proves that the rules of the loads and the jobs (`HasStockInvariant`) are kept by each call, if
+/// the vehicles are lawful.
 pub fn keeps_stock_invariant()
     ensures { (seats : ℕ) (world : World) (at : ℕ) (call : Call) → IsWellTyped call
         → HasLawfulVehicles seats world → HasStockInvariant world → HasStockInvariant (after world (step seats world at call)) }
@@ -24,8 +25,8 @@ pub fn keeps_stock_invariant()
     advances();
 }
 
-/// Each act that becomes finished finds its load: a pick at the origin of its job, and a drop on the vehicle; and the
-/// job rides still.
+/// Proves that each act that becomes finished finds its load, a pick at the origin of its job and a drop on the
+/// vehicle, and that the job still rides.
 pub fn acts_find_their_loads()
     ensures { (seats : ℕ) (world : World) (at : ℕ) (call : Call) (effect : Effect)
         → HasLawfulVehicles seats world → HasStockInvariant world → step seats world at call ≡ Made effect → FindsLoads world effect }

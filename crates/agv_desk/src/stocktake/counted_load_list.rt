@@ -3,17 +3,17 @@ ghost use Rattle.std.specs.Prelude.{◌≡◌, ℕ, ◌<◌, List, IfOk, OnOk};
 ghost use Rattle.std.specs.FinMap as map;
 ghost use Rattle.std.specs.List.{list_any, filter_map};
 ghost use Rattle.std.specs.Option.{unwrap_or};
-ghost use Rattle.agv_world.specs.Asks.{Asks};
+ghost use Rattle.agv_world_core.specs.Asks.{Asks};
 ghost use Rattle.agv_desk.specs.CountParts.{Tells, counted_loads, unknown_one, counted_up, count_at, with_counted_load};
 ghost use Rattle.agv_desk.specs.StocktakeSteps.{is_on_vehicle};
 
 use crate::stocktake::counted_load::CountedLoad;
 use agv_header::{Memory, Name};
 use agv_stock::Place;
-use agv_world::{ByName, Fault, Floor};
+use agv_world_core::{ByName, Fault, Floor};
 use std::alloc::Global;
 
-/// Looks up the loads of the rows, in their order; the places of some are known.
+/// Looks up the places of the loads of the rows, in their order: in `places`, or else by asking the floor.
 pub(crate) fn look_up<F: Floor>(
     alloc: Global,
     floor: &mut F,
@@ -29,7 +29,7 @@ pub(crate) fn look_up<F: Floor>(
     Ok(counted_list)
 }
 
-// Looks up the load of a row, if one was found.
+/// Looks up the load of a row, if it has one.
 fn note_counted_load<F: Floor>(
     floor: &mut F,
     places: &ByName<Place>,
@@ -50,7 +50,7 @@ fn note_counted_load<F: Floor>(
     Ok(())
 }
 
-// Where the load is recorded. The floor is asked for one whose place is not known.
+/// Returns where the load is recorded: by `places`, or else by asking the floor.
 fn place_of<F: Floor>(
     floor: &mut F,
     places: &ByName<Place>,
@@ -64,14 +64,14 @@ fn place_of<F: Floor>(
     floor.place(load)
 }
 
-/// Whether one of the loads is recorded on a vehicle.
+/// Returns whether one of the loads is recorded on a vehicle.
 pub(crate) fn some_on_vehicle(counted_list: &[CountedLoad]) -> bool
     ensures { result ≡ list_any (λ one. is_on_vehicle one.place) counted_list.now }
 {
     counted_list.iter().any(|one| one.is_on_vehicle())
 }
 
-/// The loads that are not known, or have left, in the order of the rows.
+/// Returns the loads that are unknown or have left, in the order of the rows.
 pub(crate) fn unknown(alloc: Global, counted_list: &[CountedLoad]) -> Result<Vec<Name>, Memory>
     ensures { IfOk result (λ names. names.items ≡ filter_map unknown_one counted_list.now) }
 {
@@ -84,7 +84,7 @@ pub(crate) fn unknown(alloc: Global, counted_list: &[CountedLoad]) -> Result<Vec
     Ok(unknown)
 }
 
-/// How many known loads were found at each station.
+/// Returns how many known loads that have not left were found at each station.
 pub(crate) fn counts(alloc: Global, counted_list: &[CountedLoad]) -> Result<ByName<usize>, Memory>
     ensures { IfOk result (λ counts. (station : List ℕ) → unwrap_or (map.get counts station) 0 ≡ count_at counted_list.now station) }
 {
@@ -95,7 +95,7 @@ pub(crate) fn counts(alloc: Global, counted_list: &[CountedLoad]) -> Result<ByNa
     Ok(counts)
 }
 
-// Counts a load at the station where it was found, if it is known.
+/// Counts a load at the station where it was found, if it is known and has not left.
 fn count_up(counts: &mut ByName<usize>, one: &CountedLoad) -> Result<(), Memory>
     requires { unwrap_or (map.get counts.old one.now.station) 0 < usize.MAX }
     ensures { OnOk result ((station : List ℕ) → unwrap_or (map.get counts.new station) 0 ≡ counted_up one.now (unwrap_or (map.get counts.old station) 0) station) }

@@ -3,10 +3,10 @@ ghost use Rattle.std.specs.Prelude.{◌≡◌, IfOk};
 ghost use Rattle.agv_desk.specs.CountParts.{AreFound, noted_load};
 
 use agv_header::{Memory, Name};
-use agv_world::ByName;
+use agv_world_core::ByName;
 use std::alloc::Global;
 
-/// The loads on the rows, each with the station where it was found; none where a load stands on two rows.
+/// Returns the loads of the rows, each with the station where it was found, or `None` if a load is on two rows.
 pub(crate) fn found_loads(
     alloc: Global,
     rows: &[(Name, Option<Name>)],
@@ -22,7 +22,7 @@ pub(crate) fn found_loads(
     Ok(Some(found))
 }
 
-// Whether the load of a row is on no row before it; it is noted then.
+/// Notes the load of a row, and returns whether it was not noted before: `true` too for a row without a load.
 fn note_load(found: &mut ByName<Name>, station: Name, load: Option<Name>) -> Result<bool, Memory>
     ensures { IfOk result (λ new. (new, found.new) ≡ noted_load found.old station load) }
 {

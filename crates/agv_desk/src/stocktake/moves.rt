@@ -2,7 +2,7 @@
 ghost use Rattle.std.specs.Prelude.{◌≡◌, List, IfOk, OnOk};
 ghost use Rattle.std.specs.FinMap as map;
 ghost use Rattle.std.specs.List.{list_any};
-ghost use Rattle.agv_world.specs.Asks.{Asks};
+ghost use Rattle.agv_world_core.specs.Asks.{Asks};
 ghost use Rattle.agv_desk.specs.CountParts.{moves_in, with_new_place, recorded, settled};
 ghost use Rattle.agv_desk.specs.Shared.{is_in_job};
 ghost use Rattle.agv_desk.specs.StocktakeSteps.{from_station, new_place};
@@ -11,22 +11,22 @@ use crate::stocktake::counted_load::CountedLoad;
 use agv_header::{Memory, Name};
 use agv_layout::StationSite;
 use agv_stock::Place;
-use agv_world::{ByName, Fault, Floor};
+use agv_world_core::{ByName, Fault, Floor};
 use std::alloc::Global;
 
-/// What was counted, and what was found there.
+/// The stations that were counted, and the loads that were found or are recorded there.
 #[derive(Drop)]
 pub(crate) struct Count {
     /// The stations that were counted.
     pub(crate) stations: ByName<StationSite>,
-    /// The station where each found load was found.
+    /// The station at which each found load was found.
     pub(crate) found: ByName<Name>,
-    /// The loads that stand at these stations, and their places.
+    /// The loads that are recorded at these stations, with their places.
     pub(crate) standing: Vec<(Name, Place)>,
 }
 
 impl Count {
-    /// The loads that move, and their new places, in the order of the loads' names.
+    /// Returns the loads that move, with their new places, in the order of the loads' names.
     #[tactic(auto, unfolding(crate::specs::CountParts::moves_in))]
     pub(crate) fn moves(
         &self,
@@ -41,7 +41,7 @@ impl Count {
         moves.list(alloc)
     }
 
-    // Notes where the found loads go.
+    /// Notes the new places of the found loads that move.
     #[tactic(auto, unfolding(crate::specs::CountParts::settled))]
     fn settle_found(
         &self,
@@ -58,7 +58,7 @@ impl Count {
         Ok(())
     }
 
-    // Notes where a load goes that is recorded at this place, if it moves.
+    /// Notes the new place of a load that is recorded at this place, if it moves.
     fn settle(&self, moves: &mut ByName<Place>, load: Name, place: Place) -> Result<(), Memory>
         ensures { OnOk result (moves.new ≡ with_new_place moves.old load (new_place (map.contains_key self.now.stations) (map.get self.now.found load) place)) }
     {
@@ -68,7 +68,7 @@ impl Count {
         Ok(())
     }
 
-    // Where a load goes that is recorded at this place, if it moves.
+    /// Returns the new place of a load that is recorded at this place, if it moves.
     fn new_place(&self, load: Name, place: Place) -> Option<Place>
         ensures { result ≡ new_place (map.contains_key self.now.stations) (map.get self.now.found load) place }
     {
@@ -79,7 +79,7 @@ impl Count {
         }
     }
 
-    // Where a load goes that is recorded at this station, if it moves.
+    /// Returns the new place of a load that is recorded at this station, if it moves.
     fn from_station(&self, load: Name, id: Name) -> Option<Place>
         ensures { result ≡ from_station (map.contains_key self.now.stations id) id (map.get self.now.found load) }
     {
@@ -91,7 +91,7 @@ impl Count {
         }
     }
 
-    // Notes where the loads go that stand at these places.
+    /// Notes the new places of the loads that move among those recorded at the counted stations.
     #[tactic(auto, unfolding(crate::specs::CountParts::settled))]
     fn settle_standing(
         &self,
@@ -107,7 +107,7 @@ impl Count {
     }
 }
 
-/// Whether one of the loads that move has a live job.
+/// Returns whether one of the loads that move has a live job.
 pub(crate) fn moves_in_job<F: Floor>(floor: &mut F, moves: &[(Name, Place)]) -> Result<bool, Fault>
     ensures { Asks F.facts floor.old floor.new result (λ world found. found ≡ list_any (λ load. is_in_job world load.0) moves.now) }
 {

@@ -1,20 +1,21 @@
-//! Whether what a stocktake has found fits.
+//! Whether the loads that a stocktake has found fit.
 ghost use Rattle.std.specs.Prelude.{◌≡◌, ℕ, List};
 ghost use Rattle.std.specs.FinMap as map;
 ghost use Rattle.std.specs.List.{list_all};
 ghost use Rattle.std.specs.Option.{unwrap_or};
-ghost use Rattle.agv_world.specs.Asks.{Asks};
-ghost use Rattle.agv_world.specs.Questions.{reserved};
+ghost use Rattle.agv_world_core.specs.Asks.{Asks};
+ghost use Rattle.agv_world_core.specs.Questions.{reserved};
 ghost use Rattle.agv_desk.specs.CountParts.{has_room_for, all_have_room, count_at};
 
 use crate::stocktake::counted_load::CountedLoad;
 use crate::stocktake::counted_load_list::counts;
 use agv_header::Name;
 use agv_layout::StationSite;
-use agv_world::{ByName, Fault, Floor};
+use agv_world_core::{ByName, Fault, Floor};
 use std::alloc::Global;
 
-/// Whether the known loads that were found at each of the stations fit there, with the live jobs to it.
+/// Returns whether, at each of the stations, the known loads that were found fit, with the live
+/// jobs to it.
 pub(crate) fn all_fit<F: Floor>(
     alloc: Global,
     floor: &mut F,
@@ -28,7 +29,7 @@ pub(crate) fn all_fit<F: Floor>(
     each_fits(floor, &counts, &stations)
 }
 
-// Whether they fit at each of the stations.
+/// Returns whether the loads that were found at each of the stations fit there, with the live jobs to it.
 fn each_fits<F: Floor>(
     floor: &mut F,
     counts: &ByName<usize>,
@@ -44,7 +45,7 @@ fn each_fits<F: Floor>(
     Ok(true)
 }
 
-// Whether the loads that were found at a station fit there, with the live jobs to it.
+/// Returns whether the loads that were found at a station fit there, with the live jobs to it.
 fn fits<F: Floor>(
     floor: &mut F,
     counts: &ByName<usize>,
@@ -58,7 +59,7 @@ fn fits<F: Floor>(
     Ok(has_room_for(found, reserved, site))
 }
 
-// Whether these numbers of loads and jobs fit there.
+/// Returns whether this many loads and jobs fit at the station.
 fn has_room_for(found: usize, reserved: usize, site: StationSite) -> bool
     ensures { result ≡ has_room_for found reserved site }
 {

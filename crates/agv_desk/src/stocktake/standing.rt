@@ -1,18 +1,18 @@
-//! The loads that stand at the stations of a stocktake.
+//! The loads that are recorded at the stations of a stocktake.
 ghost use Rattle.std.specs.Prelude.{◌≡◌, ◌++◌, IfOk, OnOk};
 ghost use Rattle.std.specs.FinMap as map;
-ghost use Rattle.agv_world.specs.Asks.{Asks};
-ghost use Rattle.agv_world.specs.Questions.{loads_at};
-ghost use Rattle.agv_world.specs.Worlds.{World};
+ghost use Rattle.agv_world_core.specs.Asks.{Asks};
+ghost use Rattle.agv_world_core.specs.Questions.{loads_at};
+ghost use Rattle.agv_world_core.specs.Worlds.{World};
 ghost use Rattle.agv_desk.specs.CountParts.{AreThere, Tells, standing, standing_at};
 
 use agv_header::{Memory, Name};
 use agv_layout::StationSite;
 use agv_stock::Place;
-use agv_world::{ByName, Fault, Floor};
+use agv_world_core::{ByName, Fault, Floor};
 use std::alloc::Global;
 
-/// The loads that stand at each of the stations, and their places.
+/// Returns the loads that are recorded at the stations, with their places.
 pub(crate) fn standing_loads<F: Floor>(
     alloc: Global,
     floor: &mut F,
@@ -24,7 +24,7 @@ pub(crate) fn standing_loads<F: Floor>(
     standing_at_each(alloc, floor, &stations)
 }
 
-// The loads that stand at each of these stations, in their order.
+/// Returns the loads that are recorded at these stations, in their order, with their places.
 fn standing_at_each<F: Floor>(
     alloc: Global,
     floor: &mut F,
@@ -39,7 +39,7 @@ fn standing_at_each<F: Floor>(
     Ok(standing)
 }
 
-// Notes the loads that stand at a station.
+/// Adds the loads that are recorded at a station.
 fn note_standing<F: Floor>(
     floor: &mut F,
     standing: &mut Vec<(Name, Place)>,
@@ -52,7 +52,7 @@ fn note_standing<F: Floor>(
     Ok(())
 }
 
-// Notes that these loads stand at the station.
+/// Adds these loads, with the station as their place.
 fn note_loads(
     standing: &mut Vec<(Name, Place)>,
     station: Name,
@@ -66,7 +66,7 @@ fn note_loads(
     Ok(())
 }
 
-/// The places of these loads, by the loads' names.
+/// Returns these loads' places by the loads' names.
 pub(crate) fn by_load(alloc: Global, loads: &[(Name, Place)]) -> Result<ByName<Place>, Memory>
     ensures { IfOk result (λ places. (world : World) → AreThere world loads.now → Tells world places) }
 {

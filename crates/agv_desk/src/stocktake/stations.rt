@@ -1,15 +1,15 @@
 //! The stations of a stocktake.
 ghost use Rattle.std.specs.Prelude.{◌≡◌};
 ghost use Rattle.std.specs.FinMap as map;
-ghost use Rattle.agv_world.specs.Asks.{Asks};
+ghost use Rattle.agv_world_core.specs.Asks.{Asks};
 ghost use Rattle.agv_desk.specs.CountParts.{AreCounted, noted_station};
 
 use agv_header::Name;
 use agv_layout::StationSite;
-use agv_world::{ByName, Fault, Floor};
+use agv_world_core::{ByName, Fault, Floor};
 use std::alloc::Global;
 
-/// The stations of the rows; none where one of them is not known.
+/// Returns the stations of the rows, or `None` if one of them is unknown.
 pub(crate) fn counted_stations<F: Floor>(
     alloc: Global,
     floor: &mut F,
@@ -26,7 +26,7 @@ pub(crate) fn counted_stations<F: Floor>(
     Ok(Some(stations))
 }
 
-// Whether the station is known; it is noted then. The floor is asked for a station that is not noted yet.
+/// Notes the station, and returns whether it is known. It asks the floor only for a station that is not noted yet.
 fn note_station<F: Floor>(
     floor: &mut F,
     stations: &mut ByName<StationSite>,

@@ -1,6 +1,6 @@
 use Rattle.std.proofs.Common.{◌++◌, refl}
 use Rattle.std.specs.List.{zip}
-use Rattle.agv_world.proofs.lists.Asking.{retold}
+use Rattle.agv_world_core.proofs.lists.Asking.{retold}
 use Rattle.agv_desk.proofs.row_changes.ActJobs.{job_rows, rows-more}
 use Rattle.agv_desk.proofs.lists.AskedInTurn.{asked_next, says_so}
 use Rattle.agv_desk.proofs.lists.Pairs.{all_made, no_more, one_more}

@@ -1,8 +1,8 @@
 use Rattle.std.proofs.Common.{◌≡◌, ◌++◌, ℕ, List, map}
 use Rattle.std.specs.List.{zip}
-use Rattle.agv_world.specs.Asks.{Answers}
-use Rattle.agv_world.specs.declared.change.Change.TheVariants as row
-use Rattle.agv_world.specs.declared.row.JobRow.{JobRow}
+use Rattle.agv_world_core.specs.Asks.{Answers}
+use Rattle.agv_world_core.specs.declared.change.Change.TheVariants as row
+use Rattle.agv_world_core.specs.declared.row.JobRow.{JobRow}
 use Rattle.agv_desk.specs.ActSteps.{Renewed, act_jobs}
 use Rattle.agv_desk.proofs.acts.push_jobs.Given as goal
 

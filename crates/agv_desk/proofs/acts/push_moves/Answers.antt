@@ -1,5 +1,5 @@
 use Rattle.std.proofs.Common.{map, refl}
-use Rattle.agv_world.specs.declared.change.Change.TheVariants as row
+use Rattle.agv_world_core.specs.declared.change.Change.TheVariants as row
 use Rattle.agv_desk.specs.ActSteps.{act_moves}
 use Rattle.agv_desk.specs.Outcomes.{Move}
 use Rattle.agv_desk.proofs.lists.Pairs.{all_made, no_more}

@@ -1,6 +1,6 @@
 use Rattle.std.proofs.Common.{◌≡◌, ◌++◌, ℕ, List, map}
 use Rattle.std.specs.List.{zip}
-use Rattle.agv_world.specs.declared.change.Change.TheVariants as row
+use Rattle.agv_world_core.specs.declared.change.Change.TheVariants as row
 use Rattle.agv_desk.specs.ActSteps.{act_moves}
 use Rattle.agv_desk.specs.Outcomes.{Move}
 use Rattle.agv_desk.proofs.acts.push_moves.Given as goal

@@ -1,7 +1,7 @@
 use Rattle.std.proofs.Common.{◌≡◌, ◌++◌, ℕ, true, List, map, drop}
-use Rattle.agv_world.specs.Asks.{Answers}
-use Rattle.agv_world.specs.declared.change.Change.TheVariants as row
-use Rattle.agv_world.specs.declared.row.JobRow.{JobRow}
+use Rattle.agv_world_core.specs.Asks.{Answers}
+use Rattle.agv_world_core.specs.declared.change.Change.TheVariants as row
+use Rattle.agv_world_core.specs.declared.row.JobRow.{JobRow}
 use Rattle.agv_desk.specs.ActSteps.{act_jobs, as_it_is}
 use Rattle.agv_desk.proofs.acts.stop_acts.Given as goal
 

@@ -1,7 +1,7 @@
 use Rattle.std.proofs.Common.{ap, ◌∙◌}
-use Rattle.agv_world.specs.Changes.{changed}
-use Rattle.agv_world.specs.Maps.{maps_of}
-use Rattle.agv_world.proofs.lists.Asking.{asked_as}
+use Rattle.agv_world_core.specs.Changes.{changed}
+use Rattle.agv_world_core.specs.Maps.{maps_of}
+use Rattle.agv_world_core.proofs.lists.Asking.{asked_as}
 use Rattle.agv_desk.specs.declared.answer.Decision.{Decision}
 use Rattle.agv_desk.proofs.outcomes.Deciding.{of_size}
 use Rattle.agv_desk.proofs.outcomes.DecisionEnds.{ends_failed, leaves_seats, leaves_world}

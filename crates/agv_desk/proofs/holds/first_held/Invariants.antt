@@ -1,7 +1,7 @@
 use Rattle.std.proofs.Common.{◌≡◌, drop}
-use Rattle.agv_holds.specs.Holds.{first_held}
-use Rattle.agv_world.specs.Asks.{Answers}
-use Rattle.agv_world.specs.Maps.{maps_of}
+use Rattle.agv_track_holds.specs.Holds.{first_held}
+use Rattle.agv_world_core.specs.Asks.{Answers}
+use Rattle.agv_world_core.specs.Maps.{maps_of}
 use Rattle.agv_desk.proofs.holds.first_held.Given as goal
 
 abbrev pub invariant-loop-thing : goal.invariant-loop-thing

@@ -1,7 +1,7 @@
 use Rattle.std.proofs.Common.{◌≡◌, ◌++◌, map, drop}
 use Rattle.agv_header.specs.declared.key.Thing.{Thing as Held}
-use Rattle.agv_holds.specs.Holders.{gained}
-use Rattle.agv_world.specs.declared.change.Change.TheVariants as row
+use Rattle.agv_track_holds.specs.Holders.{gained}
+use Rattle.agv_world_core.specs.declared.change.Change.TheVariants as row
 use Rattle.agv_desk.proofs.holds.push_gained.Given as goal
 
 abbrev pub invariant-loop-thing : goal.invariant-loop-thing

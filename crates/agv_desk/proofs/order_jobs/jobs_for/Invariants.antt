@@ -1,5 +1,5 @@
 use Rattle.std.proofs.Common.{◌≡◌, drop}
-use Rattle.agv_world.specs.Asks.{Answers}
+use Rattle.agv_world_core.specs.Asks.{Answers}
 use Rattle.agv_desk.specs.FoundJobs.{AreFound}
 use Rattle.agv_desk.specs.OrderSteps.{jobs_for}
 use Rattle.agv_desk.proofs.lists.Each.{after}

@@ -1,6 +1,6 @@
 use Rattle.std.proofs.Common.{◌≡◌, ◌++◌, List, ℕ, map, drop}
-use Rattle.agv_world.specs.declared.change.Change.TheVariants as row
-use Rattle.agv_world.specs.declared.row.JobRow.{JobRow}
+use Rattle.agv_world_core.specs.declared.change.Change.TheVariants as row
+use Rattle.agv_world_core.specs.declared.row.JobRow.{JobRow}
 use Rattle.agv_desk.proofs.order_jobs.push_jobs.Given as goal
 
 abbrev pub invariant-loop-name : goal.invariant-loop-name

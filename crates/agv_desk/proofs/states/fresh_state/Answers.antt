@@ -1,6 +1,6 @@
 use Rattle.std.proofs.Common.{rules, ◌≡◌, nat_eq, true, subst}
 use Rattle.std.specs.Cmp.Lexicographic.{pointwise}
-use Rattle.agv_world.proofs.lists.Asking.{asked_as}
+use Rattle.agv_world_core.proofs.lists.Asking.{asked_as}
 use Rattle.agv_desk.specs.Outcomes.{Outcome, decided}
 use Rattle.agv_desk.proofs.row_changes.TripStates.{is_of_trip}
 use Rattle.agv_desk.proofs.states.fresh_state.Goals as goal

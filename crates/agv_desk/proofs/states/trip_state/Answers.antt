@@ -1,5 +1,5 @@
 use Rattle.std.proofs.Common.{sym, ◌∙◌}
-use Rattle.agv_world.proofs.lists.Asking.{retold}
+use Rattle.agv_world_core.proofs.lists.Asking.{retold}
 use Rattle.agv_desk.proofs.row_changes.TripStates.{trip_state_told}
 use Rattle.agv_desk.proofs.states.trip_state.Goals as goal
 

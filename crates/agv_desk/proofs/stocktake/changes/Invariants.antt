@@ -1,5 +1,5 @@
 use Rattle.std.proofs.Common.{◌≡◌, ◌++◌, drop, map}
-use Rattle.agv_world.specs.declared.change.Change.TheVariants as row
+use Rattle.agv_world_core.specs.declared.change.Change.TheVariants as row
 use Rattle.agv_desk.proofs.stocktake.changes.Given as goal
 
 abbrev pub invariant-loop-load : goal.invariant-loop-load

@@ -4,9 +4,9 @@ use Rattle.std.specs.List.{list_any}
 use Rattle.std.proofs.lemmas.Bool.{le-ltb, lt-ltb}
 use Rattle.agv_header.specs.Limits.{most_records}
 use Rattle.agv_stock.specs.declared.place.Place.{Place}
-use Rattle.agv_world.specs.Questions.{count_of}
-use Rattle.agv_world.specs.Worlds.{World}
-use Rattle.agv_world.specs.declared.floor.Counted.TheVariants as counted
+use Rattle.agv_world_core.specs.Questions.{count_of}
+use Rattle.agv_world_core.specs.Worlds.{World}
+use Rattle.agv_world_core.specs.declared.floor.Counted.TheVariants as counted
 use Rattle.agv_desk.specs.CountParts.{all_have_room, counted_effect, moves_list}
 use Rattle.agv_desk.specs.Outcomes.{Made, decided}
 use Rattle.agv_desk.specs.Shared.{is_in_job}

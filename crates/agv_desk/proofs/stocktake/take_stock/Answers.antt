@@ -1,6 +1,6 @@
 use Rattle.std.proofs.Common.{◌≡◌, Option, sym, ap, subst, ◌∙◌}
 use Rattle.std.specs.FinMap as map
-use Rattle.agv_world.specs.Worlds.{World}
+use Rattle.agv_world_core.specs.Worlds.{World}
 use Rattle.agv_desk.specs.CountParts.{AreCounted, AreFound, AreThere, Tells, count_by_parts, counted_loads, standing, stations_in}
 use Rattle.agv_desk.specs.Outcomes.{Outcome, decided}
 use Rattle.agv_desk.specs.StocktakeSteps.{are_known, count_loads, has_twice}

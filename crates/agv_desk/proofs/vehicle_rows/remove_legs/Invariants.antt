@@ -1,8 +1,8 @@
 use Rattle.std.proofs.Common.{◌≡◌, ℕ, ◌++◌, None, map, drop}
 use Rattle.std.specs.List.{enumerate_from}
 use Rattle.agv_layout.specs.declared.edge.Edge.{Edge}
-use Rattle.agv_world.specs.VehicleChanges.{leg_removals}
-use Rattle.agv_world.specs.declared.change.Change.TheVariants as row
+use Rattle.agv_world_core.specs.VehicleChanges.{leg_removals}
+use Rattle.agv_world_core.specs.declared.change.Change.TheVariants as row
 use Rattle.agv_desk.proofs.vehicle_rows.remove_legs.Given as goal
 
 abbrev pub invariant-loop-k : goal.invariant-loop-k

@@ -1,4 +1,4 @@
-use Rattle.agv_world.proofs.lists.Asking.{retold}
+use Rattle.agv_world_core.proofs.lists.Asking.{retold}
 use Rattle.agv_desk.proofs.row_changes.VehicleRows.{put_down_told}
 use Rattle.agv_desk.proofs.vehicles.put_down.Goals as goal
 

@@ -1,5 +1,5 @@
 use Rattle.std.proofs.Common.{◌≡◌, ◌≤◌, ◌+◌, ◌-◌, ◌*◌, drop, vec_len, vec_capacity}
-use Rattle.agv_http.specs.answers.Sizes.{most_answer}
+use Rattle.agv_face_http.specs.answers.Sizes.{most_answer}
 use Rattle.agv_face.specs.StreamEnd.{most_reads}
 use Rattle.agv_face.specs.CountingIo.{calls_of, counted}
 use Rattle.agv_face.proofs.HasServed.{HasServed}

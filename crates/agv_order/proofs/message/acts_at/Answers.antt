@@ -1,5 +1,5 @@
 use Rattle.std.proofs.Common.{ap, sym, ◌∙◌, Vec, Global}
-use Rattle.agv_message.specs.declared.order.OrderAct.{OrderAct}
+use Rattle.agv_message_core.specs.declared.order.OrderAct.{OrderAct}
 use Rattle.agv_order.proofs.Messaging.{acts_yes, acts_no, pushed}
 use Rattle.agv_order.proofs.message.acts_at.Goals.{then-act-k+in_ok-push, else-act-k}
 use Rattle.agv_order.proofs.message.acts_at.Goals as goal

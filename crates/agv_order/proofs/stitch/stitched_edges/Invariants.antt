@@ -1,6 +1,6 @@
 use Rattle.std.proofs.Common.{◌≡◌, ◌++◌, take}
 use Rattle.std.specs.List.{filter}
-use Rattle.agv_message.specs.declared.order.OrderEdge.{OrderEdge}
+use Rattle.agv_message_core.specs.declared.order.OrderEdge.{OrderEdge}
 use Rattle.agv_order.proofs.stitch.stitched_edges.Given as goal
 
 abbrev pub invariant-loop-edge : goal.invariant-loop-edge

@@ -1,6 +1,6 @@
 use Rattle.std.proofs.Common.{not, ap, subst, ◌∙◌}
-use Rattle.agv_schema.specs.SchemaNumbers.{desk_seats}
-use Rattle.agv_creation.specs.StandingTables.{TablesStand}
+use Rattle.agv_store_schema.specs.SchemaNumbers.{desk_seats}
+use Rattle.agv_store_create.specs.StandingTables.{TablesStand}
 use Rattle.agv_store.proofs.Found.{finds_desk, finds_fault, finds_fault_then, finds_no_memory, finds_unlawful}
 use Rattle.agv_store.proofs.opening.find_desk.Goals as goal
 

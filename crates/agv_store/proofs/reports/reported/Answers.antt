@@ -1,10 +1,10 @@
 use Rattle.std.proofs.Common.{◌≡◌}
-use Rattle.agv_world.specs.Lawful.{IsLawful}
-use Rattle.agv_reports.specs.Reports.{report_text}
-use Rattle.agv_schema.specs.SchemaNumbers.{desk_seats}
-use Rattle.agv_keyed_floor.proofs.Asked.{err_of}
+use Rattle.agv_world_core.specs.Lawful.{IsLawful}
+use Rattle.agv_desk.specs.Reports.{report_text}
+use Rattle.agv_store_schema.specs.SchemaNumbers.{desk_seats}
+use Rattle.agv_store_floor.proofs.Asked.{err_of}
 use Rattle.agv_store.proofs.Deciding.{ends_faulted}
-use Rattle.agv_keyed_floor.proofs.InTurn.{asked_between}
+use Rattle.agv_store_floor.proofs.InTurn.{asked_between}
 use Rattle.agv_store.proofs.reports.reported.Goals as goal
 
 pub returns-in_err-bytes-clause-ends : goal.returns-in_err-bytes-clause-ends

@@ -1,4 +1,4 @@
-use Rattle.agv_keyed_floor.proofs.Asked.{err_of}
+use Rattle.agv_store_floor.proofs.Asked.{err_of}
 use Rattle.agv_store.proofs.Deciding.{decided_between, ends_faulted}
 use Rattle.agv_store.proofs.serving.decided.Goals as goal
 
@@ -9,6 +9,6 @@ returns-in_err-decision-clause-ends g c =
 
 pub returns-clause-decides : goal.returns-clause-decides
 returns-clause-decides g c =
-    decided_between g.S.Store c.serves_lawful_worlds.ensures.order c.serves_lawful_worlds.ensures.served c.keeps_lawful.ensures c.args.at c.ms-ms.ensures.range c.args.call.now c.typing_law.ensures
+    decided_between g.S.Store c.serves_lawful_worlds.ensures.order c.serves_lawful_worlds.ensures.served c.keeps_lawful.ensures c.serves_what_was_decided.ensures c.args.at c.ms-ms.ensures.range c.args.call.now c.typing_law.ensures c.requires.no_report
     c.in_ok-decision.decision c.args.floor.now c.settle.new.self c.decide.new.floor c.settle-2.new.self
     c.in_ok-settle.ensures.asks c.in_ok-decision.ensures.decides c.in_ok-decision.ensures.changes c.in_ok-settle-2.ensures.asks

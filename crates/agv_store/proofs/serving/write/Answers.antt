@@ -1,5 +1,5 @@
 use Rattle.std.proofs.Common.{subst, sym, ◌∙◌}
-use Rattle.agv_known.specs.Known.{Follows}
+use Rattle.agv_store_known.specs.Known.{Follows}
 use Rattle.agv_store.proofs.Writing.{crash_written, consistent_refused, consistent_written, serves_written}
 use Rattle.agv_store.proofs.serving.write.Goals as goal
 

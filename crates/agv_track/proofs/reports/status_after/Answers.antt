@@ -1,6 +1,6 @@
 use Rattle.std.proofs.Common.{◌≡◌, ◌<◌, ◌≤◌, List, length, get_or, sym, ap, subst, ◌∙◌}
 use Rattle.std.specs.Option.{unwrap_or}
-use Rattle.agv_message.specs.Order.{act_id}
+use Rattle.agv_message_core.specs.Order.{act_id}
 use Rattle.agv_order.specs.declared.act.Act.{Act}
 use Rattle.agv_track.specs.Reports.{told}
 use Rattle.agv_track.proofs.Numbered.{status-at, status-past}

@@ -3,7 +3,7 @@ use Rattle.std.proofs.Math.ListN.{set}
 use Rattle.std.proofs.lemmas.List.{length-set}
 use Rattle.std.proofs.lemmas.List.Edits.{fill_by_more}
 use Rattle.std.proofs.lemmas.List.FromFn.{fill_by_all}
-use Rattle.agv_message.specs.declared.status.Status.TheVariants.{Waiting}
+use Rattle.agv_message_core.specs.declared.status.Status.TheVariants.{Waiting}
 use Rattle.agv_track.specs.Judgements.{nth_status, eight, new_statuses}
 use Rattle.agv_track.proofs.reports.statuses_after.Goals as goal
 

@@ -1,5 +1,5 @@
 use Rattle.std.proofs.Common.{◌≡◌, ℕ, ◌<◌, length, get_or}
-use Rattle.agv_message.specs.declared.status.Status.TheVariants.{Waiting}
+use Rattle.agv_message_core.specs.declared.status.Status.TheVariants.{Waiting}
 use Rattle.agv_track.specs.Judgements.{nth_status, new_statuses}
 use Rattle.agv_track.proofs.reports.statuses_after.Given as goal
 

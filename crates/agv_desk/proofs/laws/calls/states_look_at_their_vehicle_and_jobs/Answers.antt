@@ -3,8 +3,8 @@ use Rattle.std.specs.Option.{option_map, option_and_then}
 use Rattle.agv_header.specs.Count.{is_fresh}
 use Rattle.agv_header.specs.declared.key.VehicleKey.{VehicleKey}
 use Rattle.agv_header.specs.declared.refusal.Refusal.TheVariants as refusal
-use Rattle.agv_message.specs.declared.state.StateMessage.{StateMessage}
-use Rattle.agv_world.specs.Worlds.{Vehicle, World}
+use Rattle.agv_message_core.specs.declared.state.StateMessage.{StateMessage}
+use Rattle.agv_world_core.specs.Worlds.{Vehicle, World}
 use Rattle.agv_desk.specs.Outcomes.{Outcome, Made, refuse_if_none, branch, answer_only}
 use Rattle.agv_desk.specs.StateSteps.{fresh_state}
 use Rattle.agv_desk.specs.declared.answer.Answer.TheVariants as answer

@@ -1,6 +1,6 @@
 use Rattle.std.proofs.Common.{◌++◌, ◌+◌, List, drop, ap, subst, sym, ◌∙◌}
-use Rattle.agv_world.proofs.lists.Asking.{retold}
-use Rattle.agv_world.specs.Worlds.{World}
+use Rattle.agv_world_core.proofs.lists.Asking.{retold}
+use Rattle.agv_world_core.specs.Worlds.{World}
 use Rattle.agv_desk.specs.CountParts.{Tells, counted_loads, with_counted_load}
 use Rattle.agv_desk.specs.declared.stocktake.counted_load.CountedLoad.{CountedLoad}
 use Rattle.agv_desk.proofs.lists.AskedInTurn.{asked_next, says_so}

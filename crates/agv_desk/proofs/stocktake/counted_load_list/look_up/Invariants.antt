@@ -1,5 +1,5 @@
 use Rattle.std.proofs.Common.{◌≡◌, ◌++◌, drop}
-use Rattle.agv_world.specs.Asks.{Answers}
+use Rattle.agv_world_core.specs.Asks.{Answers}
 use Rattle.agv_desk.specs.CountParts.{Tells, counted_loads}
 use Rattle.agv_desk.proofs.stocktake.counted_load_list.look_up.Given as goal
 

@@ -1,8 +1,8 @@
 use Rattle.std.proofs.Common.{ℕ, Bool, List, ap, ◌∙◌}
 use Rattle.std.specs.List.{list_all}
 use Rattle.agv_layout.specs.declared.station.StationSite.{StationSite}
-use Rattle.agv_world.proofs.lists.Asking.{asked_as}
-use Rattle.agv_world.specs.Questions.{reserved}
+use Rattle.agv_world_core.proofs.lists.Asking.{asked_as}
+use Rattle.agv_world_core.specs.Questions.{reserved}
 use Rattle.agv_desk.specs.CountParts.{has_room_for, count_at}
 use Rattle.agv_desk.proofs.stocktake.room.all_fit.Goals as goal
 

@@ -1,8 +1,8 @@
 use Rattle.std.proofs.Common.{◌≡◌, drop, unwrap_or}
 use Rattle.std.specs.FinMap as map
 use Rattle.std.specs.List.{list_all}
-use Rattle.agv_world.specs.Asks.{Answers}
-use Rattle.agv_world.specs.Questions.{reserved}
+use Rattle.agv_world_core.specs.Asks.{Answers}
+use Rattle.agv_world_core.specs.Questions.{reserved}
 use Rattle.agv_desk.specs.CountParts.{has_room_for}
 use Rattle.agv_desk.proofs.stocktake.room.each_fits.Given as goal
 

@@ -1,4 +1,4 @@
-use Rattle.agv_world.specs.Worlds.{World}
+use Rattle.agv_world_core.specs.Worlds.{World}
 use Rattle.agv_desk.specs.CountParts.{AreThere, Tells}
 use Rattle.agv_desk.proofs.stocktake.standing.by_load.Given as goal
 

@@ -1,8 +1,8 @@
 use Rattle.std.proofs.Common.{◌++◌, ◌+◌, ℕ, List, drop, ap, ◌∙◌}
 use Rattle.agv_stock.specs.declared.place.Place.{Place}
-use Rattle.agv_world.proofs.lists.Asking.{retold}
-use Rattle.agv_world.specs.Questions.{loads_at}
-use Rattle.agv_world.specs.Worlds.{World}
+use Rattle.agv_world_core.proofs.lists.Asking.{retold}
+use Rattle.agv_world_core.specs.Questions.{loads_at}
+use Rattle.agv_world_core.specs.Worlds.{World}
 use Rattle.agv_desk.specs.CountParts.{standing, standing_at}
 use Rattle.agv_desk.proofs.lists.AskedInTurn.{asked_next, says_so}
 use Rattle.agv_desk.proofs.stocktakes.StandingLoads.{standing_all, standing_more}

@@ -1,5 +1,5 @@
 use Rattle.std.proofs.Common.{◌≡◌, ◌++◌, drop}
-use Rattle.agv_world.specs.Asks.{Answers}
+use Rattle.agv_world_core.specs.Asks.{Answers}
 use Rattle.agv_desk.specs.CountParts.{standing}
 use Rattle.agv_desk.proofs.stocktake.standing.standing_at_each.Given as goal
 

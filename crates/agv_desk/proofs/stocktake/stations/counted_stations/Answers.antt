@@ -1,7 +1,7 @@
 use Rattle.std.proofs.Common.{ap, ◌∙◌}
 use Rattle.std.specs.FinMap as map
-use Rattle.agv_world.proofs.lists.Asking.{retold}
-use Rattle.agv_world.specs.Worlds.{World}
+use Rattle.agv_world_core.proofs.lists.Asking.{retold}
+use Rattle.agv_world_core.specs.Worlds.{World}
 use Rattle.agv_desk.specs.CountParts.{noted_station}
 use Rattle.agv_desk.proofs.lists.AskedInTurn.{asked_next, says_so}
 use Rattle.agv_desk.proofs.stocktakes.CountedStations.{all_noted, unknown_row}

@@ -1,6 +1,6 @@
 use Rattle.std.proofs.Common.{◌≡◌, drop}
 use Rattle.std.specs.FinMap as map
-use Rattle.agv_world.specs.Asks.{Answers}
+use Rattle.agv_world_core.specs.Asks.{Answers}
 use Rattle.agv_desk.proofs.stocktakes.CountedStations.{gathered}
 use Rattle.agv_desk.proofs.stocktake.stations.counted_stations.Given as goal
 

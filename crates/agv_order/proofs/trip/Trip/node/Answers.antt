@@ -1,6 +1,6 @@
 use Rattle.std.proofs.Common.{◌≡◌, ℕ, List, ◌*◌, nat_le, ap, ◌∙◌}
-use Rattle.agv_message.specs.declared.order.OrderAct.{OrderAct}
-use Rattle.agv_message.specs.declared.order.OrderNode.{OrderNode}
+use Rattle.agv_message_core.specs.declared.order.OrderAct.{OrderAct}
+use Rattle.agv_message_core.specs.declared.order.OrderNode.{OrderNode}
 use Rattle.agv_order.specs.declared.act.Act.{Act}
 use Rattle.agv_order.specs.Messages.{acts_at}
 use Rattle.agv_order.proofs.trip.Trip.node.Goals as goal

@@ -1,6 +1,6 @@
 use Rattle.std.proofs.Common.{◌≡◌, ◌<◌, length, get_or, take, ap, sym, ◌∙◌, Vec, Global, arith}
 use Rattle.std.proofs.lemmas.List.{length-take-le}
-use Rattle.agv_message.specs.declared.order.OrderEdge.{OrderEdge}
+use Rattle.agv_message_core.specs.declared.order.OrderEdge.{OrderEdge}
 use Rattle.agv_order.proofs.Messaging.{edges_along, edges_more, edges_count, more_left, none_left, pushed}
 use Rattle.agv_order.proofs.trip.Trip.sent_edges.Goals.{then-self-k+in_ok-push, else-self-k}
 use Rattle.agv_order.proofs.trip.Trip.sent_edges.Goals as goal

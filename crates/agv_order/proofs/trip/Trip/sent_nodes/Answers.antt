@@ -1,6 +1,6 @@
 use Rattle.std.proofs.Common.{◌≡◌, ◌+◌, ◌<◌, length, get_or, take, ap, sym, ◌∙◌, Vec, Global, arith}
 use Rattle.std.proofs.lemmas.List.{length-take-le}
-use Rattle.agv_message.specs.declared.order.OrderNode.{OrderNode}
+use Rattle.agv_message_core.specs.declared.order.OrderNode.{OrderNode}
 use Rattle.agv_order.proofs.Messaging.{nodes_along, nodes_more, nodes_count, more_left, none_left, pushed}
 use Rattle.agv_order.proofs.trip.Trip.sent_nodes.Goals.{then-self-k+in_ok-node-2+in_ok-push-2, else-self-k}
 use Rattle.agv_order.proofs.trip.Trip.sent_nodes.Goals as goal

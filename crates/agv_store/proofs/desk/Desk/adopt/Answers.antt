@@ -1,8 +1,8 @@
 use Rattle.std.proofs.Common.{◌≡◌, Err, refl}
 use Rattle.sqlite.specs.Held.{Held}
 use Rattle.agv_store.specs.Opening.{IsDamaged, IsStorage, Opening}
-use Rattle.agv_row_queries.specs.declared.open_fault.OpenFault.{OpenFault}
-use Rattle.agv_row_queries.specs.declared.open_fault.OpenFault.TheVariants as fault
+use Rattle.agv_store_read.specs.declared.open_fault.OpenFault.{OpenFault}
+use Rattle.agv_store_read.specs.declared.open_fault.OpenFault.TheVariants as fault
 use Rattle.agv_store.proofs.Found.{found_consistent}
 use Rattle.agv_store.proofs.desk.Desk.adopt.Goals as goal
 

@@ -4,15 +4,15 @@ use Rattle.sqlite_schema.specs.declared.schema.Schema.{Schema}
 use Rattle.sqlite_trees.specs.declared.store.Store.{Ghosts}
 use Rattle.sqlite.specs.Effect.{Database}
 use Rattle.sqlite.specs.Held.{Held, state}
-use Rattle.agv_world.specs.Worlds.{World, empty_world}
-use Rattle.agv_creation.specs.DeskSchema.{is_name_taken}
-use Rattle.agv_creation.specs.DeskTables.{MakesDesk}
-use Rattle.agv_world_reading.specs.NewWorld.{KnowsNothing}
-use Rattle.agv_creation.specs.NewDesk.{AllowsDesk, MadeDesksStand, StandsNew}
-use Rattle.agv_schema.specs.Connections.{IsClean, IsOpen}
-use Rattle.agv_known.specs.Known.{IsKnownIn}
-use Rattle.agv_known.specs.declared.known.Known.{Known}
-use Rattle.agv_keyed_floor.specs.Floors.{IsConsistent, Keyed, Knows, world_at}
+use Rattle.agv_world_core.specs.Worlds.{World, empty_world}
+use Rattle.agv_store_create.specs.DeskSchema.{is_name_taken}
+use Rattle.agv_store_create.specs.DeskTables.{MakesDesk}
+use Rattle.agv_store_read_tables.specs.NewWorld.{KnowsNothing}
+use Rattle.agv_store_create.specs.NewDesk.{AllowsDesk, MadeDesksStand, StandsNew}
+use Rattle.agv_store_schema.specs.Connections.{IsClean, IsOpen}
+use Rattle.agv_store_known.specs.Known.{IsKnownIn}
+use Rattle.agv_store_known.specs.declared.known.Known.{Known}
+use Rattle.agv_store_floor.specs.Floors.{IsConsistent, Keyed, Knows, world_at}
 use Rattle.agv_store.specs.Opening.{CanBeMade, Makes}
 use Rattle.agv_store.proofs.Found.{TellsItsWorld}
 use Rattle.agv_store.proofs.desk.Desk.create.Goals as goal

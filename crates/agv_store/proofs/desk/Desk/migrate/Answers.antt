@@ -1,9 +1,9 @@
 use Rattle.std.proofs.Common.{inl, inr, not, ap, subst, sym, ◌∙◌}
 use Rattle.sqlite.specs.Held.{state}
 use Rattle.sqlite.specs.State.{Survives}
-use Rattle.agv_first_schema.specs.Moved.{CanBeAdded}
-use Rattle.agv_schema.specs.Connections.{IsClean}
-use Rattle.agv_keyed_floor.specs.Floors.{Keyed}
+use Rattle.agv_store_migrate.specs.Moved.{CanBeAdded}
+use Rattle.agv_store_schema.specs.Connections.{IsClean}
+use Rattle.agv_store_floor.specs.Floors.{Keyed}
 use Rattle.agv_store.specs.Migration.{LeavesMigrated, Migrates}
 use Rattle.agv_store.proofs.Moving.{can_be_migrated, could_be_added, crash_leaves, damaged_only, migrates, moved_consistent, none_added, storage_only}
 use Rattle.agv_store.proofs.desk.Desk.migrate.Goals as goal

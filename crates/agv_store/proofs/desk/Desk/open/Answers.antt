@@ -2,7 +2,7 @@ use Rattle.std.proofs.Common.{◌≡◌, ◌⊎◌, ◌↔◌, Bool, false, IsTr
 use Rattle.sqlite_schema.specs.declared.schema.Schema.{Schema}
 use Rattle.sqlite_trees.specs.declared.store.Store.{Ghosts}
 use Rattle.sqlite.specs.Held.{Held}
-use Rattle.agv_schema.specs.Connections.{IsClean}
+use Rattle.agv_store_schema.specs.Connections.{IsClean}
 use Rattle.agv_store.specs.Opening.{Adopts, CanBeMade, Makes, Opening}
 use Rattle.agv_store.proofs.desk.Desk.open.Goals as goal
 

@@ -1,8 +1,0 @@
-use Rattle.std.proofs.Common.{take}
-use Rattle.agv_schema.specs.DeskRows.{Makes}
-use Rattle.agv_rows.specs.Rows.{listed_all}
-use Rattle.agv_statements.specs.WritesInside.{WritesInside}
-use Rattle.agv_changes.proofs.change_running.run_changes.Given as goal
-
-abbrev pub invariant-loop-change : goal.invariant-loop-change
-invariant-loop-change g l = WritesInside g.S.Store l.initial.tx l.tx (Makes (listed_all (take l.change-index l.changes)))

@@ -1,5 +1,0 @@
-use Rattle.std.proofs.Common.{length}
-use Rattle.agv_creation.proofs.table_match.+are_among.Given as goal
-
-abbrev pub decreases-are_among : goal.decreases-are_among
-decreases-are_among l = length l.places.now

@@ -1,5 +1,0 @@
-use Rattle.std.proofs.Common.{refl}
-use Rattle.agv_creation.proofs.table_texts.making_steps.Goals as goal
-
-pub returns : goal.returns
-returns c = rw (c.is_free.ensures, c.is_free-2.ensures, c.is_free-3.ensures, c.is_free-4.ensures) refl

@@ -1,5 +1,0 @@
-use Rattle.agv_creation.proofs.TableTexts.{all_defined}
-use Rattle.agv_creation.proofs.table_texts.texts_define_the_tables.Goals as goal
-
-pub returns : goal.returns
-returns c = all_defined

@@ -1,4 +1,0 @@
-use Rattle.agv_database.proofs.file.open_file.Goals as goal
-
-pub returns-clause-opened : goal.returns-clause-opened
-returns-clause-opened c = rw c.set_clock.ensures (c.in_ok-conn.ensures.opened)

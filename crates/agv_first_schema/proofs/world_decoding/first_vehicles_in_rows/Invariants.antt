@@ -1,9 +1,0 @@
-use Rattle.std.proofs.Common.{◌≡◌, drop}
-use Rattle.std.specs.FinMap as map
-use Rattle.agv_rows.specs.Columns.{vehicle_in}
-use Rattle.agv_row_queries.specs.ReadTables.{read_rows}
-use Rattle.agv_first_schema.proofs.world_decoding.first_vehicles_in_rows.Given as goal
-
--- what is read, and what is left, make all
-abbrev pub invariant-loop-row : goal.invariant-loop-row
-invariant-loop-row l = read_rows vehicle_in l.table (drop l.row-index l.rows) ≡ read_rows vehicle_in map.empty l.rows

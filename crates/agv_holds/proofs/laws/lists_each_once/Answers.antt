@@ -1,5 +1,0 @@
-use Rattle.agv_holds.proofs.HeldLists.{footprint-distinct}
-use Rattle.agv_holds.proofs.laws.lists_each_once.Goals as goal
-
-pub returns : goal.returns
-returns c = footprint-distinct

@@ -1,6 +1,0 @@
-use Rattle.json.specs.Print.{escape_byte}
-use Rattle.agv_http.proofs.answers.body.put_load.Goals as goal
-
-pub returns : goal.returns
-unfolding escape_byte
-returns c = c.put_pieces.ensures

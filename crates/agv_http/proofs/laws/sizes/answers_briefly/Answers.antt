@@ -1,5 +1,0 @@
-use Rattle.agv_http.proofs.answers.Lengths.{brief}
-use Rattle.agv_http.proofs.laws.sizes.answers_briefly.Goals as goal
-
-pub returns : goal.returns
-returns c = brief

@@ -1,5 +1,0 @@
-use Rattle.agv_http.proofs.answers.Lengths.{counted_brief}
-use Rattle.agv_http.proofs.laws.sizes.counts_briefly.Goals as goal
-
-pub returns : goal.returns
-returns c = counted_brief

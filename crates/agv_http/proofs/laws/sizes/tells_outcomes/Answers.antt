@@ -1,5 +1,0 @@
-use Rattle.agv_http.proofs.answers.Fitting.{told_outcome}
-use Rattle.agv_http.proofs.laws.sizes.tells_outcomes.Goals as goal
-
-pub returns : goal.returns
-returns c = told_outcome

@@ -1,5 +1,0 @@
-use Rattle.agv_http.proofs.answers.QuestionLengths.{vehicle_brief}
-use Rattle.agv_http.proofs.laws.sizes.tells_vehicles_briefly.Goals as goal
-
-pub returns : goal.returns
-returns c = vehicle_brief

@@ -1,4 +1,0 @@
-use Rattle.agv_json.proofs.condition.is_fatal.Goals as goal
-
-pub returns : goal.returns
-returns c = c.eq.ensures

@@ -1,5 +1,0 @@
-use Rattle.agv_lawful.proofs.vehicle_tests.KeepsTold.{keeps}
-use Rattle.agv_lawful.proofs.laws.tests_trips.Goals as goal
-
-pub returns : goal.returns
-returns c tables = keeps tables

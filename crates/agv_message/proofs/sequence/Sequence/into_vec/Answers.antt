@@ -1,4 +1,0 @@
-use Rattle.agv_message.proofs.sequence.Sequence.into_vec.Goals as goal
-
-pub returns : goal.returns
-returns g c = c.self.view_is

@@ -1,0 +1,3 @@
+pub mod Instant
+pub mod Order
+pub mod Status

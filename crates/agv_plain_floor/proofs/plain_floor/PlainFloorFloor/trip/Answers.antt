@@ -1,9 +1,0 @@
-use Rattle.std.proofs.Common.{rules, ◌≡◌, refl, Err}
-use Rattle.agv_world.specs.declared.fault.Fault.TheVariants.{Memory}
-use Rattle.agv_world.proofs.lists.Asking.{fault_after, faults, still_here}
-use Rattle.agv_plain_floor.proofs.plain_floor.PlainFloorFloor.trip.Goals as goal
-
-pub returns-in_err-trip : goal.returns-in_err-trip
-returns-in_err-trip c =
-    let fault : c.from_residual.result ≡ Err Memory = search rules in
-    rw fault (faults Memory (fault_after Memory refl still_here))

@@ -1,4 +1,0 @@
-use Rattle.agv_program.proofs.run.carry_out.Goals as goal
-
-pub returns-in-Replay : goal.returns-in-Replay
-returns-in-Replay c c' = rw c'.in-Replay.is c'.replay_by.ensures

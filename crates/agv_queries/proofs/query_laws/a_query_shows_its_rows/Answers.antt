@@ -1,5 +1,0 @@
-use Rattle.agv_queries.proofs.AskedShown.{shown_asked}
-use Rattle.agv_queries.proofs.query_laws.a_query_shows_its_rows.Goals as goal
-
-pub returns : goal.returns
-returns c = shown_asked

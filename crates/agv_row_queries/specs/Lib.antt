@@ -1,4 +1,0 @@
-pub mod FirstRow
-pub mod OpenFault
-pub mod ReadTables
-pub mod WorldAnswers

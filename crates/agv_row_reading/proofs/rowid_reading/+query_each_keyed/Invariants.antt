@@ -1,5 +1,0 @@
-use Rattle.std.proofs.Common.{length}
-use Rattle.agv_row_reading.proofs.rowid_reading.+query_each_keyed.Given as goal
-
-abbrev pub decreases-query_each_keyed : goal.decreases-query_each_keyed
-decreases-query_each_keyed g l = length l.others.now

@@ -1,4 +1,0 @@
-pub mod HeldThings
-pub mod Rowids
-pub mod TableChecks
-pub mod TablesRead

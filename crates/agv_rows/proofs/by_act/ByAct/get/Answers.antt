@@ -1,8 +1,0 @@
-use Rattle.std.proofs.Common.{sym, ap, ◌∙◌}
-use Rattle.std.specs.FinMap as map
-use Rattle.agv_world.proofs.lists.Shown.{get-shown}
-use Rattle.agv_rows.specs.ActKeys.{act_cmp-total}
-use Rattle.agv_rows.proofs.by_act.ByAct.get.Goals as goal
-
-pub returns : goal.returns
-returns c = c.get.ensures.value ∙ sym (get-shown act_cmp-total _ _) ∙ ap (λ m. map.get m c.args.key) c.self.view_is

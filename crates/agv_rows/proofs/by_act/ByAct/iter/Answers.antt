@@ -1,8 +1,0 @@
-use Rattle.std.proofs.Common.{sym, ap, ◌∙◌}
-use Rattle.std.specs.FinMap as map
-use Rattle.agv_world.proofs.lists.InOrder.{entries-shown}
-use Rattle.agv_rows.specs.ActKeys.{act_cmp-IsAntisymmetric, act_cmp-total}
-use Rattle.agv_rows.proofs.by_act.ByAct.iter.Goals as goal
-
-pub returns : goal.returns
-returns c = c.iter.ensures.rest ∙ sym (entries-shown act_cmp-total act_cmp-IsAntisymmetric _ c.iter.ensures.ordered) ∙ ap map.entries c.self.view_is

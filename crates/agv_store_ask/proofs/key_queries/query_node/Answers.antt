@@ -1,0 +1,18 @@
+use Rattle.std.proofs.Common.{◌==◌, ℕ, Ok, not, refl, sym, ap, subst, ◌∙◌}
+use Rattle.agv_store_schema.specs.DeskRows.{table_for}
+use Rattle.agv_store_sql.specs.RowQueries.{FitsColumns}
+use Rattle.agv_store_schema.specs.declared.table_name.TableName.TheVariants as the
+use Rattle.agv_store_read.proofs.Asking.{follows, passes}
+use Rattle.agv_store_ask.proofs.KeyAnswers.{tells_node}
+use Rattle.agv_store_ask.proofs.key_queries.query_node.Goals as goal
+
+pub query_rows-requires-clause-fits : goal.query_rows-requires-clause-fits
+query_rows-requires-clause-fits g c = subst (FitsColumns the.Node (table_for the.Node).primary) (sym c.name_key_values.ensures) refl
+
+pub returns-in_err-rows : goal.returns-in_err-rows
+returns-in_err-rows g c = passes g.S.Store c.args.conn.now c.query_rows.new.conn c.in_err-rows.field-0.0 _ _ c.from_residual.result c.from_residual.ensures.1 c.in_err-rows.ensures
+
+pub returns : goal.returns
+returns g c =
+    follows g.S.Store c.args.conn.now c.query_rows.new.conn c.in_ok-rows.rows _ _ (Ok (not c.is_empty.result))
+    (λ world lawful shown. ap not (c.is_empty.ensures ∙ ap (λ (n : ℕ). n == 0) c.in_ok-rows.rows.ok.0) ∙ tells_node world lawful c.args.id.now _ c.name_key_values.ensures c.in_ok-rows.rows.items shown) c.in_ok-rows.ensures

@@ -1,0 +1,11 @@
+pub mod Asking
+pub mod AskingAll
+pub mod CountAnswers
+pub mod HeldFootprints
+pub mod HeldRead
+pub mod RowidMeanings
+pub mod RowidsKeyed
+pub mod RowidsRead
+pub mod RowidsTold
+pub mod TableReading
+pub mod TablesBack

@@ -1,0 +1,9 @@
+pub mod CapacityTables
+pub mod LayoutAnswers
+pub mod MetaAnswers
+pub mod NewDesks
+pub mod ReadWorld
+pub mod RowsTaken
+pub mod TableAnswers
+pub mod TripTableAnswers
+pub mod WorldIn

@@ -1,0 +1,22 @@
+use Rattle.std.proofs.Common.{subst}
+use Rattle.std.specs.FinMap as map
+use Rattle.agv_world_core.specs.KeyOrders.{leg_cmp-IsAntisymmetric, leg_cmp-total}
+use Rattle.agv_store_rows.specs.Columns.{leg_columns, leg_in}
+use Rattle.agv_store_read.specs.ReadTables.{Reads, read_rows}
+use Rattle.agv_store_schema.specs.SchemaNumbers.{desk_seats}
+use Rattle.agv_store_read.proofs.AskingAll.{all_follows, all_passes, reads_no_storage}
+use Rattle.agv_store_rows.proofs.ColumnsWritten.{leg_written}
+use Rattle.agv_store_read_tables.proofs.TableAnswers.{tells_legs}
+use Rattle.agv_store_read.proofs.TablesBack.{shows_table}
+use Rattle.agv_store_read_tables.proofs.world_tables.query_legs.Goals as goal
+
+pub returns-in_err-rows : goal.returns-in_err-rows
+returns-in_err-rows g c = all_passes g.S.Store c.args.conn.now c.query_all_rows.new.conn c.in_err-rows.field-0.0 _ _ _ _ c.from_residual.result c.from_residual.ensures.1 c.in_err-rows.ensures
+
+pub returns : goal.returns
+returns g c =
+    let read = subst (λ rows. Reads c.legs_in_rows.result (read_rows leg_in map.empty rows)) c.as_slice.ensures.value c.legs_in_rows.ensures in
+    all_follows g.S.Store c.args.conn.now c.query_all_rows.new.conn c.in_ok-rows.rows _ _ _ _ c.legs_in_rows.result (reads_no_storage c.legs_in_rows.result (read_rows leg_in map.empty c.in_ok-rows.rows.items) read)
+    (λ world lawful shown. tells_legs world lawful (c.has_consistent_trips.ensures desk_seats world lawful) c.in_ok-rows.rows.items shown c.legs_in_rows.result read)
+    (λ lists shown. shows_table leg_cmp-total leg_cmp-IsAntisymmetric leg_columns leg_in leg_written _ c.in_ok-rows.rows.items c.legs_in_rows.result read shown)
+    c.in_ok-rows.ensures

@@ -1,0 +1,2 @@
+pub mod NewWorld
+pub mod WorldIn

@@ -1,0 +1,44 @@
+//! The words in the columns for kinds, phases and uses.
+ghost use Rattle.std.specs.Prelude.{◌≡◌};
+ghost use Rattle.agv_store_rows.specs.ValueEncodings.{phase_name, use_name};
+
+use agv_stock::Phase;
+use agv_world_core::UseKind;
+
+/// The kind of a load's place, without its name.
+#[derive(Clone, Copy, Debug)]
+pub enum PlaceKind {
+    Station,
+    Vehicle,
+    Checking,
+    Left,
+}
+
+/// The kind of a held thing, without its name.
+#[derive(Clone, Copy, Debug)]
+pub enum ThingKind {
+    Node,
+    Edge,
+}
+
+/// Returns the word for the phase of a job.
+pub fn phase_text(phase: Phase) -> &'static str
+    ensures { result.now ≡ phase_name phase }
+{
+    match phase {
+        Phase::Waiting => "waiting",
+        Phase::Riding => "riding",
+        Phase::Done => "done",
+        Phase::Stopped => "stopped",
+    }
+}
+
+/// Returns the word for what a name was used for.
+pub(crate) fn use_text(kind: UseKind) -> &'static str
+    ensures { result.now ≡ use_name kind }
+{
+    match kind {
+        UseKind::Order => "order",
+        UseKind::Reference => "ref",
+    }
+}

@@ -1,5 +1,0 @@
-use Rattle.agv_world.proofs.row_changes.Followed.{followed}
-use Rattle.agv_world.proofs.change_laws.follows_a_vehicle.Goals as goal
-
-pub returns : goal.returns
-returns c = followed

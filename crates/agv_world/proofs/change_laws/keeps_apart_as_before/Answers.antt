@@ -1,5 +1,0 @@
-use Rattle.agv_world.proofs.row_changes.Followed.{shares_after}
-use Rattle.agv_world.proofs.change_laws.keeps_apart_as_before.Goals as goal
-
-pub returns : goal.returns
-returns c = shares_after

@@ -1,5 +1,0 @@
-use Rattle.agv_world.proofs.row_changes.Written.{loads_written}
-use Rattle.agv_world.proofs.change_laws.moves_loads.Goals as goal
-
-pub returns : goal.returns
-returns c = loads_written

@@ -1,5 +1,0 @@
-use Rattle.agv_world.proofs.row_changes.Written.{jobs_written}
-use Rattle.agv_world.proofs.change_laws.writes_jobs.Goals as goal
-
-pub returns : goal.returns
-returns c = jobs_written

@@ -1,5 +1,0 @@
-use Rattle.agv_world.proofs.lawful_worlds.LawfulOrder.{consistent_trips}
-use Rattle.agv_world.proofs.lawful_laws.has_consistent_trips.Goals as goal
-
-pub returns : goal.returns
-returns c = consistent_trips

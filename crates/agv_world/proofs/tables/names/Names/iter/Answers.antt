@@ -1,4 +1,0 @@
-use Rattle.agv_world.proofs.tables.names.Names.iter.Goals as goal
-
-pub returns : goal.returns
-returns c = rw c.iter.ensures.rest record { ordered = c.iter.ensures.ordered; all = c.self.view_is }

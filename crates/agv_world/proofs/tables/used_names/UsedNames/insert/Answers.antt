@@ -1,8 +1,0 @@
-use Rattle.std.proofs.Common.{ap, ◌∙◌}
-use Rattle.std.specs.FinSet as set
-use Rattle.agv_world.specs.KeyOrders.{use_cmp-total, use_cmp-IsAntisymmetric}
-use Rattle.agv_world.proofs.lists.Shown.{set_insert-shown}
-use Rattle.agv_world.proofs.tables.used_names.UsedNames.insert.Goals as goal
-
-pub returns-clause-ok : goal.returns-clause-ok
-returns-clause-ok c = set_insert-shown use_cmp-total use_cmp-IsAntisymmetric _ _ _ c.in_ok-insert.ensures.updates.0 ∙ ap (λ s. set.insert s c.args.key) c.self.view_is

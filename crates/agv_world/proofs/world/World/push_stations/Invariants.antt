@@ -1,8 +1,0 @@
-use Rattle.std.proofs.Common.{◌≡◌, ◌++◌, map}
-use Rattle.std.specs.FinMap as finite
-use Rattle.agv_layout.specs.LayoutOf.{station_row}
-use Rattle.agv_world.proofs.world.World.push_stations.Given as goal
-
--- what is listed, and what is left, make all
-abbrev pub invariant-loop-id : goal.invariant-loop-id
-invariant-loop-id l = l.rows.items ++ map station_row l.id-iterator ≡ l.fn.rows.items ++ map station_row (finite.entries l.self.stations)

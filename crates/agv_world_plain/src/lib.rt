@@ -1,0 +1,15 @@
+//! A floor over a world in memory, for tests and small worlds.
+//!
+//! - [`PlainFloor`] answers the questions of a `Floor` of `agv_world_core` from the tables of a world, which it borrows: the
+//!   answers are those of the world that the tables determine (`Told.antt` of `agv_world_core`).
+//! - `questions` answers those for which a world has no method, and `holders` which vehicle holds a node or an edge,
+//!   from the rows of vehicles and their trips.
+//! - [`laws`] says that over such a floor no decision ends with a fault of the store.
+#![tactic(auto)]
+
+mod holders;
+pub mod laws;
+mod plain_floor;
+mod questions;
+
+pub use plain_floor::PlainFloor;

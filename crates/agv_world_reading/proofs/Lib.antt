@@ -1,2 +1,0 @@
-pub mod NewDesks
-pub mod ReadWorld

@@ -1,5 +1,0 @@
-use Rattle.agv_world_reading.proofs.ReadWorld.{rows_told, world_held}
-use Rattle.agv_world_reading.proofs.reading_laws.tables_read_tell_the_world.Goals as goal
-
-pub returns : goal.returns
-returns c = record { rows = rows_told; world = world_held }
