@@ -17,7 +17,7 @@ HERE = os.path.dirname(os.path.abspath(__file__))
 DESK = os.path.abspath(os.environ.get('DESK', os.path.join(HERE, '..', 'build', 'desk')))
 PARTS = [('which call it is', r'agv_face::call::call_in'), ('decided, with its questions', r'agv_desk::decide_call::decide_each'),
          ('its rows are written', r'sqlite::transaction::Transaction::execute'), ('committed', r'sqlite::connection::Connection::commit'),
-         ('the bytes of its answer', r'agv_http::\S*\bput_answer')]
+         ('the bytes of its answer', r'agv_face_http::\S*\bput_answer')]
 COUNT = 20
 
 

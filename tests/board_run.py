@@ -158,6 +158,8 @@ class Board(Process):
     def __init__(self, plant: Plant, *words: str, port: int = 0):
         self.port = port or free_port()
         self.db = plant.path('board.db')
+        # who asks, as a proxy names only those who may give commands
+        self.who = {'X-User': 'nina'} if '--user-header' in words else {}
         line = [sys.executable, os.path.join(TOOLS, 'board'), '--desk', '127.0.0.1:%d' % plant.port]
         line += ['--layout', plant.layout, '--db', self.db, '--port', str(self.port), *words]
         super().__init__(line)
@@ -179,13 +181,13 @@ class Board(Process):
 
     def token(self) -> str:
         """The token that the page has."""
-        said = re.search(rb'name="token" content="([^"]*)"', self.ask('GET', '/')[2])
+        said = re.search(rb'name="token" content="([^"]*)"', self.ask('GET', '/', None, self.who)[2])
         assert said is not None
         return said.group(1).decode()
 
     def headers(self) -> dict[str, str]:
         """The headers that the page sends with a command."""
-        return {'X-Board-Token': self.token(), 'Origin': 'http://127.0.0.1:%d' % self.port}
+        return {**self.who, 'X-Board-Token': self.token(), 'Origin': 'http://127.0.0.1:%d' % self.port}
 
     def post(self, path: str, command: str, **values: str) -> dict[str, Any]:
         """A look or a command."""

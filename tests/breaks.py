@@ -1,5 +1,5 @@
 """What somebody may write into a desk's file: statements over the rows of `FILLED` in test_damaged_files.py, each with a rule that it
-breaks, by its name in docs/OPERATE.md, and the rows that break it."""
+breaks, by its name in docs/TABLES.md, and the rows that break it."""
 
 BREAKS = [
     ("UPDATE meta SET schema = 1", 'schema', 'meta'),

@@ -69,7 +69,8 @@ class Browser:
                 '--hide-scrollbars',
             ]
             options = {'args': [*arguments, '--window-size=%d,%d' % (width, height)]}
-            wanted = {'goog:chromeOptions': options, 'goog:loggingPrefs': {'browser': 'ALL'}}
+            wanted: dict[str, Any] = {'goog:chromeOptions': options}
+            wanted |= {'goog:loggingPrefs': {'browser': 'ALL'}, 'acceptInsecureCerts': True}
             self.session = '/session/' + until(lambda: self._begin(wanted), 'the browser starts')
         except BaseException:
             self.driver.kill()

@@ -1,4 +1,4 @@
-"""The scripts of crates/agv_test_support, read from its sources: requests and their answers as text, worked out by hand, in the form that
+"""The scripts of crates/agv_tests_support, read from its sources: requests and their answers as text, worked out by hand, in the form that
 its `lines.rt` tells. What they say of tables and moves is for that crate's users; here they are streams of bytes."""
 import functools
 import json
@@ -7,7 +7,7 @@ import re
 
 from test_hostile_bytes import REASONS
 
-FOLDER = os.path.join(os.path.dirname(os.path.abspath(__file__)), '..', 'crates', 'agv_test_support', 'src', 'scripts')
+FOLDER = os.path.join(os.path.dirname(os.path.abspath(__file__)), '..', 'crates', 'agv_tests_support', 'src', 'scripts')
 MOMENT = '1700000000000'
 TEXT = re.compile(r'^(?:pub )?const (\w+): &str =\s+(?:r#"(.*?)"#|r?"(.*?)");', re.M | re.S)
 LISTS = re.compile(r'^(?:pub )?const (\w+): &\[&\[&str\]\] = &\[(.*?)\];$', re.M | re.S)

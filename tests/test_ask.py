@@ -295,7 +295,7 @@ class Words(unittest.TestCase):
     def test_each_call_has_a_command(self):
         """The commands, by their examples, send each call of docs/openapi.json, but for `call`, which sends any."""
         files = {'layout.csv': PLANT.encode(), 'count.csv': b'station,load\nA,\n', 'state.json': json.dumps(told(1)).encode()}
-        row = dict.fromkeys(('ready', 'paused', 'astray', 'pending', 'confirmed', 'headerId'))  # of `advance`, which asks for it
+        row = {'ready': True, 'paused': False, 'astray': False, 'pending': None, 'confirmed': None, 'headerId': None}  # of `advance`
         row.update(manufacturer='KIT', serialNumber='0001', node='N1', capacity=1, order='O1', sent=0)
         known, sent = bodies.description(), set()
 

@@ -149,6 +149,23 @@ class AtWork(Page):
         self.on_the_map('station', 'Station C', '1 of 1 taken')
         self.misses('#alarms', 'The desk has not')
 
+    def test_another_desk(self) -> None:
+        """The same program on a new file: it is an alarm, and no command is sent to it."""
+        self.browser.click('.vehicle-card .head')
+        self.plant.served.stop()
+        for end in ('', '-wal'):
+            os.rename(self.plant.path('warehouse.db' + end), self.plant.path('aside.db' + end))
+        self.plant.start_desk()
+        self.sees('#desk', 'Another desk answers')
+        self.sees('#alarms', 'Another desk answers since', 'nothing is recorded', 'move board.db away')
+        self.browser.press('Pause', '.vehicle-card')
+        self.sees('#command', 'The desk does not answer: nothing can be done now')
+        self.browser.press('Do it', '#command')
+        self.sees('#command .answer', 'Nothing was sent: it is not the desk of board.db that answers.')
+        self.browser.open('about:blank')  # the page asks no more
+        lines = [line for line in self.browser.console() if line.startswith('SEVERE')]
+        self.assertEqual([line for line in lines if '503' not in line], [])
+
     def test_a_desk_that_hangs(self) -> None:
         """It is connected to, and does not answer: the page says for how long it waits, until the answer has come."""
         self.plant.served.process.send_signal(signal.SIGSTOP)

@@ -1,73 +1,66 @@
-"""The board by way of a real nginx with examples/nginx: who may look, who may give commands, and who stands in the
-record of them. Skipped where nginx or openssl is not installed."""
+"""The board through a real nginx with `examples/nginx`: who may look, who may give commands, and
+who stands in the record of them. Skipped where nginx or openssl is not installed."""
 from __future__ import annotations
 
-import base64
-import http.client
 import json
 import re
-import shutil
-import ssl
 import unittest
 
-import test_proxy
-from board_run import Plant, until
+import proxies
+from board_run import Plant, has_loopback, until
+from proxies import Proxy, Told
+
+from nulvrader.machine import free_port
 
 
-@unittest.skipUnless(shutil.which('nginx'), 'nginx is not here')
-@unittest.skipUnless(shutil.which('openssl'), 'openssl is not here')
+@unittest.skipUnless(has_loopback(), 'no sockets on 127.0.0.1 here')
+@unittest.skipIf(proxies.MISSING, proxies.WHY)
 class BoardByNginx(unittest.TestCase):
-    @classmethod
-    def setUpClass(cls) -> None:
-        cls.proxy = test_proxy.ByNginx
-        cls.proxy.setUpClass()
-        cls.addClassCleanup(cls.proxy.doClassCleanups)
-
     def setUp(self) -> None:
         self.plant = Plant()
         self.addCleanup(self.plant.close)
         self.plant.desk.register_load('L1', 'A')
-        self.host = '127.0.0.1:%d' % self.proxy.port
-        words = ('--name', self.host, '--user-header', 'X-User')
-        self.board = self.plant.board(*words, port=self.proxy.board_port)
+        port = free_port()
+        self.proxy = Proxy(self.plant.port, port)
+        self.addCleanup(self.proxy.close)
+        words = ('--name', self.proxy.host(True), '--user-header', 'X-User')
+        self.board = self.plant.board(*words, port=port)
         until(lambda: self.board.get('load', 'L1'), 'the board has looked')
 
-    def ask(self, method: str, path: str, user: str | None, body: object = None, **headers: str) -> tuple[int, bytes]:
-        """One request to the proxy: its status and its body."""
-        context = ssl.create_default_context(cafile=self.proxy.path('server.pem'))
-        connection = http.client.HTTPSConnection('127.0.0.1', self.proxy.port, timeout=300, context=context)
-        told = {name.replace('_', '-'): value for name, value in headers.items()}
-        if user is not None:
-            told['Authorization'] = 'Basic ' + base64.b64encode(('%s:%s!' % (user, user)).encode()).decode()
-        try:
-            connection.request(method, path, None if body is None else json.dumps(body), told)
-            answer = connection.getresponse()
-            return answer.status, answer.read()
-        finally:
-            connection.close()
+    def ask(self, request: str, user: str | None, *lines: str, body: object = None) -> Told:
+        """One request to the server with TLS."""
+        text = '' if body is None else json.dumps(body)
+        return self.proxy.ask(request, *lines, user=user, body=text, tls=True)
+
+    def token(self) -> str:
+        """The token of the board's page, as a dispatcher gets it; a reader gets none."""
+        form = rb'name="token" content="([^"]*)"'
+        said = re.search(form, self.ask('GET /board/', 'anna').body)
+        other = re.search(form, self.ask('GET /board/', 'otto', 'X-User: anna').body)
+        assert said is not None and other is not None
+        self.assertEqual(other[1], b'')
+        self.assertGreater(len(said[1]), 20)
+        return said[1].decode()
 
     def test_roles(self) -> None:
-        """All users may look, a dispatcher alone may give commands, and is named in the record of them."""
-        self.assertEqual(self.ask('GET', '/board/', None)[0], 401)
-        for user in ('anna', 'otto', 'gate'):
-            status, page = self.ask('GET', '/board/', user)
-            self.assertEqual(status, 200)
-            self.assertEqual(self.ask('GET', '/board/data?run=&since=0', user)[0], 200)
-            self.assertEqual(self.ask('GET', '/board/main.js', user)[0], 200)
-        said = re.search(rb'name="token" content="([^"]+)"', page)
-        assert said is not None
-        headers = {'X_Board_Token': said.group(1).decode(), 'Origin': 'https://' + self.host}
+        """Readers and dispatchers may look, a dispatcher alone may give commands, and is named in
+        the record of them. A gateway gets nothing."""
+        self.assertEqual(self.ask('GET /board/', None).status, 401)
+        for user, status in (('anna', 200), ('otto', 200), ('gate', 403)):
+            for path in ('', 'data?run=&since=0', 'data?vehicle=KIT%2F0001', 'main.js'):
+                self.assertEqual(self.ask(f'GET /board/{path}', user).status, status, (user, path))
+        lines = (f'X-Board-Token: {self.token()}', f'Origin: {self.proxy.origin(True)}')
         command = {'command': 'leave', 'values': {'load': 'L1', 'ref': 'R1'}}
         for user in ('otto', 'gate'):
-            for path in ('/board/do', '/board/look', '/board/may'):
-                self.assertEqual(self.ask('POST', path, user, command, **headers)[0], 403, (user, path))
-        self.assertEqual(self.ask('POST', '/board/may', 'anna', {}, **headers)[0], 200)
-        wrong = {**headers, 'Origin': 'https://evil.example'}
-        self.assertEqual(self.ask('POST', '/board/do', 'anna', command, **wrong)[0], 403)
+            for path in ('do', 'look', 'may'):
+                told = self.ask(f'POST /board/{path}', user, *lines, body=command)
+                self.assertEqual(told.status, 403, (user, path))
+        self.assertEqual(self.ask('POST /board/may', 'anna', *lines, body={}).status, 200)
         self.assertEqual(self.plant.desk.load('L1').place, 'station A')
-        status, told = self.ask('POST', '/board/do', 'anna', command, X_User='otto', **headers)
-        self.assertEqual((status, json.loads(told)['done']), (200, True))
-        self.assertEqual(self.board.rows('SELECT who, command, done FROM commands'), [('anna', 'leave', 1)])
+        told = self.ask('POST /board/do', 'anna', 'X-User: otto', *lines, body=command)
+        self.assertEqual((told.status, json.loads(told.body)['done']), (200, True))
+        rows = self.board.rows('SELECT who, command, done FROM commands')
+        self.assertEqual(rows, [('anna', 'leave', 1)])
         self.assertEqual(self.plant.desk.load('L1').place, 'left')
 
 

@@ -13,8 +13,10 @@ from nulvrader.board import asker
 from nulvrader.board.fleet import Fleet
 from nulvrader.board.news import News
 from nulvrader.board.record import Record
+from nulvrader.board.same import Same
 from nulvrader.board.shown import Shown
 from nulvrader.board.stores import Stores
+from nulvrader.board.ways import way_of
 from nulvrader.client import Load, Vehicle
 from nulvrader.layouts import read_layout
 from nulvrader.names import VehicleKey
@@ -102,7 +104,8 @@ class Asked(unittest.TestCase):
         stores = Stores(layout, news)
         self.desk = MadeUp(self.clock, self.loads)
         self.fleet = Fleet(layout, news, stores.jobs, 10_000)
-        self.asker = asker.Asker(self.desk, news, stores, self.fleet, 30)  # type: ignore[arg-type]
+        followers = asker.Followers(stores, self.fleet, Same(record))
+        self.asker = asker.Asker(self.desk, news, lambda: followers, 30)  # type: ignore[arg-type]
         self.run_for(ROUND)
         self.desk.asked.clear()
 
@@ -255,7 +258,7 @@ class Ends(Asked):
         held = {'N001': key} if at_end else {'N000': key, 'N001': key}
         row = replace(self.desk.rows[name], order='O1', sent=first, confirmed=first)
         self.fleet.take_vehicle(row)
-        self.fleet.take_order(key, message(first, first))
+        self.fleet.take_order(key, way_of(message(first, first)))
         self.fleet.take_holds(Holds(held, track.get('edges', {}), 2 * COUNT - 1))
         stock = Stock({one: StationStock(one, 'N000', 9, 0) for one in 'AB'}, [], {key: []})
         (stock.vehicles[key] if place == name else stock.stations[place].loads).append('L1')

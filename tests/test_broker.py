@@ -1,129 +1,113 @@
-"""`tools/gateway` between a desk and a real broker, mosquitto: a whole transport of a vehicle that speaks by mosquitto's
-own clients; and what it says of a broker that refuses it. Skipped where mosquitto, its clients or the library paho-mqtt
-is not installed."""
+"""`tools/gateway` between a desk and a real broker, mosquitto: a whole transport of a vehicle; what
+the gateway says of a broker that refuses it or is away; and how it ends. Skipped where mosquitto or
+the library paho-mqtt is not installed."""
+from __future__ import annotations
+
 import json
 import os
-import shutil
+import signal
 import subprocess
-import sys
-import tempfile
+import time
 import unittest
+from collections.abc import Callable
+from typing import Any
 
-import programs
-from programs import PATIENCE, until
-from nulvrader import client
-from nulvrader.machine import free_port
+import mqtt
+from programs import until
 from test_client import KIT1, told
-from test_program import Serving, over_sockets
-from test_scripts import LAYOUT
 
-PROGRAMS = ('mosquitto', 'mosquitto_pub', 'mosquitto_sub', 'mosquitto_passwd')
-STATE, ORDER, INSTANT = ('uagv/v2/KIT/0001/' + topic for topic in ('state', 'order', 'instantActions'))
+TOPICS = ('state', 'order', 'instantActions')
+STATE, ORDER, INSTANT = (f'uagv/v2/KIT/0001/{topic}' for topic in TOPICS)
 
 
-def python_with_paho():
-    """A Python that has the library, this one before Debian's, or None."""
-    for python in (sys.executable, '/usr/bin/python3'):
-        if shutil.which(python) and subprocess.run([python, '-c', 'import paho.mqtt.client'], capture_output=True).returncode == 0:
-            return python
-    return None
+@mqtt.with_mosquitto
+@mqtt.with_paho
+class ByMosquitto(mqtt.WithADesk):
+    def setUp(self) -> None:
+        super().setUp()
+        self.header_id = 0
 
+    def tell(self, is_so: Callable[[], Any], *words: Any, **others: Any) -> None:
+        """Publishes a state, with what the desk does not take, until something is so: one that
+        comes before the gateway has subscribed is lost."""
 
-PYTHON = python_with_paho()
+        def is_told() -> Any:
+            self.header_id += 1
+            state = told(self.header_id, *words, **others)
+            state['agvPosition'] = {'x': 1.5, 'y': 2.0}
+            state['batteryState'] = {'batteryCharge': 80.5}
+            self.vehicle.publish(STATE, json.dumps(state).encode())
+            return is_so()
 
+        until(is_told, f'a state {words} {others}')
 
-@over_sockets
-@unittest.skipUnless(all(map(shutil.which, PROGRAMS)), 'mosquitto and its clients are not here')
-@unittest.skipUnless(PYTHON, 'the library paho-mqtt is not here')
-class ByMosquitto(unittest.TestCase):
-    def setUp(self):
-        folder = tempfile.TemporaryDirectory()
-        self.addCleanup(folder.cleanup)
-        self.folder, self.header = folder.name, 0
-        self.port = free_port()
-        serving = Serving(os.path.join(self.folder, 'desk.db'))
-        self.addCleanup(serving.__exit__)
-        self.desk = client.Desk('127.0.0.1:%d' % serving.port, timeout=PATIENCE)
-        self.desk.set_layout(LAYOUT.encode())
-        self.desk.register_vehicle(KIT1, 'N1')
-        self.desk.register_load('L1', 'A')
+    def came(self, topic: str) -> list[dict[str, Any]]:
+        """Returns the messages that the vehicle was sent on a topic."""
+        return [json.loads(data) for name, data in self.vehicle.came if name == topic]
 
-    def path(self, name):
-        return os.path.join(self.folder, name)
-
-    def start(self, name, *words):
-        """A program until the end of the test; its output is the file of that name."""
-        with open(self.path(name), 'w') as file:
-            process = subprocess.Popen(words, stdout=file, stderr=subprocess.STDOUT)
-
-        def end():
-            process.terminate()
-            process.wait(300)
-
-        self.addCleanup(end)
-
-    def said(self, name):
-        """The lines of a program, as far as they are whole."""
-        with open(self.path(name)) as file:
-            return file.read().split('\n')[:-1]
-
-    def broker(self, *lines):
-        with open(self.path('mosquitto.conf'), 'w') as file:
-            file.write('\n'.join(['listener %d 127.0.0.1' % self.port, 'persistence false', *lines]) + '\n')
-        self.start('broker', shutil.which('mosquitto'), '-c', self.path('mosquitto.conf'))
-
-    def gateway(self, *words):
-        line = [PYTHON, os.path.join(programs.TOOLS, 'gateway'), '--desk', self.desk.address, '--every', '0.1']
-        self.start('gateway', *line, '--broker', '127.0.0.1:%d' % self.port, *words)
-
-    def publish(self, message):
-        """The vehicle's state, with what the desk does not take."""
-        message = {**message, 'agvPosition': {'x': 1.5, 'y': 2.0}, 'batteryState': {'batteryCharge': 80.5}}
-        words = ['mosquitto_pub', '-h', '127.0.0.1', '-p', str(self.port), '-t', STATE, '-m', json.dumps(message)]
-        subprocess.run(words, check=True, timeout=300)
-
-    def came(self, topic):
-        """The messages that the vehicle was sent on a topic."""
-        pairs = [line.split(' ', 1) for line in self.said('vehicle')]
-        return [json.loads(data) for name, data in pairs if name == topic]
-
-    def test_a_transport(self):
+    def test_a_transport(self) -> None:
         self.broker('allow_anonymous true')
-        words = ['mosquitto_sub', '-h', '127.0.0.1', '-p', str(self.port), '-v', '-t', ORDER, '-t', INSTANT]
-        self.gateway()
-        until(lambda: 'the broker is connected' in self.said('gateway'), 'the gateway is connected')
-        self.start('vehicle', *words)
+        self.gateway(self.desk.address)
+        self.vehicle = self.enterContext(mqtt.Client(self.port))
+        self.vehicle.subscribe(ORDER, INSTANT)
         self.tell(lambda: self.desk.vehicle(KIT1).ready)
         self.desk.add_job('J1', 'L1', 'B')
         self.desk.start_order('O1', KIT1, job='J1', edges=2)
         order = until(lambda: self.came(ORDER), 'the order')[0]
         self.assertEqual((order['orderId'], len(order['nodes'])), ('O1', 3))
-        self.tell(lambda: self.desk.load('L1').place == 'vehicle KIT/0001', 'O1', statuses=[('O1.0', 'FINISHED')])
+        picked = [('O1.0', 'FINISHED')]
+        self.tell(lambda: self.desk.load('L1').place == 'vehicle KIT/0001', 'O1', statuses=picked)
         self.desk.pause(KIT1)
-        self.assertEqual(until(lambda: self.came(INSTANT), 'the pause')[0]['actions'][0]['actionId'], 'instant-1')
-        done = [('O1.0', 'FINISHED'), ('O1.1', 'FINISHED'), ('instant-1', 'FINISHED')]
+        pause = until(lambda: self.came(INSTANT), 'the pause')[0]
+        self.assertEqual(pause['actions'][0]['actionId'], 'instant-1')
+        done = [*picked, ('O1.1', 'FINISHED'), ('instant-1', 'FINISHED')]
         self.tell(lambda: self.desk.load('L1').place == 'station B', 'O1', 0, 'N3', 4, done)
-        self.tell(lambda: any('NotThere' in line for line in self.said('gateway')), node='N1')
+        self.tell(lambda: self.has_said('gateway', 'NotThere'), node='N1')
 
-    def tell(self, is_so, *words, **others):
-        """Publishes a state until something is so: one that comes before the gateway has subscribed is lost."""
+    def test_a_wrong_password(self) -> None:
+        users = self.write('users', '')
+        line = ['mosquitto_passwd', '-b', users, 'gate', 'right']
+        subprocess.run(line, check=True, capture_output=True)
+        os.chmod(users, 0o644)
+        self.broker('allow_anonymous false', f'password_file {users}')
+        file = self.write('password', 'wrong\n')
+        self.gateway(self.desk.address, '--user', 'gate', '--password-file', file)
+        refusal = 'the broker refuses the connection'
+        until(lambda: self.has_said('gateway', refusal), 'the refusal')
 
-        def is_told():
-            self.header += 1
-            self.publish(told(self.header, *words, **others))
-            return is_so()
+    def test_a_broker_that_is_started_again(self) -> None:
+        """The gateway connects anew, and publishes the order once more."""
+        self.broker('allow_anonymous true')
+        self.gateway(self.desk.address)
+        self.vehicle = self.enterContext(mqtt.Client(self.port))
+        self.tell(lambda: self.desk.vehicle(KIT1).ready)
+        self.processes['broker'].kill()
+        self.processes['broker'].wait(300)
+        until(lambda: self.has_said('gateway', 'is lost'), 'the connection is lost')
+        self.desk.add_job('J1', 'L1', 'B')
+        self.desk.start_order('O1', KIT1, job='J1', edges=2)
+        self.broker('allow_anonymous true')
+        self.vehicle = self.enterContext(mqtt.Client(self.port))
+        self.vehicle.subscribe(ORDER)
+        until(lambda: self.came(ORDER), 'the order')
 
-        until(is_told, 'a state %s %s' % (words, others))
-
-    def test_a_wrong_password(self):
-        subprocess.run(['mosquitto_passwd', '-b', '-c', self.path('users'), 'gate', 'right'], check=True, capture_output=True)
-        os.chmod(self.path('users'), 0o644)
-        os.chmod(self.folder, 0o755)
-        self.broker('allow_anonymous false', 'password_file ' + self.path('users'))
-        with open(self.path('password'), 'w') as file:
-            file.write('wrong\n')
-        self.gateway('--user', 'gate', '--password-file', self.path('password'))
-        until(lambda: any('the broker refuses the connection' in line for line in self.said('gateway')), 'the refusal')
+    def test_signals(self) -> None:
+        """Each ends it at once, with status 0, also while the desk does not answer."""
+        self.broker('allow_anonymous true')
+        for number in (signal.SIGTERM, signal.SIGINT):
+            for is_stopped in (False, True):
+                with self.subTest(number=number, is_stopped=is_stopped):
+                    words = ['--timeout', '600', '--vehicle', 'KIT/0001']
+                    process = self.gateway(self.desk.address, *words)
+                    until(lambda: self.has_said('gateway', 'is connected'), 'the gateway')
+                    if is_stopped:
+                        self.serving.process.send_signal(signal.SIGSTOP)
+                    time.sleep(0.5)
+                    begun = time.monotonic()
+                    process.send_signal(number)
+                    self.assertEqual(process.wait(300), 0)
+                    self.assertLess(time.monotonic() - begun, 60)
+                    self.serving.process.send_signal(signal.SIGCONT)
 
 
 if __name__ == '__main__':

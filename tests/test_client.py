@@ -6,12 +6,13 @@ import re
 import socket
 import tempfile
 import threading
+import time
 import unittest
 from unittest import mock
 
 import programs
 from programs import PATIENCE
-from nulvrader import client, layouts, names, questions, refusals, reports
+from nulvrader import client, layouts, names, questions, refusals, reports, wire
 from test_program import Serving, over_sockets
 from test_scripts import LAYOUT, state
 
@@ -212,7 +213,7 @@ class NoDesk(unittest.TestCase):
     def test_bytes(self):
         for data, words, may_be_done in (
             (b'', 'closed before the answer arrived', True),
-            (b'SSH-2.0\r\n', 'closed before the answer arrived', True),
+            (b'SSH-2.0\r\n', 'no desk: it answers SSH-2.0', True),
             (b'HTTP/1.1 200 OK\r\nContent-Length: 30\r\n\r\n{', 'closed before the answer arrived', True),
             (b'HTTP/1.1 200 OK\r\nContent-Length: 2\r\n\r\nok', 'no desk', True),
             (b'HTTP/1.1 404 Not Found\r\nContent-Length: 2\r\n\r\nno', 'no desk: status 404, no', False),
@@ -225,7 +226,7 @@ class NoDesk(unittest.TestCase):
                 self.assertEqual(fault.may_be_done, may_be_done)
 
     def test_silence(self):
-        self.assertIn('no answer came within 0.2 seconds', str(self.answered(None, timeout=0.2)))
+        self.assertIn('no whole answer came within 0.2 seconds', str(self.answered(None, timeout=0.2)))
 
     def test_an_answer_while_the_body_is_sent(self):
         """It is told, though the connection is closed before all is sent."""
@@ -248,9 +249,28 @@ class NoDesk(unittest.TestCase):
         self.assertEqual((fault.name, fault.number, fault.status), ('Unauthorized', 0, 401))
 
     def test_addresses(self):
-        for text in ('ftp://desk', 'desk:port', '', 'http://', '127.0.0.1:70000'):
+        for text in ('ftp://desk', 'desk:port', '', 'http://', '127.0.0.1:70000', 'localhost', 'unix:', 'http://u:p@desk', 'desk:1/?a'):
             with self.assertRaises(ValueError, msg=text):
                 client.Desk(text)
+        for text, wanted in (
+            ('http://desk', ('desk', 80, None, '', 'desk')),
+            ('https://desk/front/', ('desk', 443, None, '/front', 'desk')),
+            ('127.0.0.1:8080', ('127.0.0.1', 8080, None, '', '127.0.0.1:8080')),
+            ('[::1]:8080', ('::1', 8080, None, '', '[::1]:8080')),
+            ('unix:/run/desk.sock', ('localhost', 0, '/run/desk.sock', '', 'localhost')),
+        ):
+            at = wire.Place.parse(text)
+            self.assertEqual((at.host, at.port, at.path, at.front, at.header()), wanted)
+
+    def test_all_requests_of_a_block(self):
+        """They have its time together, and each its own again behind it."""
+        desk = client.Desk('127.0.0.1:1', timeout=PATIENCE)
+        with desk.within(0.001):
+            time.sleep(0.01)
+            with self.assertRaisesRegex(client.NoAnswer, 'within 0.001 seconds'):
+                desk.load('L1')
+        with self.assertRaisesRegex(client.NoAnswer, 'no program listens there'):
+            desk.load('L1')
 
 
 class Readers(unittest.TestCase):

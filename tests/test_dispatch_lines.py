@@ -14,6 +14,7 @@ from programs import ROOT, TOOLS, module, ran, within
 from test_program import over_sockets
 
 from nulvrader.client import Answer, Desk, Refused
+from nulvrader.layouts import read_layout
 from nulvrader.notes import Notes, read_notes
 
 
@@ -301,9 +302,28 @@ class Lines(OverADesk):
         layout = os.path.join(self.folder.name, 'layout.csv')
         with open(layout, 'wb') as file:
             file.write(LAYOUT.replace(b'station,A,ab,3', b'station,A,ab,4'))
-        status, _, said = ran('dispatch', '--desk', self.address, '--layout', layout)
-        self.assertEqual(status, 2)
-        self.assertIn('is not the layout of the desk: station A', said)
+        words = [sys.executable, os.path.join(TOOLS, 'dispatch'), '--desk', self.address, '--layout', layout]
+        with subprocess.Popen(words, stdout=subprocess.PIPE, stderr=subprocess.PIPE, text=True) as process:
+            try:
+                line = process.stderr.readline()
+                self.assertIsNone(process.poll())
+            finally:
+                process.terminate()
+            self.assertEqual((process.stdout.read(), process.stderr.read(), process.wait(300)), ('', '', 0))
+        self.assertIn('is not the layout of the desk: station A', line)
+
+    def test_a_layout_that_becomes_another_one(self):
+        """Another desk takes the port: no order is given, and that is an alarm once, until the desk is there again."""
+        self.desk.add_job('J1', 'L1', 'B')
+        alarms, layout = [], self.dispatcher.layout
+        self.dispatcher.alarm = alarms.append
+        self.dispatcher.layout = read_layout(LAYOUT.replace(b'station,A,ab,3', b'station,A,ab,4'))
+        self.assertEqual([self.dispatcher.turn() for _ in range(3)], [False] * 3)
+        self.assertEqual((self.lines, len(alarms)), ([], 1))
+        self.assertIn('it has another layout: station A', alarms[0])
+        self.dispatcher.layout = layout
+        self.assertRegex(self.turn()[0], '^KIT/0001: takes J1')
+        self.assertEqual(self.lines[-1], 'the desk answers again')
 
 
 def text_of(*path):
@@ -325,22 +345,23 @@ class Unit(unittest.TestCase):
 
     def test_its_files(self):
         """The desk is that of the other unit, the layout is where the page installs it, and the notes are in the unit's own folder."""
-        port = re.search(r' --port (\d+) ', text_of('examples', 'systemd', 'desk.service')).group(1)
+        socket = re.search('^ListenStream=(.*)$', text_of('examples', 'systemd', 'desk-proxy.socket'), re.M).group(1)
         folder, file = os.path.split(self.options['--layout'])
-        self.assertEqual(self.options['--desk'], '127.0.0.1:' + port)
+        self.assertEqual(self.options['--desk'], 'unix:' + socket)
         self.assertIn('\ninstall -d %s && install -m 644 %s %s/%s\n' % (folder, file, folder, file), self.page)
         self.assertEqual(os.path.dirname(self.options['--notes']), '/var/lib/' + self.said('StateDirectory'))
         for line in ('install -m 644 examples/systemd/dispatch.service /etc/systemd/system/', 'systemctl enable --now dispatch.service'):
             self.assertIn('\n%s\n' % line, self.page)
 
     def test_its_line(self):
-        """It is taken, over files here, and waits for a desk where none listens. Without a layout it ends as the unit is not to restart."""
+        """It is taken, over files here, and waits for a desk where none listens. Without a layout it ends, and the unit starts it again."""
         with tempfile.TemporaryDirectory() as folder:
             layout = os.path.join(folder, 'layout.csv')
             here = {'--desk': '127.0.0.1:1', '--layout': layout, '--notes': os.path.join(folder, 'notes')}
             self.assertEqual(here.keys(), self.options.keys())
             words = [word for option in self.options for word in (option, here[option])]
-            self.assertEqual(ran('dispatch', *words)[0], int(self.said('RestartPreventExitStatus')))
+            self.assertEqual((ran('dispatch', *words)[0], self.said('Restart')), (2, 'always'))
+            self.assertNotIn('RestartPreventExitStatus', self.unit)
             with open(layout, 'wb') as file:
                 file.write(LAYOUT)
             with subprocess.Popen([sys.executable, os.path.join(TOOLS, 'dispatch'), *words], stdout=subprocess.PIPE, text=True) as process:

@@ -247,16 +247,18 @@ class OfAFile(unittest.TestCase):
             base.execute('CREATE TABLE node (name TEXT)')
         with open(other, 'rb') as file:
             tables = file.read()
-        for data in (b'', b'kind,id,from,to\n' * 100, tables):
+        none = ': it has no tables of a desk'
+        odd = ": its tables aren't those of a desk: the table node has the columns name, and not id"
+        for data, said in ((b'', none), (b'kind,id,from,to\n' * 100, none), (tables, odd)):
             with open(self.db, 'wb') as file:
                 file.write(data)
-            self.assertEqual(refused('--db', self.db), self.db + ': it has no tables of a desk')
+            self.assertEqual(refused('--db', self.db), self.db + said)
             with open(self.db, 'rb') as file:
                 self.assertEqual(file.read(), data)
 
     def test_no_file_to_be_opened(self):
         said = refused('--db', self.folder.name)
-        self.assertEqual(said, self.folder.name + ': Is a directory')
+        self.assertEqual(said, self.folder.name + ': it is a folder, and not a regular file')
 
     def test_a_file_that_a_desk_has_open(self):
         plain(self.db, b''.join(map(bytes_of, LINES)))

@@ -154,7 +154,7 @@ class Document(unittest.TestCase):
         page = text_of('docs', 'HTTP.md')
         page = page[page.index('## The table of calls') : page.index('## Answers')]
         self.assertEqual(described, set(re.findall(r'^- `(\w+) (/\S+)`\.', page, re.M)))
-        table = text_of('crates', 'agv_http', 'src', 'routing', 'table.rt')
+        table = text_of('crates', 'agv_face_http', 'src', 'routing', 'table.rt')
         lines = re.findall(r'\((Get|Put|Post|Delete),\s*"(/[^"]*)"', re.sub(r'\(\s+', '(', table))
         self.assertEqual(described, {(verb.upper(), path) for verb, path in lines})
         self.assertEqual(len(lines), len(operations()))

@@ -59,7 +59,7 @@ class Page(unittest.TestCase):
     def test_the_faults(self):
         """The faults are those of the program, each once."""
         told = re.findall(r'^- \*\*`fault: (\w+)`\*\*', section('docs/OPERATE.md', 'Each fault line'), re.M)
-        source = text_of('crates', 'agv_program', 'src', 'outcome.rt') + text_of('crates', 'agv_command_line', 'src', 'line_fault.rt')
+        source = text_of('crates', 'agv_app_run', 'src', 'outcome.rt') + text_of('crates', 'agv_app_line', 'src', 'line_fault.rt')
         self.assertEqual(sorted(told), sorted(set(re.findall(r'"fault: (\w+)\\n"', source))))
 
     def test_the_refusals(self):
@@ -88,7 +88,7 @@ class Page(unittest.TestCase):
 
     def test_the_texts_of_the_help(self):
         """docs/HTTP.md has the text of the program and of each subcommand, in their order, as the source has them."""
-        source = text_of('crates', 'agv_command_line', 'src', 'line.rt')
+        source = text_of('crates', 'agv_app_line', 'src', 'line.rt')
         form = r'let about =\s*"([^"]*)";\s*let example =\s*"[^"]*";[^"]*\b(?:named|file)_command\(alloc, "(\w+)", about, example\)'
         found = re.findall(form, source)
         texts = [(name, about) for about, name in found]
@@ -156,7 +156,7 @@ class CommandLine(Program):
 
 # What stands for the command `systemctl`: it writes down what it is told, and which copies there are then.
 SYSTEMCTL = '''#!/bin/sh
-echo "$* $(ls copies 2>/dev/null | grep -c new)" >> told
+echo "$* $(ls copies/*.new/copy.db 2>/dev/null | grep -c new)" >> told
 [ "$1" != is-active ] || cat active
 [ "$1" != "$(cat fails)" ]
 '''
@@ -237,7 +237,7 @@ class Backup(Program):
         for name, wanted in (
             ('none.db', 'it can not be copied to .*none.db: there is no such file'),
             ('others.db', 'it can not be copied to .*others.db: it has no tables of a desk'),
-            ('unlawful.db', 'the desk does not open the copy .*/unlawful.new: fault: Damaged'),
+            ('unlawful.db', 'the desk does not open the copy .*/unlawful.new/copy.db: fault: Damaged'),
         ):
             self.systemctl('active')
             status, out, said, told = self.back_up('--unit', 'desk.service', db=self.path(name))

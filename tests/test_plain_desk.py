@@ -143,7 +143,7 @@ class ThingsKnown(unittest.TestCase):
         known = module('known', 'bench')
         for thing, (kind, edits) in known.THINGS.items():
             with self.subTest(thing), tempfile.TemporaryDirectory() as copy:
-                for crate in ('agv_known', 'agv_keyed_floor'):
+                for crate in ('agv_store_known', 'agv_store_floor'):
                     shutil.copytree(os.path.join(ROOT, 'crates', crate, 'src'), os.path.join(copy, 'crates', crate, 'src'))
                 known.edit(copy, edits)
                 begin, requests = known.call(kind)

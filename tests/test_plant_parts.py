@@ -275,7 +275,7 @@ class AProgram(OverAScript):
 class WhatTheDeskHas(OverAScript):
     """The load L1 is at the station A, and L2 on KIT/0001."""
 
-    REPORT = b'station A at N1: %d of 3, reserved 0\n%schecking: 0\n%svehicle KIT/0001: 1\n  L2\nleft: 0\n'
+    REPORT = b'station A at N1: %d of 3, reserved 0\n%schecking: %d\n%svehicle KIT/0001: 1\n  L2\nleft: 0\n'
 
     def setUp(self):
         super().setUp()
@@ -284,7 +284,7 @@ class WhatTheDeskHas(OverAScript):
         self.plant.goods.add('L2', 'vehicle KIT/0001')
 
     def compare(self, at_station, checking=b''):
-        self.plant.compare_places(read_stock(self.REPORT % (at_station.count(b'L'), at_station, checking)))
+        self.plant.compare_places(read_stock(self.REPORT % (at_station.count(b'L'), at_station, checking.count(b'L'), checking)))
 
     def test_each_load_once(self):
         self.compare(b'  L1\n')

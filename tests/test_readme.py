@@ -185,7 +185,7 @@ class Pages(unittest.TestCase):
 class Statements(unittest.TestCase):
     def test_plans_are_kept(self):
         """The statements that serve have as many texts as docs/DECISIONS.md says, fewer than the plans that a connection keeps."""
-        texts, folder = set(), os.path.join(ROOT, 'crates', 'agv_statements', 'src')
+        texts, folder = set(), os.path.join(ROOT, 'crates', 'agv_store_sql', 'src')
         for name in os.listdir(folder):
             with open(os.path.join(folder, name)) as file:
                 code = re.sub('//.*', '', file.read())

@@ -1,5 +1,5 @@
 """Streams of a few requests, to the byte, as docs/HTTP.md has them answered, in pieces: however few bytes a read gives or a write takes, the
-same is answered. So are the scripts of crates/agv_test_support. What ends a stream is answered at once, and what comes behind it
+same is answered. So are the scripts of crates/agv_tests_support. What ends a stream is answered at once, and what comes behind it
 isn't looked at; a request that may still become whole is waited for. Standard input fails behind each byte of two streams, and standard output
 behind bytes of their answers: what had come whole is answered, and what was answered stands. Each answer is written before the next
 request is read."""
@@ -155,7 +155,7 @@ class StreamRows(FaultTest):
                             self.assertEqual(run(*self.words[1:], stdin=stdin), (0, wanted, b''))
 
     def test_scripts(self):
-        """The scripts of crates/agv_test_support; where one has several moments, each by a program of its own, on one file."""
+        """The scripts of crates/agv_tests_support; where one has several moments, each by a program of its own, on one file."""
         scripts = {title: script_texts.streams_of(parts) for title, parts in script_texts.scripts().items()}
         self.assertGreater(len(scripts), 38)
         for title, streams in scripts.items():

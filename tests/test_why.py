@@ -1,5 +1,5 @@
 """`tools/why` over the real program: each mistake by which a desk does not start is told by what is wrong and what to do, and nothing
-changes of what is looked at. And that docs/OPERATE.md has the rules, and the desk's unit runs it."""
+changes of what is looked at. And that docs/TABLES.md has the rules, and the desk's unit runs it."""
 import contextlib
 import errno
 import os
@@ -17,7 +17,7 @@ from test_migrate import BEGUN, CANCELLED, FIRST
 from test_program import DESK, Serving, over_sockets, run
 from why_files import OTHER, WhyTest, another_user, told
 
-from nulvrader import machine, reasons
+from nulvrader import machine, opening, reasons
 from nulvrader.rules import RULES
 
 
@@ -187,7 +187,7 @@ class Mistakes(WhyTest):
     def test_a_file_that_can_not_be_looked_at(self):
         """Without room for a copy of a file with its log it is not said that all is well."""
         self.fill(log=True)
-        with mock.patch('shutil.copyfile', side_effect=OSError(errno.ENOSPC, 'No space left on device')):
+        with mock.patch.object(opening, '_copy', side_effect=OSError(errno.ENOSPC, 'No space left on device')):
             (reason,) = told(self.db).reasons
         self.assertIn('could not be read: [Errno 28] No space left on device', reason)
 
@@ -204,9 +204,9 @@ class Mistakes(WhyTest):
 
 class Pages(unittest.TestCase):
     def test_the_rules(self):
-        """docs/OPERATE.md has each rule by its name and in its words."""
-        with open(os.path.join(ROOT, 'docs', 'OPERATE.md')) as file:
-            page = file.read().split('\n### The rules of the rows\n')[1].split('\n#')[0]
+        """docs/TABLES.md has each rule by its name and in its words."""
+        with open(os.path.join(ROOT, 'docs', 'TABLES.md')) as file:
+            page = file.read().split('\n## The rules of the rows\n')[1].split('\n#')[0]
         found = [(name, ' '.join(text.split())) for name, text in re.findall(r'^- \*\*(.*?)\*\*: (.*?)(?=\n- |\n\n|\Z)', page, re.M | re.S)]
         self.assertEqual(found, [(rule.name, rule.text) for rule in RULES])
 

@@ -113,7 +113,7 @@ class Rows(WhyTest):
 
     def test_names_that_are_no_text(self):
         self.fill("UPDATE load SET id = CAST(x'ff20' AS TEXT) WHERE id = 'L3'")
-        self.assertIn(r"load \udcff : '\udcff ' is no name", self.look())
+        self.assertIn(r"load \xff : '\udcff ' is no name", self.look())
 
 
 class Files(WhyTest):

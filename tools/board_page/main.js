@@ -142,7 +142,9 @@ function drawHeader() {
         ? `Waiting for the desk for ${span(waiting)}`
         : desk.up
           ? 'The desk answers'
-          : `The desk has not answered for ${span(store.now() - desk.since)}`;
+          : desk.other
+            ? 'Another desk answers'
+            : `The desk has not answered for ${span(store.now() - desk.since)}`;
   set(byId('desk'), 'class', `desk ${silent || (desk && !desk.up) ? 'bad' : desk && !waiting ? 'good' : 'warn'}`);
   text(byId('desk').querySelector('.words'), words);
   set(byId('desk'), 'title', desk ? `${desk.up ? '' : `${desk.fault}; `}since ${day(desk.since)}` : '');
@@ -178,6 +180,10 @@ function drawAlarms(silent, desk) {
   const old = 'what is seen here is old';
   if (silent) {
     rows.push({ key: 'board', words: `The board has not answered for ${span(Date.now() - store.told)}: ${old}` });
+  } else if (desk?.other) {
+    const aside = 'If this is right, move board.db away and start the board again.';
+    const words = `Another desk answers since ${day(desk.since)}: nothing is recorded, and ${old}. ${desk.fault} ${aside}`;
+    rows.push({ key: 'desk', words });
   } else if (desk && !desk.up) {
     rows.push({ key: 'desk', words: `The desk has not answered since ${day(desk.since)}: ${old}. ${desk.fault}` });
   }

@@ -4,12 +4,12 @@ from __future__ import annotations
 import argparse
 import dataclasses
 import functools
-from collections.abc import Iterable
+from collections.abc import Callable, Iterable
 
-from . import arguments, questions, refusals
+from . import arguments, questions, refusals, reports
 from .client import Desk
 from .commands import LOAD, VEHICLE, Command, Told, Wrong, command, named, table, word
-from .names import natural
+from .names import natural, quoted
 
 QUESTIONS: list[Command] = []
 look = functools.partial(command, QUESTIONS)
@@ -186,27 +186,28 @@ def who_waits(desk: Desk, said: argparse.Namespace) -> Told:
     return found
 
 
-def report(text: bytes) -> Told:
-    """What is told of a report."""
+def report(text: bytes, read: Callable[[bytes], object]) -> Told:
+    """What is told of a report, once it was read."""
+    read(text)
     return Told(text.decode().rstrip('\n'), text.decode())
 
 
 @look('')
 def stock_report(desk: Desk, said: argparse.Namespace) -> Told:
     """Prints the stock report."""
-    return report(desk.stock_report())
+    return report(desk.stock_report(), reports.read_stock)
 
 
 @look('')
 def hold_report(desk: Desk, said: argparse.Namespace) -> Told:
     """Prints the hold report."""
-    return report(desk.hold_report())
+    return report(desk.hold_report(), reports.read_holds)
 
 
 @look('')
 def loads_export(desk: Desk, said: argparse.Namespace) -> Told:
     """Prints the export of all loads, those that left too, as CSV."""
-    return report(desk.loads_export())
+    return report(desk.loads_export(), reports.read_loads)
 
 
 @look('Held', word('name', metavar='NAME', help='or its number'), cost='none')
@@ -214,6 +215,6 @@ def refusal(desk: Desk, said: argparse.Namespace) -> Told:
     """What a refusal says, and what to do."""
     named_so = [one for one in refusals.ALL if said.name.lower() in (one.name.lower(), str(one.number))]
     if not named_so:
-        raise Wrong('%a is neither the name nor the number of a refusal (docs/HTTP.md)' % said.name)
+        raise Wrong(f'{quoted(said.name)} is neither the name nor the number of a refusal (docs/HTTP.md)')
     one = named_so[0]
     return Told('%s (%d): %s. %s' % (one.name, one.number, one.says, one.advice), dataclasses.asdict(one))

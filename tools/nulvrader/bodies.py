@@ -54,7 +54,7 @@ def hint(word: str, words: Iterable[str], least: float = 0.6) -> str:
     return '; %s was probably meant' % meant if meant else ''
 
 
-def shown(value: object) -> str:
+def as_json(value: object) -> str:
     """A value as JSON, cut where it is long."""
     text = json.dumps(value)
     return text if len(text) <= 60 else text[:57] + '...'
@@ -95,16 +95,17 @@ class Description:
         """What is wrong with the JSON body of a call."""
         try:
             value = json.loads(body.decode())
+            found = self.check(value, operation.schema, '', operation.name == OPEN)
+            return [*found, *fractions(value, '')]
         except (ValueError, RecursionError) as fault:
-            return ['the body is no JSON: %s' % fault]
-        return [*self.check(value, operation.schema, '', operation.name == OPEN), *fractions(value, '')]
+            return [f'the body is no JSON: {fault}']
 
     def check(self, value: Any, schema: Mapping[str, Any], at: str, is_open: bool = False) -> list[str]:
         """The faults of a value that is not null."""
         if '$ref' in schema:
             name = schema['$ref'].rpartition('/')[2]
             found = self.check(value, self.schemas[name], at, is_open)
-            return ['%s%s is %s' % (before(at), shown(value), WORDS[name])] if found and name in WORDS else found
+            return ['%s%s is %s' % (before(at), as_json(value), WORDS[name])] if found and name in WORDS else found
         if 'oneOf' in schema:
             return min((self.check(value, one, at, is_open) for one in schema['oneOf']), key=len)
         kinds = schema.get('type', [])
@@ -113,9 +114,9 @@ class Description:
             return found
         if 'enum' in schema and value not in schema['enum']:
             known = [str(one) for one in schema['enum']]
-            found.append('%s%s is none of %s%s' % (before(at), shown(value), ', '.join(known), hint(str(value), known)))
+            found.append('%s%s is none of %s%s' % (before(at), as_json(value), ', '.join(known), hint(str(value), known)))
         if 'pattern' in schema and not re.search(schema['pattern'].replace('$', r'\Z'), value, re.ASCII):
-            found.append('%s%s does not fit %s' % (before(at), shown(value), schema['pattern']))
+            found.append('%s%s does not fit %s' % (before(at), as_json(value), schema['pattern']))
         if 'minimum' in schema and not schema['minimum'] <= value <= schema['maximum']:
             found.append('%s%d is not from %d to %d' % (before(at), value, schema['minimum'], schema['maximum']))
         if isinstance(value, dict) and 'properties' in schema:
@@ -133,7 +134,7 @@ class Description:
             if kind != 'null' and isinstance(value, KINDS[kind][0]) and (kind == 'boolean') == isinstance(value, bool):
                 return []
         wanted = ' or '.join(KINDS[kind][1] for kind in kinds if kind != 'null')
-        return ['%s%s is not %s' % (before(at), shown(value), wanted)] if kinds else []
+        return ['%s%s is not %s' % (before(at), as_json(value), wanted)] if kinds else []
 
     def check_members(self, value: dict[str, Any], schema: Mapping[str, Any], at: str, is_open: bool) -> list[str]:
         """The faults of an object: a member that is null counts as absent."""
@@ -165,7 +166,7 @@ def before(at: str) -> str:
 def fractions(value: Any, at: str) -> list[str]:
     """All numbers of a body have to be whole, also those that the desk does not look at."""
     if isinstance(value, float):
-        return ['%s%s is no whole number' % (before(at), shown(value))]
+        return ['%s%s is no whole number' % (before(at), as_json(value))]
     if isinstance(value, dict):
         return [one for name, item in value.items() for one in fractions(item, '%s.%s' % (at, name) if at else name)]
     if isinstance(value, list):

@@ -8,12 +8,14 @@ import json
 import sys
 from typing import Any
 
-from . import arguments, bodies
+from . import arguments, bodies, reports
 from .client import Answer, Desk, Stop, refused
 from .commands import LOAD, REFERENCE, VEHICLE, Command, Told, Wrong, command, named, number, reference, word
 from .counts import CountFile
 from .layouts import LayoutFile
+from .members import read_object
 from .messages import read_order
+from .names import LARGEST
 from .tables import TableFile
 
 CALLS: list[Command] = []
@@ -22,6 +24,7 @@ look = functools.partial(command, CALLS)
 STATION = named('--station', 'station', help='else it is at the checking place')
 NODE = named('--node', 'node', required=True)
 FILE = word('file', metavar='FILE', help='a file, or - for standard input')
+FILE_SIZE = 1_000_000  # the most bytes of a file that are read
 
 
 class AddStop(argparse.Action):
@@ -36,14 +39,18 @@ class AddStop(argparse.Action):
 
 
 def data_of(path: str) -> bytes:
-    """The bytes of a file, or of standard input."""
+    """The bytes of a file, or of standard input. `Wrong` where it has far more than any body."""
     try:
         if path == '-':
-            return sys.stdin.buffer.read()
-        with open(path, 'rb') as file:
-            return file.read()
+            data = sys.stdin.buffer.read(FILE_SIZE + 1)
+        else:
+            with open(path, 'rb') as file:
+                data = file.read(FILE_SIZE + 1)
     except OSError as fault:
-        raise Wrong('%s: %s' % (path, fault.strerror)) from None
+        raise Wrong(f'{path}: {fault.strerror}') from None
+    if len(data) > FILE_SIZE:
+        raise Wrong(f'{path}: it has more than {FILE_SIZE:,} bytes')
+    return data
 
 
 def checked_file(file: TableFile, path: str) -> None:
@@ -151,6 +158,8 @@ def advance(desk: Desk, said: argparse.Namespace) -> Told:
         row = desk.vehicle(said.vehicle)
         if row.order is None or row.sent is None:
             raise refused(Answer(409, b'{"name":"NoOrder","refusal":25}'))
+        if row.sent == LARGEST:
+            raise refused(Answer(409, b'{"name":"Spent","refusal":48}'))
         edges = said.edges
         if said.all:
             message = desk.order_message(said.vehicle)
@@ -204,7 +213,7 @@ def post_state(desk: Desk, said: argparse.Namespace) -> Told:
     try:
         message = json.loads(data_of(said.file))
     except (ValueError, RecursionError) as fault:
-        raise Wrong('%s: no JSON: %s' % (said.file, fault)) from None
+        raise Wrong(f'{said.file}: no JSON: {fault}') from None
     accepted = desk.post_state(said.vehicle, message)
     return Told('the state is %s' % ('accepted' if accepted else 'old, and changes nothing'), {'accepted': accepted})
 
@@ -251,12 +260,12 @@ def call(desk: Desk, said: argparse.Namespace) -> Told:
     answer = desk.ask(method, said.path, body or None)
     if answer.status not in (200, 204):
         raise refused(answer)
-    text = answer.body.decode(errors='replace')
-    try:
-        value = json.loads(text)
-    except ValueError:
-        value = text
-    return Told(text.rstrip('\n'), value)
+    text = answer.body.decode('latin-1').rstrip('\n')
+    read = reports.READERS.get(said.path.partition('?')[0])
+    if read is not None:
+        read(answer.body)
+        return Told(text, answer.body.decode())
+    return Told(text, '' if answer.status == 204 else read_object(answer.body, method != 'GET'))
 
 
 class CheckedDesk(Desk):

@@ -1,58 +1,53 @@
-"""A client of a desk: a method for each call. What the desk refuses is `Refused`, and where there is no answer of a
-desk that is `NoAnswer`."""
+"""A client of a desk: a method for each call.
+
+A method raises `Refused` where the desk refuses, `NoAnswer` where no answer of a desk has come, and
+of these `NotADesk` where an answer came that no desk writes. A value that no call takes is a
+`BadValue`, and nothing is sent."""
 from __future__ import annotations
 
 import base64
 import contextlib
 import http.client
 import json
+import re
 import ssl
-import urllib.parse
+import time
 from collections.abc import Iterator, Mapping, Sequence
 from dataclasses import dataclass
 from typing import Any
 
-from . import refusals
-from .names import VehicleKey, checked
+from . import refusals, reports, wire
+from .faults import NoAnswer, NotADesk, Refused, told
+from .members import Members, read_object
+from .messages import read_instant_action, read_order
+from .names import BadName, BadValue, VehicleKey, checked, checked_number, checked_vehicle, is_name
+from .tables import BODY
+from .text import shown
+
+__all__ = ['Answer', 'BadName', 'BadValue', 'Desk', 'Load', 'NoAnswer', 'NotADesk', 'Refused']
+__all__ += ['Stocktake', 'Stop', 'Vehicle', 'refused', 'told']
 
 ADDRESS = '127.0.0.1:8080'
+# The most bytes of an answer. The head of a desk's answer has less than 200 bytes; a proxy adds
+# lines. JSON has at most the 200 edges of an order, or the names of a stocktake of 65,536 bytes.
+# 1,000,000 loads are 35 MB in the stock report, and 74 MB in the export, with names of 32 bytes.
+HEAD = 65_536
+JSON = 1_000_000
+TEXT = 80_000_000
+LONG = ('/report/', '/export/')  # how the paths of answers that are text begin
 PROXY = {
     401: ('Unauthorized', 'The proxy requires a user', 'Give a user and the password.'),
-    403: ('Forbidden', 'The proxy does not allow this user to make this call', 'Use a user with another role.'),
+    403: (
+        'Forbidden',
+        'The proxy does not allow this user to make this call',
+        'Use a user with another role.',
+    ),
+    429: (
+        'TooMany',
+        'The proxy has too many requests of this user or address at a time',
+        'Ask again in a moment.',
+    ),
 }
-
-
-class NoAnswer(Exception):
-    """No answer of a desk has come. `may_be_done` says that the request may have reached the desk, so that a call may
-    have been carried out. Its `str()` is a sentence."""
-
-    def __init__(self, sentence: str, may_be_done: bool):
-        super().__init__(sentence)
-        self.may_be_done = may_be_done
-
-
-class Refused(Exception):
-    """A refusal: its name, its number (0 where a proxy before the desk refuses), the status and all members of the
-    answer. Its `str()` is the sentence of what is wrong; `advice` says what to do."""
-
-    def __init__(self, name: str, number: int, status: int, members: Mapping[str, Any], sentence: str, advice: str):
-        super().__init__(sentence)
-        self.name, self.number, self.status, self.members = name, number, status, dict(members)
-        self.advice = advice
-
-    def told(self) -> str:
-        """All that a person is told: `Held (33): The vehicle KIT/0001 holds node N2. Wait until ..`."""
-        number = ' (%d)' % self.number if self.number else ''
-        return '%s%s: %s. %s' % (self.name, number, self, self.advice)
-
-    def is_fault(self) -> bool:
-        """Whether it is a fault of the machine, so that the same request may be answered later."""
-        return self.status >= 500
-
-
-def told(fault: Exception) -> str:
-    """What a person is told of a refusal or of another fault."""
-    return fault.told() if isinstance(fault, Refused) else str(fault)
 
 
 @dataclass(frozen=True)
@@ -82,9 +77,10 @@ class Load:
 
 @dataclass(frozen=True)
 class Vehicle:
-    """What a desk knows of a vehicle. `order`, `sent` and `confirmed` are None without an open order, `confirmed` also
-    until a state has named the order; `header` is the number of the last accepted state; `pending` the type of the
-    pending instant action; `astray` says that it left its order on the way."""
+    """What a desk knows of a vehicle. `order`, `sent` and `confirmed` are None without an open
+    order, `confirmed` also until a state has named the order; `header` is the number of the last
+    accepted state; `pending` the type of the pending instant action; `astray` says that it left its
+    order on the way."""
 
     key: VehicleKey
     node: str
@@ -107,27 +103,34 @@ class Stocktake:
     unknown: tuple[str, ...]
 
 
-def refused(answer: Answer) -> Exception:
-    """What an answer says that is not 200 or 204: a `Refused`, or a `NoAnswer` where no desk answers so."""
+def refused(answer: Answer) -> Refused | NotADesk:
+    """Returns what an answer says that is not 200 or 204: a `Refused`, or a `NotADesk` where no
+    desk answers so."""
     try:
-        told = json.loads(answer.body)
-        name, number = str(told['name']), int(told['refusal'])
-    except (ValueError, KeyError, TypeError):
+        members = read_object(answer.body)
+        name, number = Members(members).name('name'), Members(members).number('refusal')
+    except NotADesk:
         if answer.status in PROXY:
             name, sentence, advice = PROXY[answer.status]
             return Refused(name, 0, answer.status, {}, sentence, advice)
-        text = answer.body[:80].decode('ascii', 'replace').strip() or 'and no text'
-        return NoAnswer('What answers there is no desk: status %d, %s' % (answer.status, text), answer.status >= 500)
+        text = shown(answer.body.strip(), 80) or 'and no text'
+        return NotADesk(f'status {answer.status}, {text}', answer.status >= 500)
     known = refusals.BY_NAME.get(name)
+    if not 400 <= answer.status < 600 or known is not None and known.number != number:
+        return NotADesk(f'status {answer.status} with the refusal {name} ({number})', True)
+    plain = {one: value for one, value in members.items() if not isinstance(value, (dict, list))}
     if known is None:
-        return Refused(name, number, answer.status, told, 'The desk refuses it: %s' % name, 'Look into docs/HTTP.md.')
-    return Refused(name, number, answer.status, told, known.sentence(told), known.advice)
+        sentence, advice = f'The desk refuses it: {name}', 'Look into docs/HTTP.md.'
+        return Refused(name, number, answer.status, plain, sentence, advice)
+    return Refused(name, number, answer.status, plain, known.sentence(plain), known.advice)
 
 
 class Desk:
-    """A desk at an address: `127.0.0.1:8080`, `http://127.0.0.1:8080` or, by a proxy with TLS, `https://desk.example`;
-    a path behind it stands before the path of each request. `user` and `password` are for a proxy, and `cafile` (PEM)
-    vouches for its certificate. `timeout` is in seconds. Each request has a connection of its own but within `kept`."""
+    """A desk at an address: `127.0.0.1:8080`, `http://127.0.0.1:8080`, `unix:/run/desk.sock` or, by
+    a proxy with TLS, `https://desk.example`; a path behind a host stands before the path of each
+    request. `user` and `password` are for a proxy, and `cafile` (PEM) vouches for its certificate.
+    `timeout` is the seconds within which a whole answer has to come, from the connection to the
+    last byte. Each request has a connection of its own except within `kept`."""
 
     def __init__(
         self,
@@ -138,138 +141,186 @@ class Desk:
         cafile: str | None = None,
         timeout: float = 10.0,
     ):
-        parts = urllib.parse.urlsplit(address if '://' in address else 'http://' + address)
-        try:
-            port = parts.port
-        except ValueError:
-            port = -1
-        if parts.scheme not in ('http', 'https') or not parts.hostname or port == -1:
-            raise ValueError('%a is not the address of a desk: write HOST:PORT, http://HOST:PORT or https://HOST' % address)
         self.address, self.timeout = address, timeout
-        self._host, self._port, self._front = parts.hostname, port, parts.path.rstrip('/')
-        self._context = ssl.create_default_context(cafile=cafile) if parts.scheme == 'https' else None
-        self._headers: dict[str, str] = {}
+        self.at = wire.Place.parse(address)
+        is_tls = self.at.is_tls
+        self._context = ssl.create_default_context(cafile=cafile) if is_tls else None
+        self._headers = {'Host': self.at.header()}
         if user is not None:
-            secret = base64.b64encode(('%s:%s' % (user, password or '')).encode()).decode()
-            self._headers['Authorization'] = 'Basic ' + secret
-        self._connection: http.client.HTTPConnection | None = None
-        self._left: int | None = 0  # how many requests more the kept connection takes; None: any number
+            secret = base64.b64encode(f'{user}:{password or ""}'.encode()).decode()
+            self._headers['Authorization'] = f'Basic {secret}'
+        self._ends: float | None = None  # the moment at which all has to be answered
+        self._seconds = timeout  # that were given for it
+        self._keeps = False
+        self._wire: wire.Wire | None = None  # the kept connection, once it is made
+        self._left: int | None = 0  # how many requests more it takes; None: any number
 
-    def _connect(self) -> http.client.HTTPConnection:
-        if self._context is not None:
-            return http.client.HTTPSConnection(self._host, self._port, timeout=self.timeout, context=self._context)
-        return http.client.HTTPConnection(self._host, self._port, timeout=self.timeout)
+    @contextlib.contextmanager
+    def within(self, seconds: float) -> Iterator[Desk]:
+        """Gives all requests of a block so many seconds together."""
+        before = self._ends, self._seconds
+        self._ends, self._seconds = time.monotonic() + seconds, seconds
+        try:
+            yield self
+        finally:
+            self._ends, self._seconds = before
 
     @contextlib.contextmanager
     def kept(self, count: int | None = None) -> Iterator[Desk]:
-        """Keeps one connection for so many requests, or until the block ends. A desk serves its connections one after
-        another, so what it answers on one is of one moment, but by a proxy; meanwhile it answers nobody else, and it
-        closes one on which it hears nothing for ten seconds. Beyond `count` each request has a connection of its own
-        again."""
-        if self._connection is not None:
+        """Keeps one connection for so many requests, or until the block ends. A desk serves its
+        connections one after another, so what it answers on one is of one moment, except through a
+        proxy; meanwhile it answers nobody else, and it closes one on which it hears nothing for ten
+        seconds. Beyond `count` each request has a connection of its own again."""
+        if self._keeps:
             yield self  # it is kept already
             return
-        self._connection, self._left = self._connect(), count
+        self._keeps, self._left = True, count
         try:
             yield self
         finally:
             self._close()
 
     def _close(self) -> None:
-        if self._connection is not None:
-            self._connection.close()
-        self._connection, self._left = None, 0
+        if self._wire is not None:
+            self._wire.end()
+        self._keeps, self._wire, self._left = False, None, 0
 
     def ask(self, method: str, target: str, body: bytes | None = None) -> Answer:
-        """One request, and what is answered, be it a refusal. `NoAnswer` where nothing is."""
-        connection, last = self._connection or self._connect(), self._connection is None
+        """Makes one request, and returns what is answered, a refusal too. Raises `NoAnswer` where
+        nothing is."""
+        if not re.fullmatch('[A-Z]{1,16}', method) or not re.fullmatch('/[!-~]*', target):
+            raise BadValue(f'{method[:20]!a} {target[:100]!a} is no request')
+        last = not self._keeps
         if self._left is not None and not last:
             self._left -= 1
             last = self._left <= 0
-        headers = {**self._headers, 'Connection': 'close'} if last else self._headers
-        if method in ('PUT', 'POST'):
-            headers = {**headers, 'Content-Length': str(len(body or b''))}
+        ends = time.monotonic() + self.timeout
+        ends = ends if self._ends is None else min(ends, self._ends)
+        at, self._wire = self._wire, None
         sent = False
         try:
-            if connection.sock is None:
-                connection.connect()
+            if at is None:
+                at = wire.connect(self.at, self._context, ends)
+            at.begin(ends, HEAD)
             sent = True
-            # What answers before it has read the whole body may close the connection while that is sent.
-            with contextlib.suppress(BrokenPipeError, ConnectionResetError):
-                connection.request(method, self._front + target, body, headers)
-            answer = connection.getresponse()
-            told = Answer(answer.status, answer.read())
-            last = last or answer.will_close
-            return told
+            answer, last = self._exchange(at, method, target, body, last)
+            if not last:
+                self._wire, at = at, None
+            return answer
+        except NotADesk:
+            last = True
+            raise
         except (OSError, http.client.HTTPException) as fault:
             last = True
             raise NoAnswer(self._why(fault, sent), sent) from fault
         finally:
+            if at is not None:
+                at.end()
             if last:
-                connection.close()
                 self._close()
 
+    def _exchange(
+        self, at: wire.Wire, method: str, target: str, body: bytes | None, last: bool
+    ) -> tuple[Answer, bool]:
+        """Sends a request, and reads the answer. Whether it is the last one of its connection."""
+        headers = {**self._headers, 'Connection': 'close'} if last else dict(self._headers)
+        if method in ('PUT', 'POST'):
+            headers['Content-Length'] = str(len(body or b''))
+        connection = http.client.HTTPConnection('localhost')
+        connection.auto_open = 0
+        connection.sock = at
+        most = TEXT if target.startswith(LONG) else JSON
+        try:
+            # What answers before it has read the whole body may close the connection meanwhile.
+            with contextlib.suppress(BrokenPipeError, ConnectionResetError):
+                connection.request(method, self.at.front + target, body, headers)
+            with connection.getresponse() as answer:
+                at.allowed += most
+                return Answer(answer.status, _body(answer, most)), last or answer.will_close
+        except wire.TooMuch:
+            raise NotADesk(f'it answers more than {most:,} bytes', True) from None
+        except http.client.RemoteDisconnected:
+            raise
+        except (http.client.BadStatusLine, http.client.UnknownProtocol) as fault:
+            raise NotADesk(f'it answers {shown(str(fault), 80)}', True) from None
+        except http.client.IncompleteRead:
+            raise
+        except (http.client.HTTPException, ValueError, OverflowError) as fault:
+            raise NotADesk(f'its answer is not HTTP: {shown(str(fault), 80)}', True) from None
+
     def _why(self, fault: Exception, sent: bool) -> str:
+        """Returns the sentence of why no answer came."""
         if isinstance(fault, ssl.SSLCertVerificationError):
-            return '%s: its certificate is not trusted: %s' % (self.address, fault.verify_message)
-        if isinstance(fault, ConnectionRefusedError):
-            return '%s: no program listens there: is the desk started, and on this port?' % self.address
-        if isinstance(fault, TimeoutError):
-            what = 'no answer came' if sent else 'no connection was made'
-            return '%s: %s within %g seconds' % (self.address, what, self.timeout)
-        if sent:
-            return '%s: the connection was closed before the answer arrived: %s' % (
-                self.address,
-                fault or type(fault).__name__,
-            )
-        return '%s: %s' % (self.address, fault or type(fault).__name__)
+            why = f'its certificate is not trusted: {fault.verify_message}'
+        elif isinstance(fault, (ConnectionRefusedError, FileNotFoundError)):
+            where = 'at this path' if self.at.path else 'on this port'
+            why = f'no program listens there: is the desk started, and {where}?'
+        elif isinstance(fault, PermissionError) and self.at.path and not sent:
+            why = 'this user may not connect: only the group of the socket may'
+        elif isinstance(fault, TimeoutError):
+            what = 'no whole answer came' if sent else 'no connection was made'
+            why = f'{what} within {min(self.timeout, self._seconds):g} seconds'
+        else:
+            cut = 'the connection was closed before the answer arrived: ' if sent else ''
+            why = f'{cut}{shown(str(fault), 200) or type(fault).__name__}'
+        return f'{self.address}: {why}'
 
     def _bytes(self, method: str, target: str, body: object = None) -> bytes:
-        """The body of what is answered with 200 or 204; all else is raised. A body that is no bytes is sent as JSON."""
-        data = body if body is None or isinstance(body, bytes) else json.dumps(body, separators=(',', ':')).encode()
+        """Returns the body of what is answered with 200 or 204; all else is raised. A body that is
+        no bytes is sent as JSON."""
+        data = body if body is None or isinstance(body, bytes) else _json_of(body)
+        if data is not None and len(data) > BODY:
+            raise BadValue(f'a body of {len(data):,} bytes: a desk takes {BODY:,}')
         answer = self.ask(method, target, data)
         if answer.status not in (200, 204):
             raise refused(answer)
         return answer.body
 
-    def _json(self, method: str, target: str, body: object = None) -> dict[str, Any]:
+    def _members(self, method: str, target: str, body: object = None) -> Members:
+        """Returns the members of what is answered."""
+        changes = method != 'GET'
+        return Members(read_object(self._bytes(method, target, body), changes), changes)
+
+    def _do(self, method: str, target: str, body: object = None) -> None:
+        """Makes a call that is answered `{}`."""
         told = self._bytes(method, target, body)
-        try:
-            value = json.loads(told)
-        except ValueError:
-            value = None
-        if not isinstance(value, dict):
-            raise NoAnswer('%s: what answers there is no desk' % self.address, True)
-        return value
+        if read_object(told, True):
+            raise NotADesk(f'it answers {shown(told, 80)} where a desk answers {{}}', True)
 
     def set_layout(self, csv: bytes) -> None:
         """Sets the layout, once for good (docs/PROFILE.md)."""
-        self._json('PUT', '/layout', csv)
+        self._do('PUT', '/layout', _table(csv))
 
     def register_vehicle(self, vehicle: VehicleKey, node: str, capacity: int | None = None) -> None:
         """Registers a vehicle at a node, for one load or `capacity` (1 to 4) at once."""
-        body = {**_key(vehicle), 'node': node}
-        self._json('POST', '/vehicles', _present(body, capacity=capacity))
+        loads = None if capacity is None else checked_number(capacity, 'loads')
+        body = {**_key(vehicle), 'node': checked(node, 'node')}
+        self._do('POST', '/vehicles', _present(body, capacity=loads))
 
     def register_load(self, load: str, station: str | None = None) -> None:
         """Registers a load at a station, or at the checking place."""
-        self._json('POST', '/loads', _present({'load': load}, station=station))
+        body = {'load': checked(load, 'load')}
+        self._do('POST', '/loads', _present(body, station=_station(station)))
 
     def correct_load(self, load: str, ref: str, station: str | None = None) -> None:
         """Says that a load stands at a station, or at the checking place."""
-        self._json('POST', '/loads/%s/correct' % checked(load, 'load'), _present({'ref': ref}, station=station))
+        body = {'ref': checked(ref, 'reference')}
+        path = f'/loads/{checked(load, "load")}/correct'
+        self._do('POST', path, _present(body, station=_station(station)))
 
     def leave_load(self, load: str, ref: str) -> None:
         """Says that a load has left the warehouse."""
-        self._json('POST', '/loads/%s/leave' % checked(load, 'load'), {'ref': ref})
+        body = {'ref': checked(ref, 'reference')}
+        self._do('POST', f'/loads/{checked(load, "load")}/leave', body)
 
     def add_job(self, job: str, load: str, to: str) -> None:
         """Adds a job that takes a load from the station where it stands to another one."""
-        self._json('POST', '/jobs', {'job': job, 'load': load, 'to': to})
+        names = checked(job, 'job'), checked(load, 'load'), checked(to, 'station')
+        self._do('POST', '/jobs', dict(zip(('job', 'load', 'to'), names)))
 
     def stop_job(self, job: str) -> None:
         """Stops a job that waits."""
-        self._json('DELETE', '/jobs/%s' % checked(job, 'job'))
+        self._do('DELETE', f'/jobs/{checked(job, "job")}')
 
     def start_order(
         self,
@@ -280,104 +331,181 @@ class Desk:
         stops: Sequence[Stop] | None = None,
         edges: int,
     ) -> int:
-        """Gives a vehicle an order, of one job or of stops, with so many edges released. The number of its update."""
-        named = None if stops is None else [{'action': stop.action, 'job': stop.job} for stop in stops]
-        body = _present({**_key(vehicle), 'order': order}, edges=edges, job=job, stops=named)
-        return int(self._json('POST', '/orders', body)['orderUpdateId'])
+        """Gives a vehicle an order, of one job or of stops, with so many edges released. Returns
+        the number of its update."""
+        body = {**_key(vehicle), 'order': checked(order, 'order')}
+        named = None if job is None else checked(job, 'job')
+        listed = None if stops is None else [_stop(stop) for stop in stops]
+        count = checked_number(edges, 'edges')
+        told = self._members(
+            'POST', '/orders', _present(body, edges=count, job=named, stops=listed)
+        )
+        return told.number('orderUpdateId')
 
     def advance(self, vehicle: VehicleKey, order: str, update: int, edges: int) -> int:
-        """Releases so many edges more, by the update of this number, and gives the number."""
-        more = {'order': order, 'orderUpdateId': update, 'edges': edges}
-        return int(self._json('POST', '/vehicles/%s/advance' % vehicle, more)['orderUpdateId'])
+        """Releases so many edges more, by the update of this number, and returns the number."""
+        body = {
+            'order': checked(order, 'order'),
+            'orderUpdateId': checked_number(update, 'an update'),
+            'edges': checked_number(edges, 'edges'),
+        }
+        told = self._members('POST', f'/vehicles/{checked_vehicle(vehicle)}/advance', body)
+        told.same('orderUpdateId', told.number('orderUpdateId'), update)
+        return update
 
     def cancel(self, vehicle: VehicleKey) -> str:
-        """Cancels the order of a vehicle. The id of the instant action."""
+        """Cancels the order of a vehicle. Returns the id of the instant action."""
         return self._instant(vehicle, 'cancel')
 
     def pause(self, vehicle: VehicleKey) -> str:
-        """Tells a vehicle to pause. The id of the instant action."""
+        """Tells a vehicle to pause. Returns the id of the instant action."""
         return self._instant(vehicle, 'pause')
 
     def resume(self, vehicle: VehicleKey) -> str:
-        """Tells a vehicle to go on. The id of the instant action."""
+        """Tells a vehicle to go on. Returns the id of the instant action."""
         return self._instant(vehicle, 'resume')
 
     def _instant(self, vehicle: VehicleKey, what: str) -> str:
-        return str(self._json('POST', '/vehicles/%s/%s' % (vehicle, what))['actionId'])
+        told = self._members('POST', f'/vehicles/{checked_vehicle(vehicle)}/{what}')
+        return told.name('actionId')
 
     def place(self, vehicle: VehicleKey, ref: str, node: str) -> None:
         """Says that a vehicle stands at a node. Its order ends, and its track is free."""
-        self._json('POST', '/vehicles/%s/place' % vehicle, {'ref': ref, 'node': node})
+        body = {'ref': checked(ref, 'reference'), 'node': checked(node, 'node')}
+        self._do('POST', f'/vehicles/{checked_vehicle(vehicle)}/place', body)
 
     def resync(self, vehicle: VehicleKey) -> None:
         """Forgets the number of the vehicle's last state, as after its restart."""
-        self._json('POST', '/vehicles/%s/resync' % vehicle)
+        self._do('POST', f'/vehicles/{checked_vehicle(vehicle)}/resync')
 
     def post_state(self, vehicle: VehicleKey, message: Mapping[str, Any]) -> bool:
         """Posts a state of a vehicle. False where it is old and changes nothing."""
-        return bool(self._json('POST', '/uagv/v2/%s/state' % vehicle, dict(message))['accepted'])
+        if not isinstance(message, Mapping):
+            raise BadValue('a state is a JSON object')
+        path = f'/uagv/v2/{checked_vehicle(vehicle)}/state'
+        return self._members('POST', path, dict(message)).flag('accepted')
 
     def order_message(self, vehicle: VehicleKey) -> dict[str, Any] | None:
-        """The last order message of a vehicle's open order, or None without one."""
-        return self._message(vehicle, 'order')
+        """Returns the last order message of a vehicle's open order, or None without one."""
+        message = self._message(vehicle, 'order')
+        if message is not None and read_order(message).vehicle != vehicle:
+            raise NotADesk(f'the order message of {vehicle} is of another vehicle')
+        return message
 
     def instant_actions(self, vehicle: VehicleKey) -> dict[str, Any] | None:
-        """The last instantActions message of a vehicle, while its action is pending, else None."""
-        return self._message(vehicle, 'instantActions')
+        """Returns the last instantActions message of a vehicle, while its action is pending, else
+        None."""
+        message = self._message(vehicle, 'instantActions')
+        if message is not None and read_instant_action(message)[0] != vehicle:
+            raise NotADesk(f'the instantActions message of {vehicle} is of another vehicle')
+        return message
 
     def _message(self, vehicle: VehicleKey, topic: str) -> dict[str, Any] | None:
-        answer = self.ask('GET', '/uagv/v2/%s/%s' % (vehicle, topic))
+        answer = self.ask('GET', f'/uagv/v2/{checked_vehicle(vehicle)}/{topic}')
         if answer.status == 204:
             return None
         if answer.status != 200:
             raise refused(answer)
-        message: dict[str, Any] = json.loads(answer.body)
-        return message
+        return read_object(answer.body)
 
     def stocktake(self, ref: str, csv: bytes) -> Stocktake:
         """Tells what was counted (docs/PROFILE.md)."""
-        told = self._json('POST', '/stocktakes/%s' % checked(ref, 'reference'), csv)
-        return Stocktake(int(told['moved']), tuple(told['unknown']))
+        told = self._members('POST', f'/stocktakes/{checked(ref, "reference")}', _table(csv))
+        unknown = told.items('unknown')
+        if not all(is_name(name) for name in unknown):
+            raise told.wrong('unknown', unknown)
+        return Stocktake(told.number('moved'), tuple(unknown))
 
     def load(self, name: str) -> Load:
-        """Where a load is, and its live job."""
-        told = self._json('GET', '/loads/%s' % checked(name, 'load'))
-        return Load(told['load'], told['place'], told['job'])
+        """Returns where a load is, and its live job."""
+        told = self._members('GET', f'/loads/{checked(name, "load")}')
+        told.same('load', told.name('load'), name)
+        return Load(name, told.place('place'), told.name_or_none('job'))
 
     def vehicle(self, vehicle: VehicleKey) -> Vehicle:
-        """What the desk knows of a vehicle."""
-        told = self._json('GET', '/vehicles/%s' % vehicle)
-        return Vehicle(
-            key=VehicleKey(told['manufacturer'], told['serialNumber']),
-            node=told['node'],
-            capacity=told['capacity'],
-            ready=told['ready'],
-            paused=told['paused'],
-            astray=told['astray'],
-            pending=told['pending'],
-            order=told['order'],
-            sent=told['sent'],
-            confirmed=told['confirmed'],
-            header=told['headerId'],
+        """Returns what the desk knows of a vehicle."""
+        told = self._members('GET', f'/vehicles/{checked_vehicle(vehicle)}')
+        told.same('serialNumber', told.vehicle(), vehicle)
+        found = Vehicle(
+            key=vehicle,
+            node=told.name('node'),
+            capacity=told.number('capacity', 1, 4),
+            ready=told.flag('ready'),
+            paused=told.flag('paused'),
+            astray=told.flag('astray'),
+            pending=told.name_or_none('pending'),
+            order=told.name_or_none('order'),
+            sent=told.number_or_none('sent'),
+            confirmed=told.number_or_none('confirmed'),
+            header=told.number_or_none('headerId'),
         )
+        told.same('sent', found.sent is None, found.order is None)
+        told.same('confirmed', (found.confirmed or 0) <= (found.sent or 0), True)
+        return found
 
     def stock_report(self) -> bytes:
-        """Where the loads are, as text."""
-        return self._bytes('GET', '/report/stock')
+        """Returns where the loads are, as text."""
+        return reports.check_stock(self._bytes('GET', '/report/stock'))
 
     def hold_report(self) -> bytes:
-        """What the vehicles hold, as text."""
-        return self._bytes('GET', '/report/holds')
+        """Returns what the vehicles hold, as text."""
+        return reports.check_holds(self._bytes('GET', '/report/holds'))
 
     def loads_export(self) -> bytes:
-        """All loads, as CSV."""
-        return self._bytes('GET', '/export/loads')
+        """Returns all loads, as CSV."""
+        return reports.check_loads(self._bytes('GET', '/export/loads'))
+
+
+def _body(answer: http.client.HTTPResponse, most: int) -> bytes:
+    """Returns the whole body of an answer, of at most so many bytes. An answer says how long it is,
+    or comes in chunks; without that a body that was cut would look whole."""
+    if answer.status == 204:
+        return b''
+    lengths: list[str] = answer.headers.get_all('Content-Length', [])
+    if answer.chunked and not lengths:
+        data = bytearray()
+        while part := answer.read(65_536):
+            data += part
+            if len(data) > most:
+                raise wire.TooMuch
+        return bytes(data)
+    if answer.chunked or len(lengths) != 1 or not re.fullmatch('[0-9]{1,18}', lengths[0].strip()):
+        raise ValueError('it does not say how long it is')
+    if int(lengths[0]) > most:
+        raise wire.TooMuch
+    return answer.read()
+
+
+def _json_of(body: object) -> bytes:
+    """Returns a body as JSON, or raises `BadValue` where it is none."""
+    try:
+        text = json.dumps(body, separators=(',', ':'), allow_nan=False, ensure_ascii=False)
+        return text.encode()
+    except (TypeError, ValueError, RecursionError) as fault:
+        raise BadValue(f'the body can not be sent as JSON: {shown(str(fault), 100)}') from None
+
+
+def _table(csv: bytes) -> bytes:
+    if not isinstance(csv, bytes):
+        raise BadValue('a table is sent as bytes')
+    return csv
 
 
 def _key(vehicle: VehicleKey) -> dict[str, str]:
-    return {'manufacturer': vehicle.manufacturer, 'serialNumber': vehicle.serial}
+    key = checked_vehicle(vehicle)
+    return {'manufacturer': key.manufacturer, 'serialNumber': key.serial}
+
+
+def _station(name: str | None) -> str | None:
+    return None if name is None else checked(name, 'station')
+
+
+def _stop(stop: Stop) -> dict[str, str]:
+    if not isinstance(stop, Stop) or stop.action not in ('pick', 'drop'):
+        raise BadValue('a stop of an order is a pick or a drop of a job')
+    return {'action': stop.action, 'job': checked(stop.job, 'job')}
 
 
 def _present(body: Mapping[str, object], **more: object) -> dict[str, object]:
-    """A body with those of the further members that are not None."""
+    """Returns a body with those of the further members that are not None."""
     return {**body, **{name: value for name, value in more.items() if value is not None}}

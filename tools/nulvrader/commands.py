@@ -9,7 +9,8 @@ from typing import Any
 
 from . import arguments
 from .client import Desk
-from .names import BadName, checked, new_reference
+from .names import LARGEST, BadName, checked, new_reference, quoted
+from .text import shown
 
 
 class Wrong(Exception):
@@ -88,8 +89,8 @@ def name_of(what: str) -> Callable[[str], str]:
 
 def number(text: str) -> int:
     """The type of a word that is a number of a call, 0 to 4294967295."""
-    if not (text.isascii() and text.isdigit() and int(text) <= 4294967295):
-        raise argparse.ArgumentTypeError('%a is no whole number from 0 to 4294967295' % text)
+    if not (text.isascii() and text.isdigit() and len(text) <= 20 and int(text) <= LARGEST):
+        raise argparse.ArgumentTypeError(f'{quoted(text)} is no whole number from 0 to {LARGEST}')
     return int(text)
 
 
@@ -116,8 +117,8 @@ def cell(value: object) -> str:
     if isinstance(value, bool):
         return 'yes' if value else '-'
     if isinstance(value, (list, tuple)):
-        return ' '.join(map(str, value)) or '-'
-    return '-' if value is None else str(value)
+        return ' '.join(shown(str(one)) for one in value) or '-'
+    return '-' if value is None else shown(str(value))
 
 
 def as_json(value: object) -> str:

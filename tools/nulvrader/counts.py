@@ -7,7 +7,8 @@ from dataclasses import dataclass, field
 from typing import NamedTuple
 
 from .names import NAME_RULE, is_name, natural
-from .tables import TableFile, records_of, said, shown
+from .tables import TableFile, quoted, records_of, said
+from .text import shown
 
 HEADER = [b'station', b'load']
 # The refusals of a stocktake, in the order in which a desk looks for them.
@@ -77,19 +78,19 @@ class CountFile(TableFile):
             if len(fields) == 1:
                 mark = next((mark for mark in (b';', b'\t') if fields[0].count(mark) == 1), None)
                 if mark is not None:
-                    rule += ': write %s' % fields[0].replace(mark, b',').decode('ascii', 'backslashreplace')
+                    rule += f': write {shown(fields[0].replace(mark, b","))}'
                 elif is_name(fields[0].decode('latin-1')):
                     rule += ': write %s, where no load was found there' % (fields[0].decode() + ',')
             elif any(fields[2:]):
                 rule += ': write one load a row, and nothing behind it'
             else:
-                rule += ': write %s' % b','.join(fields[:2]).decode('ascii', 'backslashreplace')
+                rule += f': write {shown(b",".join(fields[:2]))}'
             self.fault(line, 'BadCsv', rule)
             return
         station, load = (one.decode('latin-1') for one in fields)
         for what, text, one in (('station', station, fields[0]), ('load', load, fields[1])):
             if not is_name(text) and not (what == 'load' and text == ''):
-                rule = 'the %s is %s, and no name: %s' % (what, shown(one), NAME_RULE)
+                rule = 'the %s is %s, and no name: %s' % (what, quoted(one), NAME_RULE)
                 if is_name(text.strip()):
                     rule += ': write %s without blanks' % text.strip()
                 elif b'\n' in one or b'\r' in one:

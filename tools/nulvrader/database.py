@@ -1,19 +1,19 @@
-"""A database file, read without a change to it or to what lies beside it, and whether its tables are a desk's, as
-docs/TABLES.md says under "Whose file is a desk's"."""
+"""Whose tables a database has: whether they are a desk's, as docs/TABLES.md says under "Whose file is a desk's".
+
+Nobody knows whose file it is, so no statement here names a view, a virtual table or a table whose rules are
+expressions, except in SQLite's list of tables: SQLite would compile a view, call the module of a virtual table, and
+compute the expressions, for as long as they like."""
+from __future__ import annotations
+
+import collections
 import contextlib
 import dataclasses
-import fcntl
-import os
 import re
-import shutil
 import sqlite3
-import tempfile
-import urllib.parse
 from collections.abc import Iterator
+from typing import NamedTuple
 
-from .rows import SECOND, TABLES, any_text
-
-HEAD = b'SQLite format 3\0'
+from .rows import SECOND, TABLES
 
 # The columns of each table: `#` is a whole number and the others are texts; `?` may be NULL. Then its keys, each a list
 # of columns; here the primary one is first, and in a file they may have any order.
@@ -45,74 +45,86 @@ SHAPES: dict[str, tuple[str, list[str]]] = {
     'act': ('order_id n# job kind place_at# status', ['order_id n', 'job kind']),
 }
 
-
-# The bytes of a file that SQLite, and a desk, lock: how many, and the first one. Who reads shares the lock.
-LOCKED = 510, 0x40000002
-
-
-@contextlib.contextmanager
-def opened(path: str, alone: bool = False, folder: str | None = None) -> Iterator[sqlite3.Connection]:
-    """The database, to be read, while no other program has it. Where a log lies beside it, it is read with that from a
-    copy of both, since SQLite would change them; else as it is. The copy is in a folder of its own in `folder`, or where
-    TMPDIR says. With `alone` nobody who writes may have it, else it is a BlockingIOError, and until the end nobody gets
-    it."""
-    log = path + '-wal'
-    with contextlib.ExitStack() as stack:
-        file = stack.enter_context(open(path, 'rb'))
-        if alone:
-            fcntl.lockf(file, fcntl.LOCK_SH | fcntl.LOCK_NB, *LOCKED)
-        if os.path.exists(log) and os.path.getsize(log):
-            place = stack.enter_context(tempfile.TemporaryDirectory(dir=folder))
-            copy = os.path.join(place, 'copy.db')
-            with open(copy, 'wb') as other:
-                shutil.copyfileobj(file, other)
-            shutil.copyfile(log, copy + '-wal')
-            base = sqlite3.connect(copy)
-        else:
-            quoted = urllib.parse.quote(os.path.abspath(path))
-            base = sqlite3.connect('file:%s?mode=ro&immutable=1' % quoted, uri=True)
-        stack.callback(base.close)
-        base.text_factory = any_text
-        yield base
+MOST_THINGS = 10_000  # the most tables, indexes, views and triggers that are looked at: a desk's file has 37
+VIRTUAL = re.compile(r'\s*CREATE\s+VIRTUAL\b', re.I)
+OWN = 'sqlite_'  # how the names of SQLite's own tables and indexes begin
 
 
-def has_journal(path: str) -> bool:
-    """Whether a journal lies beside the file that another SQLite is to take back: one with a head."""
-    try:
-        with open(path + '-journal', 'rb') as file:
-            return any(file.read(8))
-    except FileNotFoundError:
-        return False
+class Thing(NamedTuple):
+    """A row of SQLite's list of tables, views, triggers and indexes."""
+
+    kind: str
+    name: str
+    table: str
+    text: str
+
+    @property
+    def is_table(self) -> bool:
+        """It is a table with rows of its own."""
+        return self.kind == 'table' and not VIRTUAL.match(_bare(self.text))
 
 
-def is_empty(path: str) -> bool:
-    """Whether SQLite takes it for a file in which nothing was made yet: of no byte, or of one."""
-    return os.path.getsize(path) <= 1
+class TooMany(Exception):
+    """There are more tables than are looked at. Its `str()` says so."""
 
 
-def has_head(path: str) -> bool:
-    """Whether it begins as a database of SQLite does, or its first page stands in the log alone."""
-    with open(path, 'rb') as file:
-        found = file.read(len(HEAD))
-    log = path + '-wal'
-    return found == HEAD or found[1:] == HEAD[1:] and os.path.exists(log) and os.path.getsize(log) > 0
+def all_things_in(base: sqlite3.Connection) -> list[Thing]:
+    """SQLite's list, but for the indexes of keys."""
+    rows = base.execute('SELECT type, name, tbl_name, sql FROM sqlite_master WHERE sql NOT NULL')
+    found = [Thing(*map(_text, row)) for row in rows.fetchmany(MOST_THINGS + 1)]
+    if len(found) > MOST_THINGS:
+        raise TooMany(f'it has more than {MOST_THINGS} tables, indexes, views and triggers')
+    return found
+
+
+def things_in(base: sqlite3.Connection) -> list[Thing]:
+    """SQLite's list without what is SQLite's own."""
+    return [thing for thing in all_things_in(base) if not thing.name.lower().startswith(OWN)]
+
+
+def _text(value: object) -> str:
+    """A value of SQLite's list, which has texts alone unless it is damaged."""
+    return value if isinstance(value, str) else repr(value)
 
 
 def integrity(base: sqlite3.Connection) -> list[str]:
     """What is wrong with the file beneath its tables: what SQLite finds, at most ten lines, and rows of its list of
-    tables that aren't as SQLite writes them."""
-    try:
-        told = [str(line) for line, in base.execute('PRAGMA integrity_check(10)')]
-    except UnicodeDecodeError as error:  # by a text of SQLite that has bytes of the file
-        return [error.object.decode(errors='backslashreplace')]
+    tables that aren't as SQLite writes them. Where others have tables whose rules are expressions, the other tables
+    alone are looked into."""
     odd = base.execute(
         """
         SELECT rowid FROM sqlite_master
         WHERE type NOT IN ('table', 'index', 'view', 'trigger') OR typeof(name) != 'text' OR typeof(tbl_name) != 'text'
           OR typeof(sql) NOT IN ('text', 'null') OR sql IS NULL AND name NOT GLOB 'sqlite_autoindex_' || tbl_name || '_[1-9]*'
         """
-    )
-    return [line for line in told if line != 'ok'] + ['row %d of sqlite_master is damaged' % row for row, in odd]
+    ).fetchmany(10)
+    told = [f'row {row} of sqlite_master is damaged' for row, in odd]
+    tables = [thing for thing in all_things_in(base) if thing.is_table]
+    plain = [thing.name for thing in tables if is_plain(base, thing)]
+    if len(plain) == len(tables):
+        checks = ['PRAGMA integrity_check(10)']
+    else:
+        checks = [f'PRAGMA integrity_check({_quoted(name)})' for name in plain]
+    return [line for check in checks for line in _checked(base, check)][:10] + told
+
+
+def _checked(base: sqlite3.Connection, check: str) -> list[str]:
+    """What a check of SQLite tells."""
+    try:
+        return [_text(line) for line, in base.execute(check) if line != 'ok']
+    except UnicodeDecodeError as error:  # by a text of SQLite that has bytes of the file
+        return [error.object.decode(errors='backslashreplace')]
+
+
+def is_plain(base: sqlite3.Connection, table: Thing) -> bool:
+    """Whether a table has no CHECK, no generated column, and no index with an expression or with WHERE."""
+    hidden = any(column[6] for column in base.execute(f'PRAGMA table_xinfo({_quoted(table.name)})'))
+    return not hidden and not _has_check(table.text) and next(_indexes_unread(base, table.name), None) is None
+
+
+def _quoted(name: str) -> str:
+    """A name in an SQL text."""
+    return '"%s"' % name.replace('"', '""')
 
 
 @dataclasses.dataclass(frozen=True)
@@ -146,22 +158,31 @@ class Tables:
 
 def tables_of(base: sqlite3.Connection) -> Tables:
     """Whose tables these are. Names of tables are compared as SQL does, without regard to case."""
-    made = base.execute("SELECT type, name, tbl_name, sql FROM sqlite_master WHERE name NOT LIKE 'sqlite_%'").fetchall()
-    tables = {name for kind, name, _, _ in made if kind == 'table'}
+    things = things_in(base)
+    tables = {thing.name: thing for thing in things if thing.kind == 'table'}
     odd = [
-        'the %s %s has a name of a desk\'s table' % (kind, name)
-        for kind, name, _, _ in made
-        if name.lower() in TABLES and (kind != 'table' or name not in TABLES)
+        f"the {thing.kind} {thing.name} has a name of a desk's table"
+        for thing in things
+        if thing.name.lower() in TABLES and (thing.kind != 'table' or thing.name not in TABLES)
     ]
     for name in TABLES:
-        if name in tables:
-            odd += ['the table %s %s' % (name, what) for what in _oddities(base, name)]
-    for name in sorted(tables - set(TABLES)):
-        for row in base.execute('SELECT DISTINCT "table" FROM pragma_foreign_key_list(?)', (name,)):
-            if row[0].lower() in TABLES:
-                odd.append('the table %s of others refers to %s by a foreign key' % (name, row[0]))
-    others = sorted(name for kind, name, _, _ in made if kind in ('table', 'view') and name.lower() not in TABLES)
+        if name in tables and not tables[name].is_table:
+            odd.append(f'the table {name} is virtual')
+        elif name in tables:
+            odd += [f'the table {name} {what}' for what in _oddities(base, tables[name], things)]
+    for name in sorted(set(tables) - set(TABLES)):
+        for parent in _parents(base, tables[name]):
+            if parent.lower() in TABLES:
+                odd.append(f'the table {name} of others refers to {parent} by a foreign key')
+    others = sorted(thing.name for thing in things if thing.kind in ('table', 'view') and thing.name.lower() not in TABLES)
     return Tables(others, [name for name in TABLES if name not in tables], odd)
+
+
+def _parents(base: sqlite3.Connection, table: Thing) -> list[str]:
+    """The tables to which one refers by foreign keys, each once."""
+    if not table.is_table:
+        return []
+    return list(dict.fromkeys(_text(row[2]) for row in base.execute(f'PRAGMA foreign_key_list({_quoted(table.name)})')))
 
 
 def unique_indexes(base: sqlite3.Connection) -> list[str]:
@@ -176,42 +197,66 @@ def unique_indexes(base: sqlite3.Connection) -> list[str]:
 
 def unread(base: sqlite3.Connection) -> Iterator[tuple[str, str]]:
     """What keeps a desk's SQL from reading the file at all, in whosever tables it is, and what to do."""
-    names = {kind: set[str]() for kind in ('table', 'view', 'trigger', 'index')}
-    for kind, name in base.execute('SELECT type, lower(name) FROM sqlite_master'):
-        names[kind].add(name)
-    for name, in base.execute("SELECT name FROM sqlite_master WHERE type = 'table' AND sql LIKE 'CREATE VIRTUAL%'"):
-        yield 'the virtual table %s' % name, 'drop it'
-    for name, table in base.execute("SELECT name, tbl_name FROM sqlite_master WHERE type = 'trigger'"):
-        if table.lower() in names['view']:
-            yield 'the trigger %s on the view %s' % (name, table), 'drop it'
-        elif name.lower() in names['table'] | names['view']:
-            yield 'the trigger %s with the name of a table or a view' % name, 'make it under another name'
-    for name, text in base.execute("SELECT name, sql FROM sqlite_master WHERE type = 'table'").fetchall():
-        frozen = next(_unread_on(base, name), None)
-        if frozen and 'references' in text.lower():
-            yield 'the table %s, which refers to another one and %s' % (name, frozen), 'drop that'
-    with contextlib.suppress(sqlite3.OperationalError):  # of a key that refers to no key
-        for table, row, parent, _ in base.execute('PRAGMA foreign_key_check'):
-            yield 'a row of the table %s, rowid %s, that refers to no row of %s' % (table, row, parent), 'delete it'
+    things = things_in(base)
+    names = {kind: {thing.name.lower() for thing in things if thing.kind == kind} for kind in ('table', 'view')}
+    for thing in things:
+        if thing.kind == 'table' and not thing.is_table:
+            yield f'the virtual table {thing.name}', 'drop it'
+    for thing in things:
+        if thing.kind == 'trigger' and thing.table.lower() in names['view']:
+            yield f'the trigger {thing.name} on the view {thing.table}', 'drop it'
+        elif thing.kind == 'trigger' and thing.name.lower() in names['table'] | names['view']:
+            yield f'the trigger {thing.name} with the name of a table or a view', 'make it under another name'
+    triggers = _triggers_of(things)
+    for table in (thing for thing in things if thing.is_table):
+        if 'references' in table.text.lower():
+            yield from _unread_row(base, table, triggers)
     if base.execute('PRAGMA auto_vacuum').fetchone()[0]:
         yield 'auto-vacuum', 'turn it off by `PRAGMA auto_vacuum = NONE; VACUUM`'
     if base.execute('PRAGMA encoding').fetchone()[0] != 'UTF-8':
         yield 'its texts in UTF-16', 'copy its tables into a new file'
 
 
-def _unread_on(base: sqlite3.Connection, table: str) -> Iterator[str]:
+def _unread_row(base: sqlite3.Connection, table: Thing, triggers: dict[str, list[str]]) -> Iterator[tuple[str, str]]:
+    """What keeps a desk's SQL from a table that refers to another one."""
+    frozen = next(_unread_on(base, table.name, triggers), None)
+    if frozen:
+        yield f'the table {table.name}, which refers to another one and {frozen}', 'drop that'
+    if not is_plain(base, table):
+        return
+    with contextlib.suppress(sqlite3.OperationalError):  # of a key that refers to no key
+        for name, row, parent, _ in base.execute(f'PRAGMA foreign_key_check({_quoted(table.name)})').fetchmany(10):
+            yield f'a row of the table {_text(name)}, rowid {row}, that refers to no row of {_text(parent)}', 'delete it'
+
+
+def _triggers_of(things: list[Thing]) -> dict[str, list[str]]:
+    """The triggers by their tables."""
+    found: dict[str, list[str]] = collections.defaultdict(list)
+    for thing in things:
+        if thing.kind == 'trigger':
+            found[thing.table.lower()].append(thing.name)
+    return found
+
+
+def _unread_on(base: sqlite3.Connection, table: str, triggers: dict[str, list[str]]) -> Iterator[str]:
     """What on a table keeps a desk's SQL from reading it."""
-    for name, in base.execute("SELECT name FROM sqlite_master WHERE type = 'trigger' AND lower(tbl_name) = ?", (table.lower(),)):
-        yield 'has the trigger %s' % name
-    for _, name, _, _, is_partial in base.execute('PRAGMA index_list("%s")' % table.replace('"', '""')).fetchall():
+    for name in triggers.get(table.lower(), ()):
+        yield f'has the trigger {name}'
+    yield from _indexes_unread(base, table)
+
+
+def _indexes_unread(base: sqlite3.Connection, table: str) -> Iterator[str]:
+    """The indexes of a table that have WHERE or an expression."""
+    for _, name, _, _, is_partial in base.execute(f'PRAGMA index_list({_quoted(table)})').fetchall():
         if is_partial:
-            yield 'has the index %s with WHERE' % name
-        elif any(column == -2 for _, column, *_ in base.execute('PRAGMA index_xinfo("%s")' % name.replace('"', '""'))):
-            yield 'has the index %s on an expression' % name
+            yield f'has the index {name} with WHERE'
+        elif any(row[1] == -2 for row in base.execute(f'PRAGMA index_xinfo({_quoted(name)})').fetchall()):
+            yield f'has the index {name} on an expression'
 
 
-def _oddities(base: sqlite3.Connection, table: str) -> Iterator[str]:
+def _oddities(base: sqlite3.Connection, thing: Thing, things: list[Thing]) -> Iterator[str]:
     """What about a table isn't as the desk makes it."""
+    table = thing.name
     columns, keys = SHAPES[table]
     found = base.execute('PRAGMA table_xinfo("%s")' % table).fetchall()
     names = [column.rstrip('#?') for column in columns.split()]
@@ -232,15 +277,35 @@ def _oddities(base: sqlite3.Connection, table: str) -> Iterator[str]:
         yield 'has the keys %s, and not %s' % tuple(
             ', '.join('(%s)' % ', '.join(key) for key in said) for said in (written, [key.split() for key in keys])
         )
-    (without_rowid, strict), = base.execute('SELECT wr, strict FROM pragma_table_list(?)', (table,))
-    if not strict:
+    options = _options(thing)
+    if options is None or not options.strict:
         yield "isn't STRICT"
-    if without_rowid:
+    if options and options.without_rowid:
         yield 'is WITHOUT ROWID'
     if base.execute('PRAGMA foreign_key_list("%s")' % table).fetchall():
         yield 'has a foreign key'
-    yield from _rules_in_text(base, table)
-    yield from _unread_on(base, table)
+    yield from _rules_in_text(thing.text)
+    yield from _unread_on(base, table, _triggers_of(things))
+
+
+class Options(NamedTuple):
+    """What stands behind the columns of a table."""
+
+    without_rowid: int
+    strict: int
+
+
+def _options(table: Thing) -> Options | None:
+    """The options of a table. SQLite tells them by a list for which it compiles all views, so it is asked about the
+    same table in a database of its own. None where it doesn't make that table there."""
+    with contextlib.closing(sqlite3.connect(':memory:')) as alone:
+        try:
+            alone.execute(table.text)
+        except (sqlite3.Error, sqlite3.Warning):
+            return None
+        names = 'SELECT wr, strict FROM pragma_table_list WHERE lower(name) = ?'
+        told = alone.execute(names, (table.name.lower(),)).fetchone()
+    return told and Options(*told)
 
 
 def _keys(base: sqlite3.Connection, table: str) -> list[list[str]]:
@@ -263,13 +328,22 @@ def _keys(base: sqlite3.Connection, table: str) -> list[list[str]]:
     return [*([rowid] if rowid else []), *(said for _, said in sorted(found))]
 
 
-def _rules_in_text(base: sqlite3.Connection, table: str) -> Iterator[str]:
+def _rules_in_text(text: str) -> Iterator[str]:
     """Rules that stand in the text of a table alone."""
-    (text,) = base.execute("SELECT sql FROM sqlite_master WHERE type = 'table' AND name = ?", (table,)).fetchone()
-    bare = re.sub(r'--[^\n]*|/\*.*?\*/|\'(?:[^\']|\'\')*\'|"(?:[^"]|"")*"|`[^`]*`|\[[^\]]*\]', ' ', text, flags=re.S)
-    if re.search(r'\bCHECK\s*\(', bare, re.I):
+    if _has_check(text):
         yield 'has a CHECK'
-    if re.search(r'\bAUTOINCREMENT\b', bare, re.I):
+    if re.search(r'\bAUTOINCREMENT\b', _bare(text), re.I):
         yield 'has AUTOINCREMENT'
-    if re.search(r'\bCOLLATE\s+(?!BINARY\b)', bare, re.I):
+    if re.search(r'\bCOLLATE\s+(?!BINARY\b)', _bare(text), re.I):
         yield 'has a collation'
+
+
+def _has_check(text: str) -> bool:
+    return re.search(r'\bCHECK\s*\(', _bare(text), re.I) is not None
+
+
+def _bare(text: str) -> str:
+    """An SQL text without its comments, names in quotes, and texts, and with blanks for byte order
+    marks, as SQLite reads these."""
+    quoted = r'--[^\n]*|/\*.*?(?:\*/|\Z)|\'(?:[^\']|\'\')*\'|"(?:[^"]|"")*"|`(?:[^`]|``)*`|\[[^\]]*\]'
+    return re.sub(quoted, ' ', text, flags=re.S).replace('\ufeff', ' ')

@@ -12,6 +12,7 @@ from xml.sax.saxutils import escape, quoteattr
 from .layouts import Edge
 from .names import natural
 from .positions import LENGTH, Point, positions
+from .text import shown
 from .warehouse import Warehouse
 
 RADIUS = 15  # of a node
@@ -144,9 +145,19 @@ def boxes_of(labels: dict[str, list[Line]], at: dict[str, Point], edges: Iterabl
     return boxes
 
 
+def xml_text(said: str) -> str:
+    """A text in XML. What XML may not have, and what changes the direction of a text, is written by its code."""
+    return escape(shown(said, len(said) * 10 + 2))
+
+
+def xml_value(said: str) -> str:
+    """A text as the value of an attribute, in quotes."""
+    return quoteattr(shown(said, len(said) * 10 + 2))
+
+
 def text(x: float, y: float, said: str, more: str = '') -> str:
     """A text at a place; `more` are attributes."""
-    return '<text x="%.1f" y="%.1f"%s>%s</text>' % (x, y, more, escape(said))
+    return '<text x="%.1f" y="%.1f"%s>%s</text>' % (x, y, more, xml_text(said))
 
 
 def edge_drawn(edge: Edge, at: dict[str, Point], colour: str | None) -> str:
@@ -178,8 +189,8 @@ def edge_drawn(edge: Edge, at: dict[str, Point], colour: str | None) -> str:
         colour or FREE,
     )
     return '<g class="edge" data-edge=%s><title>%s</title>%s%s</g>' % (
-        quoteattr(edge.name),
-        escape('edge %s: %s to %s' % (edge.name, edge.start, edge.finish)),
+        xml_value(edge.name),
+        xml_text('edge %s: %s to %s' % (edge.name, edge.start, edge.finish)),
         line,
         head,
     )
@@ -203,7 +214,7 @@ def node_drawn(name: str, place: Point, colour: str | None) -> str:
         )
     else:
         said = text(place[0], place[1] - RADIUS - 4, name, ' text-anchor="middle" fill="#343a40"')
-    return '<g class="node" data-node=%s>%s%s</g>' % (quoteattr(name), circle, said)
+    return '<g class="node" data-node=%s>%s%s</g>' % (xml_value(name), circle, said)
 
 
 def label_drawn(box: Box, lines: list[Line]) -> str:
@@ -224,7 +235,7 @@ def label_drawn(box: Box, lines: list[Line]) -> str:
         indent = 6 if line.kind != 'load' else 16
         if line.kind == 'load':
             said.append('<rect x="%.1f" y="%.1f" width="6" height="6" fill="%s"/>' % (left + 7, y + 4, fill))
-        more = ' class="%s" data-%s=%s fill="%s"' % (line.kind, line.kind, quoteattr(line.name), fill)
+        more = ' class="%s" data-%s=%s fill="%s"' % (line.kind, line.kind, xml_value(line.name), fill)
         said.append(text(left + indent, y + 11, line.words, more))
     return '<g>%s</g>' % ''.join(said)
 

@@ -8,7 +8,7 @@ from collections.abc import Iterable, Mapping
 from dataclasses import dataclass
 
 from .names import NAME_RULE, is_name
-from .tables import Fault, TableFile, records_of, said, shown
+from .tables import Fault, TableFile, quoted, records_of, said
 
 MOST = {'node': 500, 'edge': 1500, 'station': 500}
 HEADER = [b'kind', b'id', b'from', b'to']
@@ -167,19 +167,19 @@ class LayoutFile(TableFile):
         first, name, start, finish = fields
         kind = first.decode('latin-1')
         if kind not in MOST:
-            self.fault(line, 'BadCsv', 'the kind is %s, and not node, edge or station' % shown(first))
+            self.fault(line, 'BadCsv', 'the kind is %s, and not node, edge or station' % quoted(first))
             return
         self.counts[kind] += 1
         parts = {'node': [('name', name)], 'edge': [('name', name), ('start', start), ('end', finish)]}
         for of, field in parts.get(kind, [('name', name), ('node', start)]):
             if not is_named(field):
                 rule = 'the %s of the %s is %s, and no name: %s'
-                self.fault(line, 'BadCsv', rule % (of, kind, shown(field), NAME_RULE))
+                self.fault(line, 'BadCsv', rule % (of, kind, quoted(field), NAME_RULE))
         if kind == 'node' and (start or finish):
             self.fault(line, 'BadCsv', 'node %s has something after its name' % called(name))
         if kind == 'station' and not CAPACITY.fullmatch(finish):
             rule = 'station %s has room for %s, and not for 1 to 999'
-            self.fault(line, 'BadCsv', rule % (called(name), shown(finish)))
+            self.fault(line, 'BadCsv', rule % (called(name), quoted(finish)))
         before = self.rows[kind].setdefault(name, Row(line, start, finish))
         if before.line != line and is_named(name):
             self.fault(line, 'LayoutBad', '%s %s stands in line %d already' % (kind, called(name), before.line))
@@ -231,7 +231,7 @@ def is_named(field: bytes) -> bool:
 
 def called(name: bytes) -> str:
     """A name as it is, and else in quotes."""
-    return name.decode() if is_named(name) else shown(name)
+    return name.decode() if is_named(name) else quoted(name)
 
 
 def reached(node: str, ways: Mapping[str, list[str]]) -> set[str]:

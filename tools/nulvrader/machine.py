@@ -9,16 +9,20 @@ import socket
 import stat
 from collections.abc import Iterator
 
+from .text import shown
+
+WORDS = 400  # the most characters of the words of a program that are told
+
 
 @dataclasses.dataclass(frozen=True)
 class Program:
-    """A running program: its number and the words by which it was started."""
+    """A running program: its number and the words by which it was started, which are its own choice."""
 
     pid: int
     words: str
 
     def __str__(self) -> str:
-        return 'the program %d (%s)' % (self.pid, self.words)
+        return f'the program {self.pid} ({shown(self.words, WORDS)})'
 
 
 @dataclasses.dataclass(frozen=True)
@@ -75,9 +79,11 @@ def programs() -> Iterator[int]:
 
 
 def words_of(pid: int) -> str:
+    """The first words by which a program was started."""
     try:
         with open('/proc/%d/cmdline' % pid, 'rb') as file:
-            return file.read().rstrip(b'\0').replace(b'\0', b' ').decode(errors='replace') or 'without words'
+            said = file.read(4 * WORDS).rstrip(b'\0').replace(b'\0', b' ')
+            return said.decode(errors='surrogateescape') or 'without words'
     except OSError:
         return 'that has ended since'
 

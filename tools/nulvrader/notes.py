@@ -4,11 +4,13 @@ from __future__ import annotations
 
 import json
 import os
+import stat
 import time
 from collections.abc import Mapping
 from dataclasses import dataclass, field
 from typing import Any
 
+SIZE = 200_000_000  # the most characters that are read: more than 1,000,000 jobs take
 OLD = 10.0
 """A file that was not touched for so many seconds is of a dispatcher that does not run: why something waited then is not told."""
 
@@ -42,13 +44,20 @@ def write_notes(path: str, notes: Notes) -> None:
 def read_notes(path: str | None) -> Notes:
     """The notes of a file. None where there is no such file, or it has something else."""
     try:
-        with open(path or os.devnull) as file:
-            told, touched = json.load(file), os.fstat(file.fileno()).st_mtime
+        with open(path or os.devnull, opener=_not_waiting) as file:
+            state = os.fstat(file.fileno())
+            told = json.loads(file.read(SIZE)) if stat.S_ISREG(state.st_mode) else {}
+        touched = state.st_mtime
         jobs = {str(job): read_job(row) for job, row in told['jobs'].items()}
         waits = {str(name): str(why) for name, why in told['waits'].items()}
-    except (OSError, ValueError, AttributeError, TypeError, KeyError):
+    except (OSError, ValueError, AttributeError, TypeError, KeyError, OverflowError, RecursionError):
         return Notes()
     return Notes(jobs, waits if time.time() - touched < OLD else {})
+
+
+def _not_waiting(path: str, flags: int) -> int:
+    """Opens a file without waiting for the writer of a pipe."""
+    return os.open(path, flags | os.O_NONBLOCK | os.O_CLOEXEC)
 
 
 def read_job(row: Mapping[str, Any]) -> Noted:

@@ -1,18 +1,20 @@
 """Why a desk does not start on a file and a port, or has ended: each reason as a sentence that says what to do. The
-file, what lies beside it and the machine are only looked at."""
+file, what lies beside it and the machine are only looked at; names in them are anybody's, and are told as `shown`
+shows them."""
 import dataclasses
 import itertools
 import os
 import shlex
 import sqlite3
-import stat
 import time
 
-from . import database, machine
+from . import database, machine, opening, plain_files
 from .checks import Breach
 from .machine import Program, User
-from .rows import read_first_rows, read_rows
+from .plain_files import PATH, NotPlain
+from .rows import BadRows, read_first_rows, read_rows
 from .rules import breaches
+from .text import shown
 
 ROOM = 1_000_000  # bytes: with less on the disk a desk that begins or copies its log fails
 LAST_SECOND = 4102444799  # of 2099
@@ -47,7 +49,17 @@ def look(path: str, port: int | None, user: User, rows_of_a_rule: int) -> Told:
 def _has_file(path: str, holders: list[Program]) -> str:
     whose = ' and '.join(map(str, holders))
     text = '%s has %s open, and a desk needs its file to itself (`fault: Storage`): end it, or name another file.'
-    return text % (whose, path)
+    return text % (whose, _path(path))
+
+
+def _path(path: str) -> str:
+    """A path, as it is told."""
+    return shown(path, PATH)
+
+
+def _command(path: str) -> str:
+    """A path in a command for a shell."""
+    return _path(shlex.quote(path))
 
 
 def _look_at_port(told: Told, path: str, port: int, user: User, holders: list[Program]) -> None:
@@ -56,7 +68,7 @@ def _look_at_port(told: Told, path: str, port: int, user: User, holders: list[Pr
     for listener in listeners:
         if listener.program in holders:
             text = 'A desk is running already: %s has %s open and listens on port %d. Ask that one, or end it first.'
-            told.reasons.append(text % (listener.program, path, port))
+            told.reasons.append(text % (listener.program, _path(path), port))
         else:
             who = listener.program or 'a program of the user %s (root sees which)' % listener.user
             text = '%s listens on port %d of %s (`fault: Net`): end it, or name another port.'
@@ -83,15 +95,16 @@ def _look_at_path(told: Told, path: str, user: User) -> tuple[bool, list[Program
     free = machine.free_bytes(folder, user)
     if free < ROOM:
         text = 'The disk of %s is full: %d bytes are free, and a desk needs %d (`fault: Storage`). Make room.'
-        told.reasons.append(text % (folder, free, ROOM))
+        told.reasons.append(text % (_path(folder), free, ROOM))
     if not os.path.exists(path):
-        told.notes.append('There is no file %s: a desk that is started makes it, and begins a new warehouse.' % path)
+        text = 'There is no file %s: a desk that is started makes it, and begins a new warehouse.'
+        told.notes.append(text % _path(path))
         return False, []
     holders = [holder for name in (path, path + '-wal') if os.path.exists(name) for holder in machine.who_has(name)]
     is_locked = not holders and machine.is_locked(path)
     if is_locked:
         text = 'A program has a lock on %s (`fault: Storage`): as root, this says which. End it.'
-        told.reasons.append(text % path)
+        told.reasons.append(text % _path(path))
     return not holders and not is_locked, list(dict.fromkeys(holders))
 
 
@@ -100,11 +113,12 @@ def _folder(folder: str, user: User) -> str | None:
     parts = itertools.accumulate(folder.split('/')[1:], lambda above, name: above + '/' + name, initial='')
     for part in (one or '/' for one in parts):
         if not os.path.exists(part):
-            return 'The folder %s is missing: make it, `mkdir -p %s`, or name another file.' % (part, shlex.quote(folder))
+            text = 'The folder %s is missing: make it, `mkdir -p %s`, or name another file.'
+            return text % (_path(part), _command(folder))
         if not os.path.isdir(part):
-            return '%s is not a folder: name another file.' % part
+            return '%s is not a folder: name another file.' % _path(part)
         if not user.may(part, os.X_OK):
-            return 'The user %s may not enter the folder %s (%s): %s' % (user, part, machine.owner(part), GRANT)
+            return 'The user %s may not enter the folder %s (%s): %s' % (user, _path(part), machine.owner(part), GRANT)
     return None
 
 
@@ -117,7 +131,7 @@ def _new_file(path: str, user: User) -> str | None:
 
 def _no_writing(folder: str, user: User) -> str:
     text = 'The user %s may not make files in the folder %s (%s): %s'
-    return text % (user, folder, machine.owner(folder), _mounted(folder) or GRANT)
+    return text % (user, _path(folder), machine.owner(folder), _mounted(folder) or GRANT)
 
 
 def _mounted(path: str) -> str | None:
@@ -128,14 +142,17 @@ def _mounted(path: str) -> str | None:
 def _file(path: str, user: User) -> str | None:
     """What is wrong with the file itself, the log beside it, or the folder where that is to be made."""
     if os.path.isdir(path):
-        return '%s is a folder: name a file in it, as %s.' % (path, os.path.join(path, 'warehouse.db'))
-    if not stat.S_ISREG(os.stat(path).st_mode):
-        return '%s is not a regular file: name another file.' % path
+        return '%s is a folder: name a file in it, as %s.' % (_path(path), _path(os.path.join(path, 'warehouse.db')))
+    for end in ('', *opening.BESIDE):
+        try:
+            plain_files.check(path + end)
+        except NotPlain as fault:
+            return f'{fault}: {"remove it" if end else "name another file"}.'
     for name in (path, path + '-wal'):
         for bit, what in ((os.R_OK, 'read'), (os.W_OK, 'write')):
             if os.path.exists(name) and not user.may(name, bit):
                 return 'The user %s may not %s %s (%s): %s' % (
-                    user, what, name, machine.owner(name), bit == os.W_OK and _mounted(name) or GRANT,
+                    user, what, _path(name), machine.owner(name), bit == os.W_OK and _mounted(name) or GRANT,
                 )  # fmt: skip
     return None if os.path.exists(path + '-wal') else _new_file(path, user)
 
@@ -145,88 +162,117 @@ def _file(path: str, user: User) -> str | None:
 
 def _look_into(told: Told, path: str, rows_of_a_rule: int) -> None:
     """Whether the file has the rows of a lawful desk; nobody has it, and the user of this program may read it."""
-    if database.has_journal(path):
-        text = (
-            '%s-journal lies beside the file: another SQLite was stopped in the middle of a change (`fault: Storage`). '
-            "Roll it back: `sqlite3 %s 'SELECT 1 FROM sqlite_master'`."
-        )
-        told.reasons.append(text % (path, shlex.quote(path)))
-        return
-    if database.is_empty(path):
-        told.notes.append('%s is empty: a desk that is started makes its tables in it.' % path)
-        return
     try:
-        if not database.has_head(path):
-            with open(path, 'rb') as file:
-                head = file.read(16)
-            text = (
-                '%s is no database: it begins with %r (`fault: Storage`). Name the file of a desk, or put a copy back: '
-                '%s.'
-            )
-            told.reasons.append(text % (path, head, COPY))
-            return
-        with database.opened(path) as base:
-            _look_at_tables(told, path, base, rows_of_a_rule)
-    except sqlite3.Error as error:
-        text = '%s is damaged: SQLite says `%s` (`fault: Storage` or `Damaged`). Put a copy back: %s.'
-        told.reasons.append(text % (path, error, COPY))
+        if _is_database(told, path):
+            with opening.opened(path) as base:
+                _look_at_tables(told, path, base, rows_of_a_rule)
+    except (sqlite3.Error, MemoryError, UnicodeError) as error:
+        text = '%s is damaged: %s (`fault: Storage` or `Damaged`). Put a copy back: %s.'
+        told.reasons.append(text % (_path(path), shown(opening.why_unread(error)), COPY))
+    except BadRows as error:
+        text = '%s is damaged: %s (`fault: Damaged`). Put a copy back: %s.'
+        told.reasons.append(text % (_path(path), error, COPY))
+    except database.TooMany as error:
+        text = '%s is not looked into: %s. Name the file of a desk, or put a copy back: %s.'
+        told.reasons.append(text % (_path(path), error, COPY))
+    except NotPlain as error:
+        told.reasons.append('%s. Name the file of a desk, or put a copy back: %s.' % (error, COPY))
     except OSError as error:
         text = (
             'The rows of %s could not be read: %s. Run this as root, with room for a copy of the file in the folder '
             'TMPDIR.'
         )
-        told.reasons.append(text % (path, error))
+        told.reasons.append(text % (_path(path), shown(str(error), PATH)))
+
+
+def _is_database(told: Told, path: str) -> bool:
+    """Whether the file is a database that may be looked into; else it is told why not."""
+    if opening.has_journal(path):
+        text = (
+            '%s-journal lies beside the file: another SQLite was stopped in the middle of a change (`fault: Storage`). '
+            "Roll it back: `sqlite3 %s 'SELECT 1 FROM sqlite_master'`."
+        )
+        told.reasons.append(text % (_path(path), _command(path)))
+    elif opening.is_empty(path):
+        told.notes.append('%s is empty: a desk that is started makes its tables in it.' % _path(path))
+    elif not opening.has_head(path):
+        text = '%s is no database: it begins with %r (`fault: Storage`). Name the file of a desk, or put a copy back: %s.'
+        told.reasons.append(text % (_path(path), opening.head_of(path), COPY))
+    else:
+        return True
+    return False
 
 
 COPY = 'docs/OPERATE.md, "Putting a copy back"'
+NAMES = 1000  # the most characters of a line with names of the file
 
 
 def _look_at_tables(told: Told, path: str, base: sqlite3.Connection, rows_of_a_rule: int) -> None:
     damage = database.integrity(base)
     if damage:
         text = '%s is damaged, as SQLite says (`fault: Storage` or `Damaged`). Put a copy back: %s.%s'
-        told.reasons.append(text % (path, COPY, ''.join('\n  ' + line for line in damage)))
+        told.reasons.append(text % (_path(path), COPY, _lines(damage)))
         return
     text = 'A desk reads no file that has %s (`fault: Storage`): %s.'
-    told.reasons += [text % one for one in database.unread(base)]
+    told.reasons += [text % (shown(what, NAMES), do) for what, do in database.unread(base)]
     found = database.tables_of(base)
     if found.others:
         text = (
             "Not a desk's: %s. If a desk says `fault: Storage` for no other reason, its SQL can't read one of these, such "
             'as a view in words of SQL that it lacks, or rows that are older than a column with a default.'
         )
-        told.notes.append(text % ', '.join(found.others))
+        told.notes.append(text % shown(', '.join(found.others), NAMES))
+    if found.is_first:
+        _look_at_first(told, path, base, rows_of_a_rule)
+    elif found.is_second:
+        _look_at_second(told, path, base, rows_of_a_rule)
+    else:
+        _look_at_others(told, path, found)
+
+
+def _look_at_others(told: Told, path: str, found: database.Tables) -> None:
+    """A file whose tables are no desk's."""
     if found.is_bare:
-        told.notes.append('%s is a database without a table: a desk that is started makes its tables in it.' % path)
+        text = '%s is a database without a table: a desk that is started makes its tables in it.'
+        told.notes.append(text % _path(path))
     elif found.is_foreign and found.odd:
-        text = "%s is another application's database, in which a desk can't make its tables (`fault: Damaged`): name another file.%s"
-        told.reasons.append(text % (path, ''.join('\n  ' + line for line in found.odd)))
+        text = (
+            "%s is another application's database, in which a desk can't make its tables (`fault: Damaged`): name "
+            'another file.%s'
+        )
+        told.reasons.append(text % (_path(path), _lines(found.odd)))
     elif found.is_foreign:
         text = (
             "%s is another application's database: its tables are %s. A desk would make its own tables in it: name "
             'another file.'
         )
-        told.reasons.append(text % (path, ', '.join(found.others)))
-    elif found.is_first:
-        _look_at_first(told, path, base, rows_of_a_rule)
-    elif found.is_second:
-        rows = read_rows(base)
-        _look_at_rows(told, path, breaches(rows), rows_of_a_rule)
-        text = '%s may refuse a row of the desk (`fault: Storage`): drop it.'
-        told.reasons += [text % other for other in database.unique_indexes(base)]
-        counts = len(rows.load), len(rows.job), len(rows.vehicle), len(rows.journey)
-        text = (
-            '%s is of the second schema, so there is nothing to migrate, and has %d loads, %d jobs, %d vehicles and %d '
-            'open orders.'
-        )
-        told.notes.append(text % (path, *counts))
+        told.reasons.append(text % (_path(path), shown(', '.join(found.others), NAMES)))
     else:
         lines = ['the table %s is missing' % name for name in found.missing] + found.odd
         text = (
             "The tables of %s aren't those of a desk (`fault: Damaged`). Make them those of docs/TABLES.md, or put a "
             'copy back: %s.%s'
         )
-        told.reasons.append(text % (path, COPY, ''.join('\n  ' + line for line in lines)))
+        told.reasons.append(text % (_path(path), COPY, _lines(lines)))
+
+
+def _lines(lines: list[str]) -> str:
+    """The lines below a reason."""
+    return ''.join('\n  ' + shown(line, NAMES) for line in lines)
+
+
+def _look_at_second(told: Told, path: str, base: sqlite3.Connection, rows_of_a_rule: int) -> None:
+    """A file of the second schema."""
+    rows = read_rows(base)
+    _look_at_rows(told, path, breaches(rows), rows_of_a_rule)
+    text = '%s may refuse a row of the desk (`fault: Storage`): drop it.'
+    told.reasons += [text % shown(other, NAMES) for other in database.unique_indexes(base)]
+    counts = len(rows.load), len(rows.job), len(rows.vehicle), len(rows.journey)
+    text = (
+        '%s is of the second schema, so there is nothing to migrate, and has %d loads, %d jobs, %d vehicles and %d '
+        'open orders.'
+    )
+    told.notes.append(text % (_path(path), *counts))
 
 
 def _look_at_first(told: Told, path: str, base: sqlite3.Connection, rows_of_a_rule: int) -> None:
@@ -238,7 +284,7 @@ def _look_at_first(told: Told, path: str, base: sqlite3.Connection, rows_of_a_ru
             '%s is of the first schema, as an earlier desk made it (`fault: Damaged`). Copy it, `sqlite3 %s '
             "'.backup before.db'`, and migrate it: `./desk migrate --db %s` (docs/OPERATE.md, *Migrate a file*)."
         )
-        told.reasons.append(text % (path, shlex.quote(path), shlex.quote(path)))
+        told.reasons.append(text % (_path(path), _command(path), _command(path)))
 
 
 def _look_at_rows(told: Told, path: str, broken: list[Breach], rows_of_a_rule: int) -> None:
@@ -249,7 +295,7 @@ def _look_at_rows(told: Told, path: str, broken: list[Breach], rows_of_a_rule: i
         'Rows of %s break rules of the desk (`fault: Damaged`). Undo what was written into the file, or put a copy '
         'back: %s.'
     )
-    lines = [text % (path, COPY)]
+    lines = [text % (_path(path), COPY)]
     for rule, group in itertools.groupby(broken, lambda breach: breach.rule):
         found = list(group)
         lines.append('  rule "%s": %s' % (rule.name, rule.text))

@@ -1,23 +1,41 @@
-"""Reads the stock report, the hold report and the export of the loads (docs/PROFILE.md, *Reports and the export*). A
-text that is no such report is a `BadReport`."""
+"""Reads the stock report, the hold report and the export of the loads (docs/PROFILE.md, *Reports
+and the export*). A text that is no such report, or not all of one, is a `BadReport`."""
 from __future__ import annotations
 
+import io
 import re
+from collections.abc import Callable, Iterator
 from dataclasses import dataclass, field
 
-from .names import BadName, VehicleKey
+from .faults import NotADesk
+from .names import VehicleKey
+from .text import shown
 
-STATION = re.compile(r'station (\S+) at (\S+): (\d+) of (\d+), reserved (\d+)')
-VEHICLE = re.compile(r'vehicle (\S+): (\d+)')
+NAME = '([A-Za-z0-9_.:-]{1,32})'
+KEY = f'{NAME}/{NAME}'
+COUNT = '([0-9]{1,7})'
+STATION = re.compile(f'station {NAME} at {NAME}: {COUNT} of {COUNT}, reserved {COUNT}')
+CHECKING = re.compile(f'checking: {COUNT}')
+VEHICLE = re.compile(f'vehicle {KEY}: {COUNT}')
+LOAD = re.compile(f'  {NAME}')
+LEFT = re.compile(f'left: {COUNT}')
+THING = re.compile(f'(node|edge) {NAME} {KEY}')
+HELD = re.compile(f'held {COUNT} of {COUNT}')
+ROW = re.compile(f'{NAME},(?:(station),{NAME}|(vehicle),({KEY})|(checking|left),)')
+HEADER = 'load,place,at'
+# What a desk has at most (README.md, *Limits*), and the most lines of a hold report.
+LOADS, STATIONS, VEHICLES, CAPACITY = 1_000_000, 500, 100, 999
+LINES = 2_001
 
 
-class BadReport(ValueError):
-    """A line that has no place in the report."""
+class BadReport(NotADesk):
+    """A text that is no report, or a report that is cut or contradicts itself."""
 
 
 @dataclass
 class StationStock:
-    """A station: its node, how many loads it has room for, how many live jobs go to it, and the loads there."""
+    """A station: its node, how many loads it has room for, how many live jobs go to it, and the
+    loads there."""
 
     name: str
     node: str
@@ -28,7 +46,8 @@ class StationStock:
 
 @dataclass
 class Stock:
-    """The stock report. All are in the order of the report, that of their names; `left` is how many loads have left."""
+    """The stock report. All are in the order of the report, that of their names; `left` is how many
+    loads have left."""
 
     stations: dict[str, StationStock] = field(default_factory=dict)
     checking: list[str] = field(default_factory=list)
@@ -36,24 +55,31 @@ class Stock:
     left: int = 0
 
     def places(self) -> dict[str, str]:
-        """The place of each load that has not left, as `GET /loads/{load}` has it: `station A`."""
-        found = {load: 'station %s' % station.name for station in self.stations.values() for load in station.loads}
-        found |= {load: 'checking' for load in self.checking}
-        return found | {load: 'vehicle %s' % key for key, loads in self.vehicles.items() for load in loads}
+        """Returns the place of each load that has not left, as `GET /loads/{load}` has it: `station
+        A`."""
+        found: dict[str, str] = {}
+        for station in self.stations.values():
+            found |= dict.fromkeys(station.loads, f'station {station.name}')
+        found |= dict.fromkeys(self.checking, 'checking')
+        for key, loads in self.vehicles.items():
+            found |= dict.fromkeys(loads, f'vehicle {key}')
+        return found
 
     def loads(self) -> list[str]:
-        """Each load that has not left, as often as the report has it."""
-        lists = [*(station.loads for station in self.stations.values()), self.checking, *self.vehicles.values()]
+        """Returns each load that has not left, as often as the report has it."""
+        stations = (station.loads for station in self.stations.values())
+        lists = [*stations, self.checking, *self.vehicles.values()]
         return [load for loads in lists for load in loads]
 
     def live_jobs(self) -> int:
-        """How many live jobs there are: each keeps a place at its target."""
+        """Returns how many live jobs there are: each keeps a place at its target."""
         return sum(station.reserved for station in self.stations.values())
 
 
 @dataclass
 class Holds:
-    """The hold report: by the name of each node and edge that is held, its vehicle, and how many there are of all."""
+    """The hold report: by the name of each node and edge that is held, its vehicle, and how many
+    nodes and edges there are."""
 
     nodes: dict[str, VehicleKey] = field(default_factory=dict)
     edges: dict[str, VehicleKey] = field(default_factory=dict)
@@ -61,61 +87,143 @@ class Holds:
 
 
 def read_stock(report: bytes) -> Stock:
-    """The stock report."""
+    """Returns the stock report. It ends with how many loads have left, and lists as many loads at
+    each place as the line of the place says."""
     stock = Stock()
-    loads: list[str] | None = None
-    for line in lines_of(report):
-        if line.startswith('  ') and loads is not None:
-            loads.append(line[2:])
-        elif said := STATION.fullmatch(line):
-            name, node, _, capacity, reserved = said.groups()
-            station = stock.stations[name] = StationStock(name, node, int(capacity), int(reserved))
-            loads = station.loads
-        elif said := VEHICLE.fullmatch(line):
-            loads = stock.vehicles[key_of(said.group(1))] = []
-        elif line.startswith('checking: '):
-            loads = stock.checking
-        elif said := re.fullmatch(r'left: (\d+)', line):
-            stock.left, loads = int(said.group(1)), None
-        else:
-            raise BadReport('no line of a stock report: %a' % line)
+    loads: list[str] | None = None  # of the place whose line came last
+    says = 0  # how many loads that line says there are
+    part = count = 0
+    for line in whole_lines(report):
+        count += 1
+        if count > LOADS + STATIONS + VEHICLES + 2 or part == 3:
+            raise no_line('a stock report', line)
+        if loads is not None and (said := LOAD.fullmatch(line)):
+            loads.append(said.group(1))
+            continue
+        agree(loads, says)
+        before, (part, loads, says) = part, _place(line, stock)
+        if part < before or part == before == 1 or part > before + 1 == 1:
+            raise no_line('a stock report', line)
+    if part != 3:
+        raise BadReport('a stock report is cut: it does not end with how many loads have left')
     return stock
 
 
+def _place(line: str, stock: Stock) -> tuple[int, list[str] | None, int]:
+    """Takes a line of a stock report that is no load. Returns which part of the report it is of
+    (stations, the checking place, vehicles, the end), the loads of its place, and how many it says
+    there are."""
+    if said := STATION.fullmatch(line):
+        count, capacity, reserved = map(int, said.groups()[2:])
+        station = StationStock(said.group(1), said.group(2), capacity, reserved)
+        is_new = station.name not in stock.stations and len(stock.stations) < STATIONS
+        if is_new and 0 < capacity <= CAPACITY and count + reserved <= capacity:
+            stock.stations[station.name] = station
+            return 0, station.loads, count
+    elif said := CHECKING.fullmatch(line):
+        return 1, stock.checking, int(said.group(1))
+    elif said := VEHICLE.fullmatch(line):
+        key = VehicleKey(said.group(1), said.group(2))
+        if key not in stock.vehicles and len(stock.vehicles) < VEHICLES:
+            loads = stock.vehicles[key] = []
+            return 2, loads, int(said.group(3))
+    elif said := LEFT.fullmatch(line):
+        stock.left = int(said.group(1))
+        return 3, None, 0
+    raise no_line('a stock report', line)
+
+
+def agree(loads: list[str] | None, says: int) -> None:
+    """Raises `BadReport` where a place has other loads than its line says."""
+    if loads is not None and len(loads) != says:
+        raise BadReport(f'a stock report lists {len(loads)} loads where it says {says}')
+
+
 def read_holds(report: bytes) -> Holds:
-    """The hold report."""
+    """Returns the hold report. It ends with how many nodes and edges are held, as many as it
+    lists."""
     holds = Holds()
-    for line in lines_of(report):
-        if said := re.fullmatch(r'(node|edge) (\S+) (\S+)', line):
-            kind, name, key = said.groups()
-            (holds.nodes if kind == 'node' else holds.edges)[name] = key_of(key)
-        elif said := re.fullmatch(r'held \d+ of (\d+)', line):
-            holds.things = int(said.group(1))
+    ended = False
+    for count, line in enumerate(whole_lines(report)):
+        if ended or count > LINES:
+            raise no_line('a hold report', line)
+        if said := THING.fullmatch(line):
+            kind, name, manufacturer, serial = said.groups()
+            of = holds.nodes if kind == 'node' else holds.edges
+            if name in of:
+                raise BadReport(f'a hold report has {kind} {name} twice')
+            of[name] = VehicleKey(manufacturer, serial)
+        elif said := HELD.fullmatch(line):
+            held, holds.things, ended = int(said.group(1)), int(said.group(2)), True
+            if held != count or held > holds.things:
+                raise BadReport(f'a hold report lists {count} where it says {held}')
         else:
-            raise BadReport('no line of a hold report: %a' % line)
+            raise no_line('a hold report', line)
+    if not ended:
+        raise BadReport('a hold report is cut: it does not end with how much is held')
     return holds
 
 
 def read_loads(export: bytes) -> dict[str, str]:
-    """The place of each load, those that left too, as `GET /loads/{load}` has it: `station A`, `left`."""
-    first, *rows = lines_of(export) or ['']
-    if first != 'load,place,at':
-        raise BadReport('no header of an export: %a' % first)
-    found = {}
-    for row in rows:
-        load, place, at = row.split(',')
-        found[load] = '%s %s' % (place, at) if at else place
+    """Returns the place of each load, those that left too, as `GET /loads/{load}` has it: `station
+    A`, `left`. An export has no last line of its own: one that was cut between two rows looks
+    whole, but for the length of the answer."""
+    lines = whole_lines(export)
+    if next(lines, None) != HEADER:
+        raise BadReport('an export of loads lacks its header')
+    found: dict[str, str] = {}
+    places: dict[str, str] = {}  # each once, since many loads are at one
+    for line in lines:
+        said = ROW.fullmatch(line)
+        if said is None or said.group(1) in found or len(found) >= LOADS:
+            raise no_line('an export of loads', line)
+        load, station, name, vehicle, key, *_, other = said.groups()
+        place = other or (f'{station} {name}' if station else f'{vehicle} {key}')
+        found[load] = places.setdefault(place, place)
     return found
 
 
-def lines_of(report: bytes) -> list[str]:
-    """The lines of a report without their ends."""
-    return report.decode('ascii', 'replace').splitlines()
+def check_stock(report: bytes) -> bytes:
+    """Returns a stock report that ends as one does, else raises `BadReport`."""
+    return _checked(report, LEFT, 'a stock report')
 
 
-def key_of(text: str) -> VehicleKey:
-    """A vehicle in a report."""
-    try:
-        return VehicleKey.parse(text)
-    except BadName as fault:
-        raise BadReport(str(fault)) from None
+def check_holds(report: bytes) -> bytes:
+    """Returns a hold report that ends as one does, else raises `BadReport`."""
+    return _checked(report, HELD, 'a hold report')
+
+
+def check_loads(export: bytes) -> bytes:
+    """Returns an export that begins and ends as one does, else raises `BadReport`."""
+    if not export.startswith(f'{HEADER}\n'.encode()) or not export.endswith(b'\n'):
+        raise BadReport('an export of loads lacks its header, or the end of its last row')
+    return export
+
+
+def _checked(report: bytes, last: re.Pattern[str], what: str) -> bytes:
+    """Returns a report whose last line is of this form."""
+    at = report.rfind(b'\n', 0, -1) + 1
+    line = report[at : at + 100].decode('latin-1')
+    if not line.endswith('\n') or not last.fullmatch(line[:-1]):
+        raise BadReport(f'{what} is cut: it ends with {shown(line, 60)}')
+    return report
+
+
+def whole_lines(report: bytes) -> Iterator[str]:
+    """The lines of a report without their ends. The last one has its end too."""
+    for line in io.BytesIO(report):
+        if not line.endswith(b'\n'):
+            raise BadReport(f'a report is cut: it ends with {shown(line, 60)}')
+        yield line[:-1].decode('latin-1')
+
+
+def no_line(what: str, line: str) -> BadReport:
+    """The fault of a line that has no place in a report."""
+    return BadReport(f'no line of {what}: {shown(line, 60)}')
+
+
+READERS: dict[str, Callable[[bytes], object]] = {
+    '/report/stock': read_stock,
+    '/report/holds': read_holds,
+    '/export/loads': read_loads,
+}

@@ -3,13 +3,12 @@ import collections
 
 from .checks import SEATS, Found, rule, value_text, vehicle_text
 from .names import is_name
-from .rows import Act, Edge, Job, Journey, Leg, Load, Node, Rows, Station, Used, Vehicle, key_of
+from .rows import MANY, MOST, Act, Edge, Job, Journey, Leg, Load, Node, Rows, Station, Used, Vehicle, key_of
 
 NUMBER = 4294967295  # the greatest number
 MOMENT = 4102444799999  # the last millisecond of 2099
 STATUSES = ('WAITING', 'INITIALIZING', 'RUNNING', 'PAUSED', 'FINISHED', 'FAILED')
 PENDING = (None, 'startPause', 'stopPause', 'cancelOrder')
-MANY = 1_000_000  # the most loads, jobs, orders and references, of each
 
 
 @rule('schema')
@@ -98,8 +97,9 @@ def is_within_limits(rows: Rows) -> Found:
     references each, ended ones included."""
     used = collections.Counter(row.kind for row in rows.used)
     for name, count, most in (
-        ('nodes', len(rows.node), 500), ('edges', len(rows.edge), 1500), ('stations', len(rows.station), 500),
-        ('vehicles', len(rows.vehicle), 100), ('loads', len(rows.load), MANY), ('jobs', len(rows.job), MANY),
+        ('nodes', len(rows.node), MOST['node']), ('edges', len(rows.edge), MOST['edge']),
+        ('stations', len(rows.station), MOST['station']), ('vehicles', len(rows.vehicle), MOST['vehicle']),
+        ('loads', len(rows.load), MANY), ('jobs', len(rows.job), MANY),
         ('orders', used['order'], MANY), ('references', used['ref'], MANY),
     ):  # fmt: skip
         if count > most:

@@ -1,14 +1,18 @@
 """The rows of a desk's file as docs/TABLES.md has them: a type for the rows of each table, all rows of a file, and
-what follows from them that more than one rule asks for: the way of each open order, and what each vehicle holds."""
+what follows from them that more than one rule asks for: the way of each open order, and what each vehicle holds. A
+file may have anything in the place of these rows: they are read one by one, and no more than a desk has."""
 from __future__ import annotations
 
 import collections
 import dataclasses
 import functools
+import itertools
 import sqlite3
+import typing
 from collections.abc import Callable, Iterable, Iterator
 from typing import Any, NamedTuple, TypeVar
 
+MANY = 1_000_000  # the most loads, jobs, orders and references, of each
 LIVE = ('waiting', 'riding')
 Of = TypeVar('Of', bound=type[tuple[Any, ...]])
 
@@ -295,8 +299,41 @@ def columns(table: str) -> tuple[str, ...]:
     return TABLES[table]._fields
 
 
+# The most rows of each table by the limits of README.md.
+MOST = {
+    'meta': 1, 'node': 500, 'edge': 1500, 'station': 500, 'vehicle': 100, 'trip': 100, 'leg': 100 * 200, 'load': MANY,
+    'job': MANY, 'hold': 500 + 1500, 'used': 2 * MANY, 'capacity': 100, 'journey': 100, 'act': 100 * 2 * 4,
+}  # fmt: skip
+
+
+class BadRows(Exception):
+    """Rows that no table of a desk's has, which no rule can be asked about. Its `str()` says what is wrong."""
+
+
+def rows_in(base: sqlite3.Connection, table: str, most: int | None = None) -> Iterator[Any]:
+    """The rows of a table, past its indexes, at most `MOST` or as many as is said. Bytes that are no UTF-8 become
+    characters that no name has. A row whose values are not of the types of its columns is a `BadRows`."""
+    base.text_factory = any_text
+    allowed, make = _types_of(table), TABLES[table]._make
+    most = MOST[table] if most is None else most
+    names = ', '.join('"%s"' % name for name in columns(table))
+    for number, values in enumerate(base.execute('SELECT %s FROM "%s" NOT INDEXED' % (names, table))):
+        if number >= most:
+            raise BadRows(f'the table {table} has more than {most} rows')
+        if tuple(map(type, values)) not in allowed:
+            raise BadRows(f'the table {table} has a value that is not of the type of its column')
+        yield make(values)
+
+
+@functools.cache
+def _types_of(table: str) -> frozenset[tuple[type, ...]]:
+    """The types that the values of a row may have."""
+    hints = typing.get_type_hints(TABLES[table]).values()
+    return frozenset(itertools.product(*(typing.get_args(hint) or (hint,) for hint in hints)))
+
+
 def read_rows(base: sqlite3.Connection) -> Rows:
-    """All rows of a file of the second schema. Bytes that are no UTF-8 become characters that no name has."""
+    """All rows of a file of the second schema."""
     return Rows(**{table: _read(base, table) for table in TABLES})
 
 
@@ -330,7 +367,5 @@ def any_text(data: bytes) -> str:
 
 
 def _read(base: sqlite3.Connection, table: str) -> list[Any]:
-    """The rows of a table, past its indexes."""
-    base.text_factory = any_text
-    names = ', '.join('"%s"' % name for name in columns(table))
-    return list(map(TABLES[table]._make, base.execute('SELECT %s FROM "%s" NOT INDEXED' % (names, table))))
+    """The rows of a table, and more of them than there may be, so that a rule tells how many there are."""
+    return list(rows_in(base, table, 2 * MOST[table] + 1000))

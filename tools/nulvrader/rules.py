@@ -1,9 +1,11 @@
 """The rules that the rows of a desk's file keep, and which rows break them. A desk is opened only over rows that keep
-them all; docs/MODEL.md says the same of the world, and docs/OPERATE.md has the list of the rules."""
+them all; docs/MODEL.md says the same of the world, and docs/TABLES.md has the list of the rules."""
 from . import order_rules, row_rules, stock_rules
 from .checks import Breach, Rule
 from .rows import Rows
+from .text import shown
 
+TOLD = 1000  # the most characters that are told of what is wrong with rows
 RULES: list[Rule] = [
     row_rules.has_schema,
     row_rules.has_no_trips,
@@ -47,4 +49,4 @@ RULES: list[Rule] = [
 
 def breaches(rows: Rows) -> list[Breach]:
     """All breaches of the rules, in their order; none where the rows are those of a lawful world."""
-    return [Breach(rule, str(of), text) for rule in RULES for of, text in rule.check(rows)]
+    return [Breach(rule, shown(str(of)), shown(text, TOLD)) for rule in RULES for of, text in rule.check(rows)]

@@ -10,6 +10,8 @@ from typing import Any, Union
 from .tables import BODY
 
 LEAST, MOST = decimal.Decimal(-(2**63)), decimal.Decimal(2**64 - 1)
+SHORT = 19  # so many digits are surely below 2 ** 64,
+EXACT = 15  # and so many characters make different floats
 POSITIONS = {'agvPosition', 'velocity'}
 READ = (
     'headerId',
@@ -36,6 +38,10 @@ Named = Union[str, 'tuple[Any, Any]', None]
 
 def whole(text: str) -> int:
     """The whole number nearest to a number of JSON, the even one of two, and none beyond 64 bits."""
+    if len(text) <= SHORT and text.isdigit():
+        return int(text)
+    if len(text) <= EXACT and 'e' not in text and 'E' not in text:
+        return round(float(text))  # a tie is the same number as a float
     try:
         number = decimal.Decimal(text)
     except decimal.InvalidOperation:
@@ -58,7 +64,7 @@ def without(value: Any, names: Container[str]) -> Any:
     ]
 
 
-def read_object(data: bytes) -> dict[str, Any]:
+def read_sent(data: bytes) -> dict[str, Any]:
     """The JSON object that a vehicle has sent, all its numbers whole. Bytes that are none are a ValueError."""
     try:
         told = json.loads(data.decode(), parse_float=whole, parse_int=whole, parse_constant=no_number)
@@ -72,7 +78,7 @@ def read_object(data: bytes) -> dict[str, Any]:
 def read_state(data: bytes) -> dict[str, Any]:
     """The state that the desk is to be told, of the bytes that a vehicle has sent: without positions, and all numbers
     whole. Bytes that are no JSON object are a ValueError."""
-    state = {name: value for name, value in read_object(data).items() if name not in POSITIONS}
+    state = {name: value for name, value in read_sent(data).items() if name not in POSITIONS}
     for name, left_out in (('nodeStates', {'nodePosition'}), ('edgeStates', {'trajectory'})):
         if name in state:
             state[name] = without(state[name], left_out)

@@ -81,7 +81,7 @@ def records_of(data: bytes) -> list[tuple[int, list[bytes]]]:
     return found
 
 
-def shown(field: bytes) -> str:
+def quoted(field: bytes) -> str:
     """A field in quotes, and all that is not ASCII in it by its code."""
     try:
         text = field.decode()
@@ -92,4 +92,4 @@ def shown(field: bytes) -> str:
 
 def said(fields: Sequence[bytes]) -> str:
     """The fields of a record as they stand in a file, cut where they are long; `missing` where there is no record."""
-    return ','.join(shown(field)[1:-1] for field in fields)[:60] if fields else 'missing'
+    return ','.join(quoted(field)[1:-1] for field in fields)[:60] if fields else 'missing'

@@ -7,6 +7,7 @@ from . import files
 from .client import Desk
 from .layouts import Layout
 from .reports import read_holds, read_stock
+from .rows import key_of
 
 
 @dataclass
@@ -25,9 +26,9 @@ def of_file(path: str) -> Warehouse:
     """The warehouse in the file of a desk that is stopped; `files.Unread` where it can't be read."""
     with files.opened(path) as base:
         found = Warehouse(files.layout_in(base))
-        found.vehicles = {str(key): node for key, (node, _) in files.vehicles_in(base).items()}
-        for kind, name, *key in base.execute('SELECT kind, id, manufacturer, serial FROM hold'):
-            found.holds['%s %s' % (kind, name)] = '/'.join(key)
+        found.vehicles = {str(key): node for key, (node, _) in files.vehicles_in(base, found.layout).items()}
+        for hold in files.rows_in(base, 'hold'):
+            found.holds['%s %s' % (hold.kind, hold.id)] = '%s/%s' % key_of(hold)
         found.loads = {load: place for load, place in files.places_in(base).items() if place != 'left'}
     return found
 

@@ -1,5 +1,5 @@
-"""The commands of the page: what each needs, what it will do, and doing it. Each is looked at before it is done, and
-goes into the record with who gave it and what was answered."""
+"""The commands of the page: what each needs, what it will do, and doing it. Each is looked at
+before it is done, and stands in the record with who gave it before it is sent to the desk."""
 from __future__ import annotations
 
 import re
@@ -9,26 +9,40 @@ from typing import Any, Protocol
 
 from ..client import Desk, NoAnswer, Refused, Stop
 from ..layouts import Layout
-from ..names import BadName, VehicleKey, checked
+from ..names import BadName, BadValue, VehicleKey, checked
+from ..tables import BODY
+from ..text import shown as printable
 from . import looks, order_looks
 from .asker import now
+from .given import Command, Given, Outcome
 from .looks import Look
-from .record import Record
+from .record import NoRecord
 from .scene import Scene
 from .shown import Shown
 from .stocktakes import stocktake
 from .tell import advice, count, ended
 
 Values = Mapping[str, str]
+TEXT = 20_000  # characters of what was answered
+NAME = 80
+UPDATES = 4_294_967_295
 
-# What to do where the desk has not answered, and where a refusal has no advice that is of use on the page.
+# What to do where the desk has not answered, and where a refusal has no advice that is of use on
+# the page.
 MAY_BE_DONE = 'It may have been done or not: look first, and then ask the same again.'
 NOT_DONE = 'Nothing was done. Ask again once the desk answers.'
+NOT_KNOWN = (
+    'Whether it was done is not known, as the board ended before the answer came: look first.'
+)
 LOOK_AGAIN = 'Go back, and look again at what it will do: what is wrong is named there.'
 
 
 class NoCommand(ValueError):
     """What was said is no command, or a value in it is wrong. Its `str()` is a sentence."""
+
+
+class NotSent(Exception):
+    """A command was not sent to the desk. Its `str()` is a sentence that says why."""
 
 
 class Hurried(Protocol):
@@ -43,8 +57,9 @@ class Hurried(Protocol):
 
 @dataclass(frozen=True)
 class Field:
-    """What a command needs: `kind` is what the page offers for it: `name`, `load`, `station`, `job`, `vehicle`, `node`,
-    `number`, `stops` or `file`. `given` makes a value to begin with."""
+    """What a command needs: `kind` is what the page offers for it: `name`, `load`, `station`,
+    `job`, `vehicle`, `node`, `number`, `update`, `stops` or `file`. `given` makes a value to begin
+    with."""
 
     name: str
     label: str
@@ -54,17 +69,23 @@ class Field:
 
 
 @dataclass(frozen=True)
-class Command:
-    """A command: its title, what it needs, the look at what it will do, and how it is done, with what to say then."""
+class Kind:
+    """A kind of command: its title, what it needs, the look at what it will do, and how it is done,
+    with what to say then. `adds` is what it needs besides, which the look adds."""
 
     title: str
     fields: tuple[Field, ...]
     look: Callable[[Scene, Values], Look]
     do: Callable[[Desk, Values], str]
+    adds: tuple[Field, ...] = ()
 
 
 VEHICLE = Field('vehicle', 'Vehicle', 'vehicle')
 LOAD = Field('load', 'Load', 'load')
+REFERENCE = Field('ref', 'Reference', 'name')
+OPEN_ORDER = Field('order', 'The open order', 'name'), Field(
+    'update', 'The number of the update', 'update'
+)
 
 
 def _key(said: Values) -> VehicleKey:
@@ -97,7 +118,9 @@ def _stop_job(desk: Desk, said: Values) -> str:
 
 
 def _start(desk: Desk, said: Values) -> str:
-    stops = [Stop(stop.action, checked(stop.job, 'job')) for stop in order_looks.stops_of(said['stops'])]
+    stops = [
+        Stop(stop.action, checked(stop.job, 'job')) for stop in order_looks.stops_of(said['stops'])
+    ]
     desk.start_order(said['order'], _key(said), stops=stops, edges=int(said['edges']))
     return '%s has the order %s.' % (said['vehicle'], said['order'])
 
@@ -136,8 +159,8 @@ def _stocktake(desk: Desk, said: Values) -> str:
 
 
 STATION = Field('station', 'Station, empty for the checking place', 'station', optional=True)
-COMMANDS: dict[str, Command] = {
-    'order': Command(
+COMMANDS: dict[str, Kind] = {
+    'order': Kind(
         'Start an order',
         (
             VEHICLE,
@@ -148,23 +171,29 @@ COMMANDS: dict[str, Command] = {
         order_looks.start_order,
         _start,
     ),
-    'advance': Command(
+    'advance': Kind(
         'Release more',
         (VEHICLE, Field('edges', 'Edges more', 'number', given=lambda: '1')),
         order_looks.advance,
         _advance,
+        OPEN_ORDER,
     ),
-    'cancel': Command('Cancel the order', (VEHICLE,), looks.cancel, _cancel),
-    'pause': Command('Pause', (VEHICLE,), looks.pause, _pause),
-    'resume': Command('Go on', (VEHICLE,), looks.resume, _resume),
-    'place': Command('Place', (VEHICLE, Field('node', 'Node', 'node')), looks.place, _place),
-    'resync': Command('Accept its states again', (VEHICLE,), looks.resync, _resync),
-    'register': Command(
-        'Register a load', (Field('load', 'Name of the load', 'name'), STATION), looks.register_load, _register
+    'cancel': Kind('Cancel the order', (VEHICLE,), looks.cancel, _cancel),
+    'pause': Kind('Pause', (VEHICLE,), looks.pause, _pause),
+    'resume': Kind('Go on', (VEHICLE,), looks.resume, _resume),
+    'place': Kind(
+        'Place', (VEHICLE, Field('node', 'Node', 'node')), looks.place, _place, (REFERENCE,)
     ),
-    'correct': Command('Correct a place', (LOAD, STATION), looks.correct_load, _correct),
-    'leave': Command('A load leaves', (LOAD,), looks.leave_load, _leave),
-    'job': Command(
+    'resync': Kind('Accept its states again', (VEHICLE,), looks.resync, _resync),
+    'register': Kind(
+        'Register a load',
+        (Field('load', 'Name of the load', 'name'), STATION),
+        looks.register_load,
+        _register,
+    ),
+    'correct': Kind('Correct a place', (LOAD, STATION), looks.correct_load, _correct, (REFERENCE,)),
+    'leave': Kind('A load leaves', (LOAD,), looks.leave_load, _leave, (REFERENCE,)),
+    'job': Kind(
         'Add a job',
         (
             LOAD,
@@ -174,18 +203,29 @@ COMMANDS: dict[str, Command] = {
         looks.add_job,
         _add_job,
     ),
-    'stop': Command('Stop a job', (Field('job', 'Job', 'job'),), looks.stop_job, _stop_job),
-    'stocktake': Command(
-        'Stocktake', (Field('file', 'File of the count (first line: station,load)', 'file'),), stocktake, _stocktake
+    'stop': Kind('Stop a job', (Field('job', 'Job', 'job'),), looks.stop_job, _stop_job),
+    'stocktake': Kind(
+        'Stocktake',
+        (Field('file', 'File of the count (first line: station,load)', 'file'),),
+        stocktake,
+        _stocktake,
+        (REFERENCE,),
     ),
 }
 
 
 class Commands:
-    """Looks at commands and carries them out, each over a connection of its own. Threads may call it at a time."""
+    """Looks at commands and carries them out, each over a connection of its own. Threads may call
+    it at a time."""
 
-    def __init__(self, desk: Desk, layout: Layout, shown: Shown, record: Record, asker: Hurried):
-        self.desk, self.layout, self.shown, self.record, self.asker = desk, layout, shown, record, asker
+    def __init__(self, desk: Desk, layout: Layout, shown: Shown, given: Given, asker: Hurried):
+        self.desk, self.layout, self.shown, self.given, self.asker = (
+            desk,
+            layout,
+            shown,
+            given,
+            asker,
+        )
 
     def listed(self) -> list[dict[str, Any]]:
         """The commands, as the page makes its forms of them."""
@@ -210,70 +250,144 @@ class Commands:
     def look(self, said: Mapping[str, Any]) -> dict[str, Any]:
         """What a command will do, with the values for `do`."""
         name, values = self._read(said)
+        self._check_adds(name, values)
         self.asker.look_at(values.get('vehicle', ''))
-        try:
-            look = COMMANDS[name].look(Scene(self.layout, self.shown), values)
-        except (BadName, order_looks.BadStops) as fault:
-            raise NoCommand(str(fault)) from fault
+        look = COMMANDS[name].look(Scene(self.layout, self.shown), values)
         desk = self.shown.get('desk', '')
-        down = ['The desk does not answer: nothing can be done now, and what the board knows is old.']
+        down = [
+            'The desk does not answer: nothing can be done now, and what the board knows is old.'
+        ]
         warns = look.warns if desk is None or desk['up'] else down + look.warns
-        return {'title': COMMANDS[name].title, 'says': look.says, 'warns': warns, 'values': look.values}
+        return {
+            'title': COMMANDS[name].title,
+            'says': look.says,
+            'warns': warns,
+            'values': look.values,
+        }
 
     def do(self, said: Mapping[str, Any], who: str) -> dict[str, Any]:
-        """Carries a command out. What is told says whether it was done, what is to be said of it, and what to do."""
+        """Carries a command out. What is told says whether it was done, what is to be said of it,
+        and what to do. `NotSent` where it can't be recorded, or another desk answers."""
         name, values = self._read(said)
-        told: dict[str, Any]
+        self._check_adds(name, values, is_needed=True)
+        desk = self.shown.get('desk', '')
+        if desk is not None and desk.get('other'):
+            raise NotSent('Nothing was sent: it is not the desk of board.db that answers.')
         try:
-            told = {'done': True, 'text': COMMANDS[name].do(self.desk, values), 'advice': ''}
-        except Refused as refusal:
-            words = advice(refusal.advice) or LOOK_AGAIN
-            told = {'done': False, 'text': '%s.' % refusal, 'advice': words, 'refusal': refusal.name}
-        except NoAnswer as fault:
-            words = MAY_BE_DONE if fault.may_be_done else NOT_DONE
-            told = {'done': False, 'text': ended('The desk does not answer: %s' % fault), 'advice': words}
-        except (BadName, order_looks.BadStops, KeyError) as fault:
-            raise NoCommand(str(fault)) from fault
-        self._keep(name, values, who, told)
-        return told
-
-    def _keep(self, name: str, values: Values, who: str, told: Mapping[str, Any]) -> None:
-        at = now()
-        by = ' by %s' % who if who else ''
-        words = '%s%s: %s' % (COMMANDS[name].title, by, told['text'])
+            number = self.given.asked(now(), who, name, values)
+        except NoRecord as fault:
+            raise NotSent(
+                f'Nothing was sent: board.db can not be written ({fault}), '
+                'and each command stands there first.'
+            )
+        told = self._sent(name, values)
         kind = 'command' if told['done'] else 'refused' if 'refusal' in told else 'failed'
-        self.shown.event({'at': at, 'kind': kind, 'text': words})
-        self.record.event(at, kind, words, {})
-        self.record.command(at, who, name, values, told['done'], told['text'])
+        try:
+            self._end(Command(number, who, name), told['done'], kind, told['text'])
+        except NoRecord as fault:
+            told['text'] += f' The answer could not be written to board.db: {fault}.'
         if told['done']:
             vehicle = VehicleKey.parse(values['vehicle']) if 'vehicle' in values else None
             self.asker.hurry(vehicle, values.get('load'))
+        return told
+
+    def _sent(self, name: str, values: Values) -> dict[str, Any]:
+        """Sends a command to the desk. What came of it."""
+        try:
+            return {
+                'done': True,
+                'text': printable(COMMANDS[name].do(self.desk, values), TEXT),
+                'advice': '',
+            }
+        except Refused as refusal:
+            words = advice(refusal.advice) or LOOK_AGAIN
+            return {
+                'done': False,
+                'text': printable(f'{refusal}.', TEXT),
+                'advice': words,
+                'refusal': refusal.name,
+            }
+        except NoAnswer as fault:
+            words = MAY_BE_DONE if fault.may_be_done else NOT_DONE
+            text = ended(printable(f'The desk does not answer: {fault}', TEXT))
+            return {'done': False, 'text': text, 'advice': words}
+        except BadValue as fault:
+            return {
+                'done': False,
+                'text': ended(printable(str(fault), TEXT)),
+                'advice': 'Nothing was sent.',
+            }
+
+    def _end(self, given: Command, done: bool | None, kind: str, answer: str) -> None:
+        """Tells the pages and the record what came of a command."""
+        title = COMMANDS[given.name].title if given.name in COMMANDS else given.name
+        outcome = Outcome(
+            done, answer, now(), kind, f'{title}{f" by {given.who}" if given.who else ""}: {answer}'
+        )
+        self.shown.event({'at': outcome.at, 'kind': kind, 'text': outcome.words})
+        self.given.answered(given.number, outcome)
+
+    def tell_left(self) -> None:
+        """Tells of the commands of an earlier run whose outcome is not known."""
+        for left in self.given.left():
+            self._end(left, None, 'failed', NOT_KNOWN)
 
     def _read(self, said: Mapping[str, Any]) -> tuple[str, dict[str, str]]:
-        """The command and its values, each of its kind."""
+        """The command and its values, each a text of its kind."""
         name, told = said.get('command'), said.get('values')
         if not isinstance(name, str) or name not in COMMANDS or not isinstance(told, dict):
             raise NoCommand('There is no such command.')
-        values = {str(key): str(value) if '\n' in str(value) else str(value).strip() for key, value in told.items()}
+        fields = {field.name: field for field in (*COMMANDS[name].fields, *COMMANDS[name].adds)}
+        values = {}
+        for key, value in told.items():
+            if key not in fields:
+                raise NoCommand(f'This command takes no value {key[:40]!a}.')
+            if not isinstance(value, str):
+                raise NoCommand(f'{fields[key].label}: it is no text.')
+            values[key] = value if fields[key].kind == 'file' or '\n' in value else value.strip()
         for field in COMMANDS[name].fields:
-            text = values.get(field.name, '')
-            if not text and not field.optional:
-                raise NoCommand('%s is missing.' % field.label)
-            if text:
-                self._check(field, text)
+            if values.get(field.name):
+                self._check(field, values[field.name])
+            elif not field.optional:
+                raise NoCommand(f'{field.label} is missing.')
         return name, values
+
+    def _check_adds(self, name: str, values: Mapping[str, str], is_needed: bool = False) -> None:
+        """Checks what the look adds, which must be there once the command is to be done."""
+        for field in COMMANDS[name].adds:
+            if values.get(field.name):
+                self._check(field, values[field.name])
+            elif is_needed:
+                raise NoCommand(f'{field.label} is missing.')
 
     def _check(self, field: Field, text: str) -> None:
         try:
-            if field.kind == 'vehicle':
-                VehicleKey.parse(text)
-            elif field.kind in ('name', 'load', 'job'):
-                checked(text, field.name)
-        except BadName as fault:
-            raise NoCommand('%s.' % fault) from fault
-        if field.kind == 'number' and not re.fullmatch('[0-9]{1,3}', text):
-            raise NoCommand('%s: %a is no number from 0 to 999.' % (field.label, text))
+            self._check_name(field, text)
+        except (BadName, order_looks.BadStops) as fault:
+            raise NoCommand(ended(str(fault))) from fault
+        most = {'number': 999, 'update': UPDATES}.get(field.kind)
+        if most is not None and not (re.fullmatch('[0-9]{1,10}', text) and int(text) <= most):
+            raise NoCommand(f'{field.label}: {text[:40]!a} is no number from 0 to {most}.')
         if field.kind == 'station' and text not in self.layout.stations:
-            raise NoCommand('There is no station %s.' % text)
+            raise NoCommand(f'There is no station {printable(text, NAME)}.')
         if field.kind == 'node' and text not in self.layout.nodes:
-            raise NoCommand('There is no node %s.' % text)
+            raise NoCommand(f'There is no node {printable(text, NAME)}.')
+        if field.kind == 'file':
+            self._check_file(text)
+
+    @staticmethod
+    def _check_file(text: str) -> None:
+        if re.search('[\ud800-\udfff]', text):
+            raise NoCommand('The file is no text of UTF-8.')
+        if len(text.encode()) > BODY:
+            raise NoCommand(f'The file has more than {BODY} bytes: split it, at a station.')
+
+    @staticmethod
+    def _check_name(field: Field, text: str) -> None:
+        if field.kind == 'vehicle':
+            VehicleKey.parse(text)
+        elif field.kind in ('name', 'load', 'job'):
+            checked(text, field.name)
+        elif field.kind == 'stops':
+            for stop in order_looks.stops_of(text):
+                checked(stop.job, 'job')

@@ -2,7 +2,7 @@
 by the hold report and what single vehicles and their order messages tell."""
 from __future__ import annotations
 
-from collections.abc import Callable, Mapping
+from collections.abc import Callable
 from dataclasses import dataclass, field, replace
 from typing import Any
 
@@ -184,16 +184,16 @@ class Fleet:
         """Whether an update was sent that tells what the holds don't."""
         return way.update != row.sent and placed(way, held) is None
 
-    def take_order(self, key: VehicleKey, message: Mapping[str, Any] | None) -> None:
-        """The last order message of a vehicle, or None where it has no open order."""
+    def take_order(self, key: VehicleKey, told: Way | None) -> None:
+        """The way that the last order message of a vehicle tells, or None where it has no open order."""
         name = str(key)
         seen = self.seen.setdefault(name, Seen())
         seen.needs_order = False
-        if message is None:
+        if told is None:
             seen.needs_row = True
             return
-        new = seen.way is None or seen.way.order != message['orderId']
-        way = joined(seen.way, message)
+        new = seen.way is None or seen.way.order != told.order
+        way = joined(seen.way, told)
         if seen.has_begun and seen.row is not None and way.update == 0:
             seen.row, seen.needs_row = replace(seen.row, order=way.order, sent=0, confirmed=None), False
         elif seen.row is None or seen.row.order != way.order:

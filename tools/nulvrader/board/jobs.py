@@ -103,7 +103,7 @@ class Jobs:
         self._put(Job(name, load, origin, target, added=at))
 
     def forget(self, load: str) -> None:
-        """The desk knows no such load, so it is another desk than before."""
+        """The desk knows no such load."""
         self.live.pop(load, None)
 
     def take_load(self, load: Load, at: int) -> None:

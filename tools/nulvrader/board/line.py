@@ -4,31 +4,50 @@ from __future__ import annotations
 import argparse
 import hashlib
 import signal
-import sys
+import socket
+import sqlite3
 import threading
 
 from .. import arguments
+from ..client import Desk
 from ..layouts import BadLayout, Layout, read_layout
 from ..positions import Point, positions
-from .asker import Asker
+from .asker import Asker, Followers
 from .commands import Commands
 from .fleet import Fleet
+from .given import Given
 from .guard import Guard
+from .log import log
 from .news import News
+from .pages import Board, Pages, drawn
 from .record import NoRecord, Record
-from .server import Board, Server, drawn
+from .same import Same
+from .server import Server, listening_at, listening_in
 from .shown import Shown
 from .stores import Stores
+
+PATIENCE = 0.5  # seconds for an answer of the desk, at the end
 
 
 def words(text: str) -> argparse.ArgumentParser:
     """What the line may say. `text` is the head of the help."""
-    line = argparse.ArgumentParser(prog='board', description=text, formatter_class=argparse.RawDescriptionHelpFormatter)
+    line = argparse.ArgumentParser(
+        prog='board', description=text, formatter_class=argparse.RawDescriptionHelpFormatter
+    )
     arguments.add_desk(line, front='desk-')
     add = line.add_argument
     add('--layout', required=True, metavar='FILE', help='the file that the layout was set with')
-    add('--db', default='board.db', metavar='FILE', help='where it keeps what it saw (default: board.db)')
+    add(
+        '--db',
+        default='board.db',
+        metavar='FILE',
+        help='where it keeps what it saw (default: board.db)',
+    )
     add('--port', type=int, default=8081, help='the port of the page, 0 for any (default: 8081)')
+    socket_text = (
+        'listen on this socket in the place of a port, for a proxy: its group alone may open it'
+    )
+    add('--socket', metavar='FILE', help=socket_text)
     add('--days', type=int, default=30, help='how many days it keeps changes (default: 30)')
     silent = 'a vehicle of which no state has come for so long is shown as silent (default: 10)'
     add('--silent', type=arguments.seconds, default=10.0, metavar='SECONDS', help=silent)
@@ -52,17 +71,19 @@ def layout_of(path: str) -> tuple[Layout, str]:
             data = file.read()
         return read_layout(data), hashlib.sha256(data).hexdigest()
     except OSError as fault:
-        raise Unready('%s: %s' % (path, fault.strerror)) from None
+        raise Unready(f'{path}: {fault.strerror}') from None
     except BadLayout as fault:
-        raise Unready('%s: it is no layout file: %s' % (path, fault)) from None
+        raise Unready(f'{path}: it is no layout file: {fault}') from None
 
 
-def server_at(port: int) -> Server:
-    """A server that listens on a port of this machine."""
+def listener_of(said: argparse.Namespace) -> socket.socket:
+    """What the board listens on: a port of this machine, or a socket in a folder."""
     try:
-        return Server(port)
+        return listening_at(said.port) if said.socket is None else listening_in(said.socket)
     except (OSError, OverflowError) as fault:
-        raise Unready('port %d: %s' % (port, fault)) from None
+        raise Unready(
+            f'{f"port {said.port}" if said.socket is None else said.socket}: {fault}'
+        ) from None
 
 
 def places_of(layout: Layout, digest: str, record: Record) -> dict[str, Point]:
@@ -82,51 +103,75 @@ def signalled() -> threading.Event:
     return over
 
 
-def wait_for_the_end(over: threading.Event, asker: Asker) -> bool:
-    """Waits for a signal. False where the asker has ended by itself."""
+def wait_for_the_end(over: threading.Event, asker: Asker, server: Server) -> bool:
+    """Waits for a signal. False where a thread has ended by itself."""
     while not over.wait(1):
-        if not asker.is_alive():
+        if not (asker.is_alive() and server.is_alive()):
             return False
     return True
+
+
+def commands_of(
+    said: argparse.Namespace, desk: Desk, layout: Layout, news: News, asker: Asker
+) -> Commands | None:
+    """The commands, None where there are none. What an earlier run has sent without hearing of it
+    is told."""
+    if said.read_only:
+        return None
+    commands = Commands(desk, layout, news.shown, Given(said.db), asker)
+    try:
+        commands.tell_left()
+    except NoRecord as fault:
+        log(f'the commands of an earlier run can not be told: {fault}')
+    return commands
 
 
 def serve(said: argparse.Namespace) -> bool:
     """Asks the desk and serves pages until a signal comes. False where it ends by a fault."""
     layout, digest = layout_of(said.layout)
-    server = server_at(said.port)
+    listener = listener_of(said)
     try:
         desks = arguments.desk_of(said), arguments.desk_of(said)
         record = Record(said.db)
-    except (NoRecord, OSError, ValueError) as fault:
+        news = News(Shown(), record)
+        asker = Asker(
+            desks[0], news, lambda: followers_of(layout, news, said.silent), said.days, said.notes
+        )
+        commands = commands_of(said, desks[1], layout, news, asker)
+        places = drawn(layout, places_of(layout, digest, record))
+    except (NoRecord, OSError, ValueError, sqlite3.Error) as fault:
         raise Unready(str(fault)) from None
-    shown = Shown()
-    news = News(shown, record)
-    stores = Stores(layout, news)
-    fleet = Fleet(layout, news, stores.jobs, int(said.silent * 1000))
-    asker = Asker(desks[0], news, stores, fleet, said.days, said.notes)
-    commands = None if said.read_only else Commands(desks[1], layout, shown, record, asker)
-    guard = Guard(server.server_port, said.name)
-    places = drawn(layout, places_of(layout, digest, record))
-    server.board = Board(shown, record, asker, guard, places, commands, said.user_header)
+    port = int(listener.getsockname()[1]) if said.socket is None else None
+    board = Board(
+        news.shown, record, asker, Guard(port, said.name), places, commands, said.user_header
+    )
+    server = Server(listener, Pages(board))
     over = signalled()
     asker.start()
-    threading.Thread(target=server.serve_forever, name='server', daemon=True).start()
-    print('listening on http://127.0.0.1:%d/' % server.server_port, flush=True)
-    told = wait_for_the_end(over, asker)
-    server.shutdown()
-    server.server_close()
-    asker.stop()
-    if asker.broken is not None:
-        raise Unready('%s: %s' % (said.db, asker.broken))
+    server.start()
+    print(f'listening on {said.socket or f"http://127.0.0.1:{port}/"}', flush=True)
+    told = wait_for_the_end(over, asker, server)
+    server.stop()
+    asker.stop(PATIENCE)
+    if commands is not None:
+        commands.given.close()
     record.close()
     return told
 
 
+def followers_of(layout: Layout, news: News, silent: float) -> Followers:
+    """Those that take the answers, by what the record has."""
+    stores = Stores(layout, news)
+    fleet = Fleet(layout, news, stores.jobs, int(silent * 1000))
+    news.record.commit()
+    return Followers(stores, fleet, Same(news.record))
+
+
 def run(line: list[str], text: str) -> int:
-    """Runs the board; `text` is the head of its help. The status: 1 where something can't be had or fails, 2 where the
-    line is wrong."""
+    """Runs the board; `text` is the head of its help. The status: 1 where something can't be had or
+    fails, 2 where the line is wrong."""
     try:
         return 0 if serve(words(text).parse_args(line)) else 1
     except Unready as fault:
-        print('board: %s' % fault, file=sys.stderr)
+        log(str(fault))
         return 1

@@ -13,6 +13,9 @@ from .tell import count
 Walk = list[tuple[str, str]]  # edges, each with the node that it leads to
 
 
+STOPS = 50  # that are looked at; a vehicle carries four loads
+
+
 class BadStops(ValueError):
     """A text that tells no stops. Its `str()` is a sentence."""
 
@@ -36,6 +39,8 @@ def stops_of(text: str) -> list[Planned]:
             found.append(Planned(words[0], words[1]))
         else:
             raise BadStops('%a is no stop: write a job, or pick JOB, drop JOB, with commas between.' % part.strip())
+    if len(found) > STOPS:
+        raise BadStops(f'{len(found)} stops are more than an order may have.')
     return found
 
 

@@ -1,18 +1,22 @@
-"""`board.db`: what the board saw, for anyone who asks SQLite: tables of how things are, and of each change with its
-time.
+"""`board.db`: what the board saw, for anyone who asks SQLite: tables of how things are, and of each
+change with its time.
 
-A time is a text in UTC, `2026-11-28T06:15:00.123Z`, the moment at which the board saw it. SQLite's date functions read
-it. The file is in WAL mode, so that it may be read at any time, and each transaction is there whole or not at all."""
+A time is a text in UTC, `2026-11-28T06:15:00.123Z`, the moment at which the board saw it. SQLite's
+date functions read it. The file is in WAL mode, so that it may be read at any time, and each
+transaction is there whole or not at all."""
 from __future__ import annotations
 
+import contextlib
 import datetime
-import json
 import sqlite3
 import threading
+import time
 from collections.abc import Mapping, Sequence
 from typing import Any
 
-VERSION = 1
+from ..text import shown
+
+VERSION = 2
 SCHEMA = """
 CREATE TABLE IF NOT EXISTS meta (name TEXT NOT NULL PRIMARY KEY, value TEXT NOT NULL) STRICT;
 CREATE TABLE IF NOT EXISTS stations (station TEXT NOT NULL PRIMARY KEY, node TEXT NOT NULL, capacity INT NOT NULL,
@@ -37,7 +41,7 @@ CREATE TABLE IF NOT EXISTS waits (n INTEGER PRIMARY KEY, vehicle TEXT NOT NULL, 
 CREATE TABLE IF NOT EXISTS desk_times (n INTEGER PRIMARY KEY, at TEXT NOT NULL, answers INT NOT NULL, fault TEXT)
   STRICT;
 CREATE TABLE IF NOT EXISTS commands (n INTEGER PRIMARY KEY, at TEXT NOT NULL, who TEXT NOT NULL, command TEXT NOT NULL,
-  said TEXT NOT NULL, done INT NOT NULL, answer TEXT NOT NULL) STRICT;
+  said TEXT NOT NULL, done INT, answer TEXT) STRICT;
 CREATE TABLE IF NOT EXISTS events (n INTEGER PRIMARY KEY, at TEXT NOT NULL, kind TEXT NOT NULL, words TEXT NOT NULL,
   vehicle TEXT, load TEXT) STRICT;
 CREATE TABLE IF NOT EXISTS drawing (node TEXT NOT NULL PRIMARY KEY, x REAL NOT NULL, y REAL NOT NULL) STRICT;
@@ -49,6 +53,15 @@ CREATE INDEX IF NOT EXISTS hold_changes_at ON hold_changes (at);
 CREATE INDEX IF NOT EXISTS events_at ON events (at);
 CREATE INDEX IF NOT EXISTS waits_began ON waits (began);
 CREATE INDEX IF NOT EXISTS jobs_ended ON jobs (ended);
+"""
+# Moves a file of version 1, where a command stood once it was answered.
+MOVE = """
+ALTER TABLE commands RENAME TO commands_1;
+CREATE TABLE commands (n INTEGER PRIMARY KEY, at TEXT NOT NULL, who TEXT NOT NULL, command TEXT NOT NULL, said TEXT NOT
+  NULL, done INT, answer TEXT) STRICT;
+INSERT INTO commands SELECT n, at, who, command, said, done, answer FROM commands_1;
+DROP TABLE commands_1;
+UPDATE meta SET value = '2' WHERE name = 'version';
 """
 # What is removed once it is older than so many days: of each table which rows.
 OLD = {
@@ -75,35 +88,58 @@ def text_of(at: int) -> str:
 
 def moment_of(text: str) -> int:
     """The milliseconds since 1970 of a time of the tables."""
-    moment = datetime.datetime.strptime(text, '%Y-%m-%dT%H:%M:%S.%fZ').replace(tzinfo=datetime.timezone.utc)
+    moment = datetime.datetime.strptime(text, '%Y-%m-%dT%H:%M:%S.%fZ').replace(
+        tzinfo=datetime.timezone.utc
+    )
     return round(moment.timestamp() * 1000)
 
 
+def opened(path: str, wait: float = 10.0) -> sqlite3.Connection:
+    """A connection to the file, for several threads, one at a time. `wait` is for how many seconds
+    it waits for another program that writes."""
+    return sqlite3.connect(path, timeout=wait, isolation_level=None, check_same_thread=False)
+
+
 class Record:
-    """The open file. What is put stands in it after `commit`. Threads may use it at the same time."""
+    """The open file. What is put stands in it after `commit`. Threads may use it at the same
+    time."""
 
     def __init__(self, path: str):
+        self.path = path
         self._lock = threading.RLock()
         try:
-            self._base = sqlite3.connect(path, timeout=10, isolation_level=None, check_same_thread=False)
+            self._base = opened(path)
             self._base.execute('PRAGMA journal_mode = WAL')
             self._base.execute('PRAGMA synchronous = NORMAL')
             self._base.execute('BEGIN IMMEDIATE')
             for statement in SCHEMA.split(';\n'):
                 self._base.execute(statement)
-            self._base.execute('INSERT OR IGNORE INTO meta VALUES (?, ?)', ('version', str(VERSION)))
+            self._base.execute(
+                'INSERT OR IGNORE INTO meta VALUES (?, ?)', ('version', str(VERSION))
+            )
+            if self.meta('version') == '1':
+                for statement in MOVE.split(';\n'):
+                    self._base.execute(statement)
             version = self.meta('version')
             self._base.execute('COMMIT')
         except sqlite3.Error as fault:
-            raise NoRecord('%s: %s' % (path, fault)) from fault
+            raise NoRecord(f'{shown(path)}: {fault}') from fault
         if version != str(VERSION):
-            raise NoRecord('%s: it has tables of version %s, and this board writes %d' % (path, version, VERSION))
+            words = (
+                f'it has tables of version {shown(str(version))}, and this board writes {VERSION}'
+            )
+            raise NoRecord(f'{shown(path)}: {words}')
 
     def close(self) -> None:
-        """Commits what was put, and closes the file."""
-        with self._lock:
-            self.commit()
-            self._base.close()
+        """Closes the file. What was put and not committed is not in it."""
+        if self._lock.acquire(
+            timeout=0.5
+        ):  # else somebody waits for the file, and the program ends without
+            try:
+                self.roll_back()
+                self._base.close()
+            finally:
+                self._lock.release()
 
     def _put(self, statement: str, values: Sequence[Any] = ()) -> None:
         with self._lock:
@@ -116,6 +152,18 @@ class Record:
         with self._lock:
             if self._base.in_transaction:
                 self._base.execute('COMMIT')
+
+    def roll_back(self) -> None:
+        """What was put since the last `commit` is not in the file."""
+        with self._lock, contextlib.suppress(sqlite3.Error):
+            if self._base.in_transaction:
+                self._base.execute('ROLLBACK')
+
+    def check_writing(self) -> None:
+        """A `sqlite3.Error` where nothing can be written."""
+        with self._lock:
+            self.set_meta('written', text_of(time.time_ns() // 1_000_000))
+            self.commit()
 
     def rows(self, question: str, values: Sequence[Any] = ()) -> list[tuple[Any, ...]]:
         """What the file answers."""
@@ -135,24 +183,34 @@ class Record:
     def _row(self, table: str, values: Mapping[str, Any]) -> None:
         columns = ', '.join(values)
         marks = ', '.join('?' * len(values))
-        self._put('INSERT OR REPLACE INTO %s (%s) VALUES (%s)' % (table, columns, marks), list(values.values()))
+        self._put(
+            'INSERT OR REPLACE INTO %s (%s) VALUES (%s)' % (table, columns, marks),
+            list(values.values()),
+        )
 
     def station(self, name: str, node: str, capacity: int, taken: int, reserved: int) -> None:
         """How a station is."""
-        row = {'station': name, 'node': node, 'capacity': capacity, 'taken': taken, 'reserved': reserved}
+        row = {
+            'station': name,
+            'node': node,
+            'capacity': capacity,
+            'taken': taken,
+            'reserved': reserved,
+        }
         self._row('stations', row)
 
     def load(self, name: str, place: str, since: int | None) -> None:
         """Where a load is; `since` is None where it was there when the board first looked."""
-        self._row('loads', {'load': name, 'place': place, 'since': None if since is None else text_of(since)})
-
-    def forget_load(self, name: str) -> None:
-        """The desk knows no such load."""
-        self._put('DELETE FROM loads WHERE load = ?', (name,))
+        self._row(
+            'loads',
+            {'load': name, 'place': place, 'since': None if since is None else text_of(since)},
+        )
 
     def load_move(self, at: int, load: str, before: str | None, after: str) -> None:
         """A load moved; `before` is None where it was not known."""
-        self._row('load_moves', {'at': text_of(at), 'load': load, 'from_place': before, 'to_place': after})
+        self._row(
+            'load_moves', {'at': text_of(at), 'load': load, 'from_place': before, 'to_place': after}
+        )
 
     def vehicle(self, at: int, name: str, values: Mapping[str, Any], heard: int | None) -> None:
         """A vehicle came to be so, at this moment: how it is, and the change."""
@@ -167,11 +225,15 @@ class Record:
 
     def hold(self, at: int, kind: str, name: str, vehicle: str | None) -> None:
         """A vehicle holds a node or an edge, or where it is None nobody does any more."""
-        self._row('hold_changes', {'at': text_of(at), 'kind': kind, 'name': name, 'vehicle': vehicle})
+        self._row(
+            'hold_changes', {'at': text_of(at), 'kind': kind, 'name': name, 'vehicle': vehicle}
+        )
         if vehicle is None:
             self._put('DELETE FROM holds WHERE kind = ? AND name = ?', (kind, name))
         else:
-            self._row('holds', {'kind': kind, 'name': name, 'vehicle': vehicle, 'since': text_of(at)})
+            self._row(
+                'holds', {'kind': kind, 'name': name, 'vehicle': vehicle, 'since': text_of(at)}
+            )
 
     def job(self, values: Mapping[str, Any]) -> None:
         """How a job is."""
@@ -181,11 +243,22 @@ class Record:
         """No wait of an earlier run goes on that isn't seen again."""
         self._put('UPDATE waits SET ended = ? WHERE ended IS NULL', (text_of(at),))
 
-    def wait(self, at: int, vehicle: str, thing: tuple[str, str] | None, holder: str | None) -> None:
-        """A vehicle waits for a thing that another one holds, or where it is None no more; a wait before it is over."""
-        self._put('UPDATE waits SET ended = ? WHERE vehicle = ? AND ended IS NULL', (text_of(at), vehicle))
+    def wait(
+        self, at: int, vehicle: str, thing: tuple[str, str] | None, holder: str | None
+    ) -> None:
+        """A vehicle waits for a thing that another one holds, or where it is None no more; a wait
+        before it is over."""
+        self._put(
+            'UPDATE waits SET ended = ? WHERE vehicle = ? AND ended IS NULL', (text_of(at), vehicle)
+        )
         if thing is not None:
-            row = {'vehicle': vehicle, 'kind': thing[0], 'name': thing[1], 'holder': holder, 'began': text_of(at)}
+            row = {
+                'vehicle': vehicle,
+                'kind': thing[0],
+                'name': thing[1],
+                'holder': holder,
+                'began': text_of(at),
+            }
             self._row('waits', row)
 
     def desk(self, at: int, fault: str | None) -> None:
@@ -202,16 +275,11 @@ class Record:
         for at, kind, words, *about in self.rows(
             'SELECT at, kind, words, vehicle, load FROM events ORDER BY n DESC LIMIT ?', (count,)
         ):
-            names = {name: value for name, value in zip(('vehicle', 'load'), about) if value is not None}
+            names = {
+                name: value for name, value in zip(('vehicle', 'load'), about) if value is not None
+            }
             found.append({'at': moment_of(at), 'kind': kind, 'text': words, **names})
         return found[::-1]
-
-    def command(self, at: int, who: str, command: str, said: Mapping[str, Any], done: bool, answer: str) -> None:
-        """A command was given, and what was answered. It is in the file at once."""
-        row = {'at': text_of(at), 'who': who, 'command': command, 'said': json.dumps(said), 'done': int(done)}
-        with self._lock:
-            self._row('commands', {**row, 'answer': answer})
-            self.commit()
 
     def drawing(self, layout: str) -> dict[str, tuple[float, float]]:
         """Where the nodes of a layout are drawn, by its digest; empty where that isn't kept."""

@@ -1,191 +1,216 @@
-"""Answers the pages: the page itself, the layout as it is drawn, what is newer than they have, and commands."""
+"""Listens for pages. Each connection has one request and one answer, and is closed: whatever comes
+behind the request is never taken for another one. One thread serves all connections, and none of
+them keeps the others waiting."""
 from __future__ import annotations
 
-import json
+import asyncio
+import contextlib
+import http
 import os
-import urllib.parse
-from collections.abc import Callable
-from dataclasses import dataclass
-from http.server import BaseHTTPRequestHandler, ThreadingHTTPServer
-from typing import Any
+import socket
+import stat
+import threading
 
-from ..layouts import Layout
-from ..names import natural
-from ..positions import Point
-from .asker import Asker, now
-from .commands import Commands, NoCommand
-from .guard import HEADERS, Guard
-from .record import Record
-from .shown import Shown
+from .guard import HEADERS
+from .log import log
+from .pages import Answer, Pages, refused
+from .request import HEAD, BadRequest, Head, read_head
 
-FOLDER = os.path.join(os.path.dirname(__file__), '..', '..', 'board_page')
-TYPES = {
-    '.html': 'text/html; charset=utf-8',
-    '.css': 'text/css; charset=utf-8',
-    '.js': 'text/javascript; charset=utf-8',
-    '.svg': 'image/svg+xml',
-}
-BODY = 262_144  # bytes of a command: a stocktake of 65,536 bytes as a text of JSON
-MOVES = 50  # of a load, that a page is told
+MOST = 200  # connections at a time
+REQUEST = 10.0  # seconds from the beginning of a connection until its request has come whole
+ANSWER = 20.0  # seconds until an answer is taken whole
+CLOSING = 1.0  # seconds for which what comes behind the answer is thrown away
+EACH = (
+    0.005  # seconds from one answer to the next, on average, and so many more for each byte of it:
+)
+BYTE = 2e-8
+BURST = 0.5  # seconds of these that may come at once
+FLUSH = 0.1  # seconds for the last answers, at the end
+PIECE = 65_536  # bytes that are written at once
+
+NAMES = {status.value: status.phrase for status in http.HTTPStatus}
 
 
-def drawn(layout: Layout, places: dict[str, Point]) -> dict[str, Any]:
-    """The layout as the page draws it, each kind in the order of the names."""
-    stations = [layout.stations[name] for name in sorted(layout.stations, key=natural)]
-    return {
-        'nodes': [[node, round(places[node][0], 1), round(places[node][1], 1)] for node in sorted(layout.nodes, key=natural)],
-        'edges': [[edge.name, edge.start, edge.finish] for edge in layout.edges.values()],
-        'stations': [[station.name, station.node, station.capacity] for station in stations],
-    }
+def listening_at(port: int) -> socket.socket:
+    """Listens on a port of 127.0.0.1."""
+    return socket.create_server(('127.0.0.1', port), backlog=MOST)
 
 
-@dataclass(frozen=True)
-class Board:
-    """What the requests are answered from. `commands` is None where nothing may be changed; `user_header` is the header
-    in which a proxy says who asks, None where there is no proxy."""
+def listening_in(path: str) -> socket.socket:
+    """Listens on a socket in a folder. The user and the group of the board may open it, and nobody
+    else."""
+    listener = socket.socket(socket.AF_UNIX)
+    try:
+        _remove_left(path)
+        before = os.umask(0o117)
+        try:
+            listener.bind(path)
+        finally:
+            os.umask(before)
+        listener.listen(MOST)
+    except OSError:
+        listener.close()
+        raise
+    return listener
 
-    shown: Shown
-    record: Record
-    asker: Asker
-    guard: Guard
-    layout: dict[str, Any]
-    commands: Commands | None
-    user_header: str | None
+
+def _remove_left(path: str) -> None:
+    """Removes the socket of a board that was killed. One on which a program listens stays."""
+    with contextlib.suppress(FileNotFoundError):
+        if not stat.S_ISSOCK(os.lstat(path).st_mode):
+            return
+        with socket.socket(socket.AF_UNIX) as probe:
+            try:
+                probe.connect(path)
+            except ConnectionRefusedError:
+                os.unlink(path)
 
 
-class Server(ThreadingHTTPServer):
-    """Listens on 127.0.0.1, and serves each connection in a thread of its own. `board` is set before it serves."""
+class Pace:
+    """Lets answers go out only so fast that the thread which asks the desk is not held up by
+    them."""
 
-    daemon_threads = True
-    board: Board
+    def __init__(self) -> None:
+        self._next = 0.0
+        self._turn = asyncio.Lock()
 
-    def __init__(self, port: int):
-        super().__init__(('127.0.0.1', port), Handler)
-        names = sorted(name for name in os.listdir(FOLDER) if os.path.splitext(name)[1] in TYPES)
-        self.files = {name: self._read(name) for name in names}
+    async def wait(self, size: int) -> None:
+        """Waits until an answer of so many bytes is due. They are due in the order in which they
+        came."""
+        async with self._turn:
+            now = asyncio.get_running_loop().time()
+            due = max(self._next, now - BURST)
+            if due > now:
+                await asyncio.sleep(due - now)
+            self._next = due + EACH + BYTE * size
+
+
+class Connection:
+    """A connection: `may_end` says that it may be ended for another one, as no command is carried
+    out for it."""
+
+    def __init__(self, source: asyncio.StreamReader, target: asyncio.StreamWriter):
+        self.source, self.target = source, target
+        self.may_end = True
+        self.task = asyncio.current_task()
+
+    async def serve(self, pages: Pages, pace: Pace) -> None:
+        """Reads the request, and answers it."""
+        method, answer = 'GET', None
+        try:
+            async with asyncio.timeout(REQUEST):
+                head = await read_head(self.source)
+                method = head.method
+                answer = pages.refusal(head)
+                body = b'' if answer else await self.source.readexactly(head.length)
+        except BadRequest as fault:
+            answer = refused(fault.status, str(fault))
+        except TimeoutError:
+            answer = refused(408, f'The request did not come within {REQUEST:g} seconds.')
+        if answer is None:
+            self.may_end = method != 'POST'
+            answer = await self._answer(pages, head, body)
+            self.may_end = True
+        await pace.wait(len(answer.data))
+        async with asyncio.timeout(ANSWER):
+            await self._write(answer, method == 'HEAD')
+        await self._close()
+
+    def end(self) -> None:
+        """Ends it at once."""
+        if self.task is not None:
+            self.task.cancel()
+        self.target.transport.abort()
 
     @staticmethod
-    def _read(name: str) -> bytes:
-        with open(os.path.join(FOLDER, name), 'rb') as file:
-            return file.read()
-
-    def handle_error(self, request: Any, client_address: Any) -> None:
-        """A page that was closed amid an answer is no fault of the board."""
-
-
-class Handler(BaseHTTPRequestHandler):
-    """One connection."""
-
-    protocol_version = 'HTTP/1.1'
-    server_version = 'nulvrader-board'
-    sys_version = ''
-    timeout = 60
-    server: Server
-
-    def log_message(self, format: str, *args: Any) -> None:
-        """What was asked is in no log; commands are in the record."""
-
-    def _send(self, status: int, kind: str, data: bytes) -> None:
-        self.send_response(status)
-        for name, value in HEADERS.items():
-            self.send_header(name, value)
-        self.send_header('Content-Type', kind)
-        self.send_header('Content-Length', str(len(data)))
-        self.end_headers()
-        self.wfile.write(data)
-
-    def _json(self, told: Any, status: int = 200) -> None:
-        self._send(status, 'application/json', json.dumps(told, separators=(',', ':')).encode())
-
-    def _refuse(self, status: int, words: str) -> None:
-        self._json({'fault': words}, status)
-
-    def do_GET(self) -> None:
-        fault = self.server.board.guard.host_fault(self.headers)
-        if fault:
-            self._refuse(421, fault)
-            return
-        path, _, query = self.path.partition('?')
-        asked = dict(urllib.parse.parse_qsl(query))
-        answers: dict[str, Callable[[dict[str, str]], None]] = {
-            '/': self._page,
-            '/layout': self._layout,
-            '/data': self._data,
-            '/history': self._history,
-            '/commands': self._commands,
-        }
-        name = path.removeprefix('/')
-        if path in answers:
-            answers[path](asked)
-        elif name in self.server.files and name != 'index.html':
-            self._send(200, TYPES[os.path.splitext(name)[1]], self.server.files[name])
-        else:
-            self._refuse(404, 'There is nothing at %s.' % path)
-
-    def _page(self, _: dict[str, str]) -> None:
-        board = self.server.board
-        token = board.guard.token if board.commands else ''
-        self._send(200, TYPES['.html'], self.server.files['index.html'].replace(b'{{token}}', token.encode()))
-
-    def _layout(self, _: dict[str, str]) -> None:
-        self._json(self.server.board.layout)
-
-    def _data(self, asked: dict[str, str]) -> None:
-        board, version = self.server.board, asked.get('since', '0')
-        board.asker.look_at(asked.get('vehicle', ''))
-        told = board.shown.since(asked.get('run', ''), int(version) if version.isdecimal() else 0)
-        self._json({**told, 'now': now(), 'asking': board.asker.asking})
-
-    def _history(self, asked: dict[str, str]) -> None:
-        question = 'SELECT at, from_place, to_place FROM load_moves WHERE load = ? ORDER BY n DESC LIMIT ?'
-        moves = self.server.board.record.rows(question, (asked.get('load', ''), MOVES))
-        rows = self.server.board.record.rows('SELECT place, since FROM loads WHERE load = ?', (asked.get('load', ''),))
-        self._json({'moves': moves, 'place': rows[0][0] if rows else None, 'since': rows[0][1] if rows else None})
-
-    def _commands(self, _: dict[str, str]) -> None:
-        commands = self.server.board.commands
-        self._json(commands.listed() if commands else [])
-
-    def do_POST(self) -> None:
-        board = self.server.board
-        fault = board.guard.host_fault(self.headers)
-        if fault:
-            self._refuse(421, fault)
-            return
-        said = self._body()
-        if said is None:
-            return
-        fault = board.guard.command_fault(self.headers)
-        if fault:
-            self._refuse(403, fault)
-        elif board.commands is None:
-            self._refuse(403, 'This board was started with --read-only.')
-        elif self.path == '/may':
-            self._json({})
-        elif self.path in ('/look', '/do'):
-            try:
-                self._json(board.commands.look(said) if self.path == '/look' else board.commands.do(said, self._user()))
-            except NoCommand as wrong:
-                self._json({'fault': str(wrong)})  # no error: the page has asked, and is told
-        else:
-            self._refuse(404, 'There is nothing at %s.' % self.path)
-
-    def _body(self) -> dict[str, Any] | None:
-        """The object of the body; None where there is none, which is answered here and ends the connection."""
-        length = self.headers.get('Content-Length', '')
-        if not length.isdecimal() or int(length) > BODY or self.headers.get('Transfer-Encoding'):
-            self.close_connection = True
-            self._refuse(413, 'A command has a body of at most %d bytes.' % BODY)
-            return None
+    async def _answer(pages: Pages, head: Head, body: bytes) -> Answer:
         try:
-            said = json.loads(self.rfile.read(int(length)))
-        except ValueError:
-            said = None
-        if not isinstance(said, dict):
-            self._refuse(400, 'A command is a JSON object.')
-            return None
-        return said
+            return await pages.answer(head, body)
+        except Exception as fault:  # of the board itself: the others are still answered
+            log(f'a request failed: {fault!r}')
+            return refused(500, 'The board has failed at this; its log says why.')
 
-    def _user(self) -> str:
-        header = self.server.board.user_header
-        return self.headers.get(header, '') if header else ''
+    async def _write(self, answer: Answer, is_head: bool) -> None:
+        lines = [f'HTTP/1.1 {answer.status} {NAMES[answer.status]}', 'Connection: close']
+        lines += [f'{name}: {value}' for name, value in HEADERS.items()]
+        lines += [f'Content-Type: {answer.kind}', f'Content-Length: {len(answer.data)}']
+        lines += ['Allow: GET, HEAD, POST'] if answer.status == 405 else []
+        self.target.transport.set_write_buffer_limits(0)  # what is written is waited for
+        self.target.write('\r\n'.join([*lines, '', '']).encode('ascii'))
+        data = memoryview(b'' if is_head else answer.data)
+        for begin in range(0, len(data), PIECE):
+            self.target.write(data[begin : begin + PIECE])
+            await self.target.drain()
+
+    async def _close(self) -> None:
+        """Ends it. What has come behind the request is read first: else the other end may lose the
+        answer."""
+        with contextlib.suppress(TimeoutError):
+            async with asyncio.timeout(CLOSING):
+                self.target.write_eof()
+                while await self.source.read(PIECE):
+                    pass
+
+
+class Server(threading.Thread):
+    """Serves at most `MOST` connections at a time, in a thread of its own. Beyond that the oldest
+    one is ended for which no command is carried out."""
+
+    def __init__(self, listener: socket.socket, pages: Pages):
+        super().__init__(name='server', daemon=True)
+        self.listener, self.pages = listener, pages
+        self._loop = asyncio.new_event_loop()
+        self._loop.set_exception_handler(self._fault)
+        self._open: dict[Connection, None] = {}  # the oldest first
+        self._over = asyncio.Event()
+        self._pace = Pace()
+
+    def run(self) -> None:
+        self._loop.run_until_complete(self._serve())
+
+    def stop(self) -> None:
+        """Takes no connection any more, and waits until the commands that are being carried out are
+        answered, at most for a second."""
+        self.pages.commands.wait(1.0)
+        self._loop.call_soon_threadsafe(self._over.set)
+        self.join(0.5)
+
+    async def _serve(self) -> None:
+        if self.listener.family == socket.AF_UNIX:
+            served = await asyncio.start_unix_server(
+                self._connected, sock=self.listener, limit=HEAD
+            )
+        else:
+            served = await asyncio.start_server(self._connected, sock=self.listener, limit=HEAD)
+        await self._over.wait()
+        served.close()
+        await asyncio.sleep(FLUSH)
+        left = asyncio.all_tasks() - {asyncio.current_task()}
+        for task in left:
+            task.cancel()
+        await asyncio.gather(*left, return_exceptions=True)
+
+    async def _connected(self, source: asyncio.StreamReader, target: asyncio.StreamWriter) -> None:
+        connection = Connection(source, target)
+        try:
+            if len(self._open) < MOST or self._has_ended_one():
+                self._open[connection] = None
+                await connection.serve(self.pages, self._pace)
+        except (EOFError, TimeoutError, OSError):
+            pass  # the client has gone, or does not take its answer
+        finally:
+            self._open.pop(connection, None)
+            target.transport.abort()
+
+    def _has_ended_one(self) -> bool:
+        for connection in self._open:
+            if connection.may_end:
+                del self._open[connection]
+                connection.end()
+                return True
+        return False
+
+    @staticmethod
+    def _fault(_: asyncio.AbstractEventLoop, context: dict[str, object]) -> None:
+        """A fault of one connection is a line of the log, and ends it alone."""
+        log(f'a connection failed: {context.get("exception") or context.get("message")!r}')

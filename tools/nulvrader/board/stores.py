@@ -100,15 +100,12 @@ class Stores:
             self.news.shown.put('load', load, {'place': place, 'since': since})
 
     def take_export(self, loads: Mapping[str, str]) -> None:
-        """All loads with their places. Those that came and left unseen are known by it alone; one that isn't in it is
-        of another desk."""
+        """All loads with their places. Those that came and left unseen are known by it alone."""
         record = self.news.record
         left = {load for load, place in loads.items() if place == 'left'}
         known = {name for (name,) in record.rows("SELECT load FROM loads WHERE place = 'left'")}
         for load in left - known - self.places.keys():
             record.load(load, 'left', None)
-        for load in known - loads.keys():
-            record.forget_load(load)
         self.left = len(left - self.places.keys())
         self.needs_export = False
 

@@ -9,16 +9,15 @@ import time
 from collections.abc import Callable, Mapping, Sequence
 from dataclasses import dataclass
 
-from ..client import Desk, NoAnswer, Refused
+from ..client import BadValue, Desk, NoAnswer, NotADesk, Refused
 from ..layouts import Layout
 from ..names import natural, new_reference
-from ..reports import BadReport
 from .choose import Chooser, Proposal
 from .jobs import JobBook, Waiting
 from .lines import Lines
 from .memory import Memory
 from .shut_in import MOST_TIMES, ShutIn
-from .snapshot import Seen, Snapshot, take
+from .snapshot import Seen, Snapshot, check, take
 from .traffic import Judge, Still, Traffic
 from .ways import Ways
 
@@ -38,8 +37,9 @@ class Settings:
 
 
 class Dispatcher:
-    """A dispatcher over a desk and its layout. `say` takes its lines, and `clock` tells seconds that only grow. In the file `notes` it
-    writes where jobs lead that wait, and since when they do."""
+    """A dispatcher over a desk and its layout. `say` takes its lines, `alarm` those which say that
+    what answers is no desk, or one with another layout, and `clock` tells seconds that only grow.
+    In the file `notes` it writes where jobs lead that wait, and since when they do."""
 
     def __init__(
         self,
@@ -50,9 +50,11 @@ class Dispatcher:
         judge: Judge | None = None,
         notes: str | None = None,
         say: Callable[[str], None] = print,
+        alarm: Callable[[str], None] | None = None,
         clock: Callable[[], float] = time.monotonic,
     ) -> None:
         self.desk, self.layout, self.settings, self.say, self.clock = desk, layout, settings, say, clock
+        self.alarm = alarm or say
         self.lines = Lines(say, settings.told)
         self.ways = Ways(layout)
         self._out = {node: self.ways.way_out(node) for node in layout.nodes}
@@ -68,9 +70,12 @@ class Dispatcher:
         """One look at the desk, and what follows. Whether the desk answered; where it did not, or has a fault, the next turn may."""
         try:
             self._turn()
-        except (NoAnswer, Refused, BadReport) as fault:
+        except (NoAnswer, Refused) as fault:
             self._shut_in.turn_failed()
-            self.lines.once('desk', 'the desk does not answer: %s' % fault)
+            if isinstance(fault, NotADesk):
+                self.lines.once('desk', f'alarm: {fault}', say=self.alarm)
+            else:
+                self.lines.once('desk', f'the desk does not answer: {fault}')
             return False
         self.lines.once('desk', None, over='the desk answers again')
         return True
@@ -86,7 +91,9 @@ class Dispatcher:
     def _turn(self) -> None:
         now = self.clock()
         with self.desk.kept():
-            seen = self._last = take(self.desk, self._last)
+            seen = take(self.desk, self._last)
+            check(seen, self.layout)
+            self._last = seen
             self.book.look(self.desk, seen, now)
             for vehicle in seen.vehicles.values():
                 self._remember(vehicle, seen, now)
@@ -234,6 +241,9 @@ class Dispatcher:
             self.desk.advance(vehicle.row.key, vehicle.order.name, vehicle.row.sent + 1, edges)
         except Refused as refusal:
             self._tell_refusal(vehicle, '%d edges of %s are refused' % (edges, vehicle.order.name), refusal)
+            return False
+        except BadValue as fault:
+            self.lines.once('refusal ' + vehicle.name, f'{vehicle.name}: {fault}')
             return False
         self.lines.once('refusal ' + vehicle.name, None)
         for edge in [edge for edge in vehicle.order.edges if not edge.released][:edges]:

@@ -115,6 +115,8 @@ class JobBook:
                 continue
             if until is not None:
                 self._last = load
+            if told.place != seen.places.get(load):
+                continue  # through a proxy it may have moved since the report
             for job in [one.job for one in self.waiting.values() if one.load == load and one.job != told.job]:
                 self.forget(job)
             if self.taken.get(load) not in (None, told.job):

@@ -4,7 +4,8 @@ from __future__ import annotations
 from collections.abc import Iterable
 from dataclasses import dataclass
 
-from ..client import Desk, Vehicle
+from ..client import Desk, NotADesk, Vehicle
+from ..layouts import Layout
 from ..messages import Act, Order
 from ..names import VehicleKey
 from ..questions import held, open_orders, stock
@@ -85,6 +86,9 @@ def take(desk: Desk, before: Snapshot | None = None) -> Snapshot:
         orders |= {order.vehicle: order for order in open_orders(desk, wanted)}
     nodes: dict[VehicleKey, set[str]] = {key: set() for key in rows}
     edges: dict[VehicleKey, int] = dict.fromkeys(rows, 0)
+    strange = {*holds.nodes.values(), *holds.edges.values()} - rows.keys()
+    if strange:
+        raise NotADesk(f'its reports contradict each other: {min(strange)} is in one of them')
     for node, key in holds.nodes.items():
         nodes[key].add(node)
     for key in holds.edges.values():
@@ -94,3 +98,48 @@ def take(desk: Desk, before: Snapshot | None = None) -> Snapshot:
         for key, row in rows.items()
     }
     return Snapshot(vehicles, loads, holds, loads.places())
+
+
+def differences(stock: Stock, holds: Holds, layout: Layout) -> list[str]:
+    """What of a layout is not as the desk has it, as far as its reports tell."""
+    there = {one.name: (one.node, one.capacity) for one in stock.stations.values()}
+    here = {one.name: (one.node, one.capacity) for one in layout.stations.values()}
+    names = sorted(there.keys() | here.keys())
+    found = [f'station {name}' for name in names if there.get(name) != here.get(name)]
+    count = len(layout.nodes) + len(layout.edges)
+    if holds.things != count:
+        found.append(f'{count} nodes and edges, where the desk has {holds.things}')
+    found += [f'node {name}' for name in sorted(holds.nodes.keys() - set(layout.nodes))]
+    return found + [f'edge {name}' for name in sorted(holds.edges.keys() - layout.edges.keys())]
+
+
+def check(seen: Snapshot, layout: Layout) -> None:
+    """Raises `NotADesk` where what was seen is not of a desk with this layout, or its parts
+    contradict each other."""
+    if wrong := differences(seen.stock, seen.holds, layout):
+        raise NotADesk(f'it has another layout: {", ".join(wrong[:5])}')
+    if len(seen.stock.loads()) != len(seen.places):
+        raise NotADesk('its stock report has a load at two places')
+    nodes = set(layout.nodes)
+    for vehicle in seen.vehicles.values():
+        row, order = vehicle.row, vehicle.order
+        if row.node not in nodes:
+            raise NotADesk(f'it has another layout: {vehicle.name} is at node {row.node}')
+        if row.node not in vehicle.nodes:
+            raise NotADesk(f'its answers contradict each other: {row.node} is not held by {row.key}')
+        if row.order is not None:
+            if order is None or (order.name, order.update) != (row.order, row.sent):
+                raise NotADesk(f'its answers contradict each other about order {row.order}')
+            check_order(order, layout)
+
+
+def check_order(order: Order, layout: Layout) -> None:
+    """Raises `NotADesk` where an order does not lead over this layout."""
+    for edge in order.edges:
+        known = layout.edges.get(edge.name)
+        if known is None or (known.start, known.finish) != (edge.start, edge.finish):
+            raise NotADesk(f'it has another layout: edge {edge.name} of order {order.name}')
+    for node in order.nodes:
+        stations = [layout.stations.get(act.station) for act in node.acts]
+        if any(station is None or station.node != node.name for station in stations):
+            raise NotADesk(f'it has another layout: node {node.name} of order {order.name}')

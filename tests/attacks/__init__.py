@@ -1,0 +1,1 @@
+"""Attacks on the programs, one class or test each."""

@@ -1,0 +1,103 @@
+"""The attacks on the programs, each carried out for real, as a list: the most harmful first. A class of `tests/attacks` stands under
+each line, and says what an attacker does and what must happen. docs/SECURITY.md says who is trusted with what."""
+# A page of another site, open in a browser that may reach the desk, commands it by a form or a request.
+from attacks.way_in import FormOfAForeignPage, RequestOfAForeignPage
+from attacks.board import ForeignPage
+
+# A program of another user of the machine reaches the desk's port or socket.
+from attacks.way_in import AnotherUserOfTheMachine, AnotherUserWithoutSystemd
+from attacks.clients import OverAUnixSocket
+from attacks.board import OtherUser
+
+# A gateway, or a reader, commands by the page of the board or by a path that is read in two ways; no command is unrecorded.
+from attacks.way_in import CommandOfAGateway, CommandOfAReader
+from attacks.way_in import Record
+
+# The board's token is taken by a request within the body of another one.
+from attacks.board import Desync
+
+# Vehicles that nobody knows, messages that are too long or hostile, and what the broker lets a vehicle write.
+from attacks.gateway import InventedVehicles
+from attacks.gateway import HostileMessages, LongMessages
+from attacks.gateway import AnotherBroker, BrokerCertificates, BrokerRights
+
+# Connections that are kept lock others out of nginx and the broker.
+from attacks.way_in import ConnectionsOfAnAddress, SilentConnections
+from attacks.gateway import BrokerConnections
+
+# A reader keeps the others from the desk; passwords are tried, and names found out.
+from attacks.way_in import Starvation
+from attacks.way_in import NamesOfUsers, Passwords
+
+# Another server answers on the desk's port: to the client and `ask`, the dispatcher, the gateway and the board.
+from attacks.clients import AnotherServer, AnyAnswer, BytesThatDrip, EndlessAnswers
+from attacks.clients import AnotherServerForTheDispatcher
+from attacks.gateway import AnotherServer as AnotherServerForTheGateway
+from attacks.board import NoDesk, OtherDesk
+
+# Files that are none, or have no tables, in the place of a desk's file, and folders for its copies.
+from attacks.files import NoRegularFile, NoTables
+from attacks.files import Copies, Fuzz
+
+# Escapes and line ends of others reach a terminal.
+from attacks.clients import TerminalEscapes
+from attacks.files import Texts
+
+# The disk is full under the board's record of commands.
+from attacks.board import FullDisk
+
+# Many connections and pages of one program stop the board.
+from attacks.board import Crowd, MadeOnce
+
+# Values of a wrong type or form are sent on to the desk.
+from attacks.board import Values
+from attacks.clients import WrongValues
+
+# A service that was taken over goes on to the rest of the machine.
+from attacks.way_in import Units
+
+__all__ = [
+    'AnotherBroker',
+    'AnotherServer',
+    'AnotherServerForTheDispatcher',
+    'AnotherServerForTheGateway',
+    'AnotherUserOfTheMachine',
+    'AnotherUserWithoutSystemd',
+    'AnyAnswer',
+    'BrokerCertificates',
+    'BrokerConnections',
+    'BrokerRights',
+    'BytesThatDrip',
+    'CommandOfAGateway',
+    'CommandOfAReader',
+    'ConnectionsOfAnAddress',
+    'Copies',
+    'Crowd',
+    'Desync',
+    'EndlessAnswers',
+    'ForeignPage',
+    'FormOfAForeignPage',
+    'FullDisk',
+    'Fuzz',
+    'HostileMessages',
+    'InventedVehicles',
+    'LongMessages',
+    'MadeOnce',
+    'NamesOfUsers',
+    'NoDesk',
+    'NoRegularFile',
+    'NoTables',
+    'OtherDesk',
+    'OtherUser',
+    'OverAUnixSocket',
+    'Passwords',
+    'Record',
+    'RequestOfAForeignPage',
+    'SilentConnections',
+    'Starvation',
+    'TerminalEscapes',
+    'Texts',
+    'Units',
+    'Values',
+    'WrongValues',
+]

@@ -1,0 +1,202 @@
+"""What is answered: the page itself, the layout as it is drawn, what is newer than a page has, and
+commands."""
+from __future__ import annotations
+
+import functools
+import json
+import os
+import re
+import urllib.parse
+from dataclasses import dataclass
+from typing import Any
+
+from ..layouts import Layout
+from ..names import natural
+from ..positions import Point
+from ..text import shown
+from .asker import Asker, now
+from .commands import Commands, NoCommand, NotSent
+from .guard import Guard
+from .record import Record
+from .request import Head
+from .shown import Shown
+from .workers import Busy, Workers
+
+FOLDER = os.path.join(os.path.dirname(__file__), '..', '..', 'board_page')
+JSON = 'application/json'
+TYPES = {
+    '.html': 'text/html; charset=utf-8',
+    '.css': 'text/css; charset=utf-8',
+    '.js': 'text/javascript; charset=utf-8',
+    '.svg': 'image/svg+xml',
+}
+MOVES = 50  # of a load, that a page is told
+USER = 64  # characters of the name of a user
+LOOKS, COMMANDS = 2, 8  # threads
+
+
+@dataclass(frozen=True)
+class Answer:
+    """The status, the type of what is told, and its bytes."""
+
+    status: int
+    kind: str
+    data: bytes
+
+
+@dataclass(frozen=True)
+class Board:
+    """What the requests are answered from. `commands` is None where nothing may be changed;
+    `user_header` is the header in which a proxy says who asks, None where there is no proxy."""
+
+    shown: Shown
+    record: Record
+    asker: Asker
+    guard: Guard
+    layout: dict[str, Any]
+    commands: Commands | None
+    user_header: str | None
+
+
+def drawn(layout: Layout, places: dict[str, Point]) -> dict[str, Any]:
+    """The layout as the page draws it, each kind in the order of the names."""
+    stations = [layout.stations[name] for name in sorted(layout.stations, key=natural)]
+    nodes = sorted(layout.nodes, key=natural)
+    return {
+        'nodes': [[node, round(places[node][0], 1), round(places[node][1], 1)] for node in nodes],
+        'edges': [[edge.name, edge.start, edge.finish] for edge in layout.edges.values()],
+        'stations': [[station.name, station.node, station.capacity] for station in stations],
+    }
+
+
+def told(what: Any, status: int = 200) -> Answer:
+    """An answer of JSON."""
+    return Answer(status, JSON, json.dumps(what, separators=(',', ':')).encode())
+
+
+def refused(status: int, words: str) -> Answer:
+    """A refusal, with a sentence."""
+    return told({'fault': words}, status)
+
+
+class Pages:
+    """Answers requests. Looks and commands are done by threads beside, so that nobody waits for
+    those of others."""
+
+    def __init__(self, board: Board):
+        self.board = board
+        self.looks, self.commands = Workers(LOOKS), Workers(COMMANDS)
+        self.layout = told(board.layout)
+        names = sorted(name for name in os.listdir(FOLDER) if os.path.splitext(name)[1] in TYPES)
+        self.files = {f'/{name}': self._file(name) for name in names}
+        page = self.files.pop('/index.html')
+        tokens = {True: board.guard.token.encode(), False: b''}
+        self.fronts = {
+            may: Answer(200, page.kind, page.data.replace(b'{{token}}', token))
+            for may, token in tokens.items()
+        }
+
+    @staticmethod
+    def _file(name: str) -> Answer:
+        with open(os.path.join(FOLDER, name), 'rb') as file:
+            return Answer(200, TYPES[os.path.splitext(name)[1]], file.read())
+
+    def refusal(self, head: Head) -> Answer | None:
+        """Why a request is refused by its head alone, before its body is read; None where it
+        isn't."""
+        guard = self.board.guard
+        if fault := guard.host_fault(head.headers):
+            return refused(421, fault)
+        if fault := guard.site_fault(head.headers):
+            return refused(403, fault)
+        if head.method != 'POST':
+            return None
+        if fault := guard.command_fault(head.headers):
+            return refused(403, fault)
+        if self.board.commands is None:
+            return refused(403, 'This board was started with --read-only.')
+        if not self._may_command(head):
+            return refused(403, 'The proxy names no user who may give commands.')
+        return None
+
+    async def answer(self, head: Head, body: bytes) -> Answer:
+        """What a request is answered, which was not refused."""
+        path, _, query = head.target.partition('?')
+        try:
+            if head.method == 'POST':
+                return await self._command(path, head, body)
+            asked = dict(urllib.parse.parse_qsl(query))
+            if path == '/':
+                return self.fronts[self._may_command(head)]
+            if path == '/history':
+                return await self.looks.run(functools.partial(self._history, asked.get('load', '')))
+            return self._page(path, asked)
+        except Busy:
+            return refused(503, 'The board is busy: nothing was done. Ask again in a moment.')
+
+    def _page(self, path: str, asked: dict[str, str]) -> Answer:
+        if path == '/data':
+            return self._data(asked)
+        if path == '/layout':
+            return self.layout
+        if path == '/commands':
+            return told(self.board.commands.listed() if self.board.commands else [])
+        return self.files.get(path) or refused(404, f'There is nothing at {path[:80]}.')
+
+    def _data(self, asked: dict[str, str]) -> Answer:
+        board, since = self.board, asked.get('since', '')
+        board.asker.look_at(asked.get('vehicle', ''))
+        version = int(since) if re.fullmatch('[0-9]{1,15}', since) else 0
+        newer = board.shown.newer(asked.get('run', ''), version)
+        asking = json.dumps(board.asker.asking)
+        return Answer(200, JSON, b'{"now":%d,"asking":%s,%s}' % (now(), asking.encode(), newer))
+
+    def _history(self, load: str) -> Answer:
+        question = (
+            'SELECT at, from_place, to_place FROM load_moves WHERE load = ? ORDER BY n DESC LIMIT ?'
+        )
+        moves = self.board.record.rows(question, (load, MOVES))
+        rows = self.board.record.rows('SELECT place, since FROM loads WHERE load = ?', (load,))
+        place, since = rows[0] if rows else (None, None)
+        return told({'moves': moves, 'place': place, 'since': since})
+
+    async def _command(self, path: str, head: Head, body: bytes) -> Answer:
+        commands = self.board.commands
+        said = object_of(body)
+        if commands is None or path not in ('/may', '/look', '/do'):
+            return refused(404, f'There is nothing at {path[:80]}.')
+        if said is None:
+            return refused(400, 'A command is a JSON object.')
+        try:
+            if path == '/may':
+                return told({})
+            if path == '/look':
+                return told(await self.looks.run(functools.partial(commands.look, said)))
+            return told(
+                await self.commands.run(functools.partial(commands.do, said, self._user(head)))
+            )
+        except NoCommand as wrong:
+            return refused(200, str(wrong))  # no error: the page has asked, and is told
+        except NotSent as fault:
+            return refused(503, str(fault))
+
+    def _may_command(self, head: Head) -> bool:
+        """Whether who asks may give commands. A proxy names only those."""
+        if self.board.commands is None:
+            return False
+        return self.board.user_header is None or bool(self._user(head))
+
+    def _user(self, head: Head) -> str:
+        """Who asks, as the proxy says."""
+        header = self.board.user_header
+        said = head.headers.get(header.lower(), '') if header else ''
+        return shown(said.encode('latin-1').decode('utf-8', 'backslashreplace'), USER)
+
+
+def object_of(body: bytes) -> dict[str, Any] | None:
+    """The object of JSON that a body is, or None."""
+    try:
+        said = json.loads(body)
+    except (ValueError, RecursionError):
+        return None
+    return said if isinstance(said, dict) else None

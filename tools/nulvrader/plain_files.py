@@ -1,0 +1,87 @@
+"""Opens regular files alone. The opening of a FIFO waits for a writer, and a device such as
+/dev/zero has no end."""
+from __future__ import annotations
+
+import errno
+import os
+import re
+import stat
+from typing import BinaryIO
+
+from .text import shown
+
+TEXT = 1_048_576  # the most bytes that are read of a text: 16 times what a desk takes as a body
+PATH = 4096  # the most characters of a path
+# The descriptors that a shell has opened for this program, as `/dev/stdin` or `<(..)`.
+OWN = re.compile('/dev/stdin|(?:/dev/fd|/proc/self/fd)/([0-9]{1,9})')
+KINDS = {
+    stat.S_IFDIR: 'a folder',
+    stat.S_IFIFO: 'a FIFO',
+    stat.S_IFSOCK: 'a socket',
+    stat.S_IFCHR: 'a device',
+    stat.S_IFBLK: 'a device',
+}
+
+
+class NotPlain(OSError):
+    """A file that is not read: it is no regular file, or is too large. `strerror` says why, and
+    `str()` is a sentence that begins with the file's name."""
+
+    def __init__(self, path: str, why: str) -> None:
+        super().__init__(errno.EINVAL, why, path)
+
+    def __str__(self) -> str:
+        return f'{shown(str(self.filename), PATH)}: {self.strerror}'
+
+
+def check(path: str) -> None:
+    """Checks that a path leads to a regular file or to nothing. A link is followed."""
+    try:
+        mode = os.stat(path).st_mode
+    except FileNotFoundError:
+        return
+    _check_mode(path, mode)
+
+
+def opened(path: str) -> BinaryIO:
+    """Opens a regular file to be read. If it is replaced by something else meanwhile, the opening
+    does not wait either."""
+    check(path)
+    handle = os.open(path, os.O_RDONLY | os.O_NONBLOCK | os.O_NOCTTY | os.O_CLOEXEC)
+    try:
+        _check_mode(path, os.fstat(handle).st_mode)
+        return os.fdopen(handle, 'rb')
+    except BaseException:
+        os.close(handle)
+        raise
+
+
+def read_text(path: str, most: int = TEXT) -> bytes:
+    """Reads a text of at most `most` bytes from a regular file, or from a pipe, a socket or a
+    terminal that the shell has opened for this program."""
+    with _opened_text(path) as file:
+        data = file.read(most + 1)
+    if len(data) > most:
+        raise NotPlain(path, f'it has more than {most} bytes')
+    return data
+
+
+def _opened_text(path: str) -> BinaryIO:
+    own = OWN.fullmatch(path)
+    if own is None:
+        return opened(path)
+    handle = os.dup(int(own[1] or 0))
+    try:
+        mode = os.fstat(handle).st_mode
+        if not (stat.S_ISFIFO(mode) or stat.S_ISSOCK(mode) or os.isatty(handle)):
+            _check_mode(path, mode)
+        return os.fdopen(handle, 'rb')
+    except BaseException:
+        os.close(handle)
+        raise
+
+
+def _check_mode(path: str, mode: int) -> None:
+    if not stat.S_ISREG(mode):
+        kind = KINDS.get(stat.S_IFMT(mode), 'something else')
+        raise NotPlain(path, f'it is {kind}, and not a regular file')
