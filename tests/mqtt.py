@@ -5,6 +5,7 @@ from __future__ import annotations
 import contextlib
 import os
 import re
+import select
 import shutil
 import socket
 import ssl
@@ -70,6 +71,8 @@ class Client:
     ) -> None:
         self.came: list[tuple[str, bytes]] = []
         self.is_open, self.granted = True, 0
+        self.lock = threading.Lock()
+        self.listener = threading.Thread(target=self.listen, daemon=True)
         flags = 2 | (4 if will else 0) | (0x80 if user else 0) | (0x40 if password else 0)
         body = text('MQTT') + bytes([4, flags]) + struct.pack('!H', 600) + text(name)
         if will:
@@ -81,28 +84,51 @@ class Client:
         try:
             if context:
                 self.line = context.wrap_socket(plain, server_hostname='localhost')
-            self.line.sendall(packet(0x10, body))
+            self.send(packet(0x10, body))
             kind, told = self.read()
         except (OSError, EOFError):
             self.is_open = False
             return
         self.code = told[1] if kind == CONNACK else None
-        self.line.settimeout(None)
-        threading.Thread(target=self.listen, daemon=True).start()
+        self.listener.start()
 
     def __enter__(self) -> Client:
         return self
 
     def __exit__(self, *_: object) -> None:
+        # The socket is closed once the thread has ended: until then OpenSSL may write an alert to
+        # its number, which the next connection would have.
         with contextlib.suppress(OSError):
-            self.line.shutdown(socket.SHUT_RDWR)
+            socket.socket.shutdown(self.line, socket.SHUT_RDWR)  # keeps the TLS, unlike its own
+        if self.listener.ident is not None:
+            self.listener.join()
         self.line.close()
+
+    def send(self, data: bytes) -> None:
+        """Sends bytes."""
+        with self.lock:
+            self.line.settimeout(None)
+            self.line.sendall(data)
+
+    def receive(self, count: int) -> bytes:
+        """Receives at most so many bytes. Nobody sends meanwhile, as a TLS connection may be used
+        by one thread at a time; while nothing comes, others may."""
+        is_listening = threading.current_thread() is self.listener
+        ready = select.poll()
+        ready.register(self.line, select.POLLIN)
+        while True:
+            with self.lock:
+                self.line.settimeout(0)
+                with contextlib.suppress(BlockingIOError, ssl.SSLWantReadError):
+                    return self.line.recv(count)
+            if not ready.poll(None if is_listening else 1000 * PATIENCE):
+                raise TimeoutError
 
     def take(self, count: int) -> bytes:
         """Reads so many bytes."""
         data = b''
         while len(data) < count:
-            part = self.line.recv(count - len(data))
+            part = self.receive(count - len(data))
             if not part:
                 raise EOFError
             data += part
@@ -133,12 +159,12 @@ class Client:
 
     def publish(self, topic: str | bytes, data: bytes, *, retain: bool = False) -> None:
         """Publishes a message, or any bytes."""
-        self.line.sendall(publication(topic, data, retain=retain))
+        self.send(publication(topic, data, retain=retain))
 
     def subscribe(self, *topics: str) -> None:
         """Subscribes to topics, and waits for the answer."""
         before = self.granted
-        self.line.sendall(packet(0x82, b'\0\1' + b''.join(text(one) + b'\0' for one in topics)))
+        self.send(packet(0x82, b'\0\1' + b''.join(text(one) + b'\0' for one in topics)))
         until(lambda: self.granted > before or not self.is_open, 'the answer to a subscription')
 
 

@@ -275,7 +275,7 @@ class AnotherServer(Programs):
         self.addCleanup(self.server.listener.close)
         process = self.gateway(self.server.address, '--timeout', '2', '--vehicle', 'KIT/0001')
         until(lambda: self.has_said('gateway', 'the broker is connected'), 'the gateway')
-        self.vehicle = Client(self.port)
+        self.vehicle = self.enterContext(Client(self.port))
         self.vehicle.subscribe('#')
         for number in range(1, 4):
             self.vehicle.publish(TOPIC + 'state', state(number))
@@ -605,8 +605,7 @@ class BrokerRights(Configured):
         gateway = self.reader('gateway', 'uagv/v2/+/+/state', 'uagv/v2/+/+/connection')
         for vehicle in ('KIT/0001', 'KIT/0002'):
             will = (f'uagv/v2/{vehicle}/connection', vehicle.encode())
-            made = self.connect('KIT/0002', will=will)
-            made.__exit__()
+            self.connected('KIT/0002', will=will).__exit__()
         until(lambda: any(data == b'KIT/0002' for _, data in gateway.came), 'its own will')
         self.pass_on(gateway)
         self.assertNotIn(b'KIT/0001', [data for _, data in gateway.came])
