@@ -226,8 +226,7 @@ window.attack = async (board, token) => {
   }
   const frame = document.createElement('iframe');
   frame.src = board;
-  document.body.append(frame);
-  await new Promise((done) => { setTimeout(done, 1000); });
+  await new Promise((done) => { frame.onload = done; document.body.append(frame); });
   await tried('frame', () => frame.contentDocument.documentElement.outerHTML);
   await tried('its script', () => import(board + 'main.js').then(() => 'imported'));
   return found;
@@ -242,16 +241,45 @@ class ForeignServer(socketserver.ThreadingTCPServer):
     allow_reuse_address = True
     daemon_threads = True
 
+    def __init__(self, port: int) -> None:
+        self.lock, self.is_over = threading.Lock(), False
+        self.taken: list[socket.socket] = []
+        super().__init__(('::1', port), ForeignHandler)
+
+    def end(self) -> None:
+        """Listens no more, and answers nothing more on a connection that the browser has opened
+        before it has something to ask."""
+        self.shutdown()
+        self.server_close()
+        with self.lock:
+            self.is_over = True
+            for one in self.taken:
+                with contextlib.suppress(OSError):  # it is closed already
+                    one.shutdown(socket.SHUT_RDWR)
+
 
 class ForeignHandler(socketserver.StreamRequestHandler):
     """Answers whatever is asked with the page."""
 
+    server: ForeignServer
+
     def handle(self) -> None:
-        self.rfile.readline()
+        with self.server.lock:
+            self.server.taken.append(self.connection)
+            if self.server.is_over:
+                return
+        with contextlib.suppress(ConnectionError):
+            self.rfile.readline()
+            self.answer()
+
+    def answer(self) -> None:
+        """Gives the page, unless the server has ended."""
         page = ATTACK.encode()
         head = b'HTTP/1.1 200 OK\r\nContent-Type: text/html\r\nContent-Length: %d\r\n'
-        head += b'Connection: close\r\n\r\n'
-        self.wfile.write(head % len(page) + page)
+        head += b'Cache-Control: no-store\r\nConnection: close\r\n\r\n'
+        with self.server.lock:
+            if not self.server.is_over:
+                self.wfile.write(head % len(page) + page)
 
 
 def has_six() -> bool:
@@ -271,16 +299,17 @@ class ForeignPage(Watching):
         """It reads nothing of the board, though it even knows the token, and no command of it is
         carried out."""
         port = self.board.port
-        with ForeignServer(('::1', port), ForeignHandler) as served:
-            threading.Thread(target=served.serve_forever, daemon=True).start()
-            page = Browser()
-            self.addCleanup(page.close)
-            page.open(f'http://evil.localhost:{port}/')
-            until(
-                lambda: page.run('return typeof window.attack') == 'function',
-                'the page of the attacker',
-            )
-            served.shutdown()
+        served = ForeignServer(port)
+        threading.Thread(target=served.serve_forever, daemon=True).start()
+        self.addCleanup(served.end)
+        page = Browser()
+        self.addCleanup(page.close)
+        page.open(f'http://evil.localhost:{port}/')
+        until(
+            lambda: page.run('return typeof window.attack') == 'function',
+            'the page of the attacker',
+        )
+        served.end()
         token = self.board.token()
         found = page.run(
             'return window.attack(arguments[0], arguments[1])', f'http://127.0.0.1:{port}/', token
