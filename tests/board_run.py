@@ -14,10 +14,9 @@ import tempfile
 import unittest
 from typing import Any
 
-from programs import PATIENCE, TOOLS, until
+from programs import PATIENCE, TOOLS, free_port, until
 
 from nulvrader.client import Desk, Refused
-from nulvrader.machine import free_port
 from nulvrader.names import VehicleKey
 
 HERE = os.path.dirname(os.path.abspath(__file__))

@@ -13,9 +13,7 @@ import subprocess
 import time
 from typing import Any
 
-from programs import PATIENCE, until
-
-from nulvrader.machine import free_port
+from programs import PATIENCE, free_port, until
 
 ELEMENT = 'element-6066-11e4-a52e-4f735466cecf'  # the protocol's name of an element
 FIRST = 'return document.querySelector(arguments[0])'

@@ -19,8 +19,7 @@ from typing import Any
 
 import programs
 from nulvrader import client
-from nulvrader.machine import free_port
-from programs import PATIENCE, until
+from programs import PATIENCE, free_port, until
 from test_client import KIT1
 from test_program import Serving, over_sockets
 from test_scripts import LAYOUT

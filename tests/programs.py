@@ -1,5 +1,7 @@
 """The programs of `tools/` and `examples/`: run, and loaded as modules."""
 import contextlib
+import fcntl
+import functools
 import importlib.machinery
 import importlib.util
 import io
@@ -8,6 +10,7 @@ import signal
 import socket
 import subprocess
 import sys
+import tempfile
 import time
 from collections.abc import Callable
 from typing import Any
@@ -18,6 +21,7 @@ TOOLS = os.path.join(ROOT, 'tools')
 if TOOLS not in sys.path:
     sys.path.insert(0, TOOLS)
 
+from nulvrader import machine  # noqa: E402
 
 PATIENCE = 120.0  # seconds until what is waited for has to be so, however busy the machine is
 
@@ -42,6 +46,29 @@ def until(told: Callable[[], Any], what: str, patience: float = PATIENCE) -> Any
         if time.monotonic() > ends:
             raise AssertionError('not within %g seconds: %s' % (patience, what))
         time.sleep(0.05)
+
+
+@functools.cache
+def file_of_ports() -> int:
+    """The file whose bytes stand for ports: the tests of this machine lock the bytes of theirs. It is never closed, which would unlock
+    all of them."""
+    path = os.path.join(tempfile.gettempdir(), 'ports-of-tests-%d' % os.geteuid())
+    return os.open(path, os.O_RDWR | os.O_CREAT | os.O_NOFOLLOW, 0o600)
+
+
+PORTS: set[int] = set()  # those of this program
+
+
+def free_port() -> int:
+    """A port of 127.0.0.1 that nobody has, for a program that is started later, or again. No other test is given it while this one's
+    program runs."""
+    while True:
+        port = machine.free_port()
+        if port not in PORTS:
+            PORTS.add(port)
+            with contextlib.suppress(BlockingIOError):
+                fcntl.lockf(file_of_ports(), fcntl.LOCK_EX | fcntl.LOCK_NB, 1, port)
+                return port
 
 
 def wait_for_port(port: int, process: 'subprocess.Popen[Any]') -> None:

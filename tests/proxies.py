@@ -14,9 +14,7 @@ import subprocess
 import tempfile
 from dataclasses import dataclass
 
-from programs import ROOT, wait_for_port
-
-from nulvrader.machine import free_port
+from programs import ROOT, free_port, wait_for_port
 
 MISSING = [name for name in ('nginx', 'openssl') if shutil.which(name) is None]
 WHY = f"no {' and no '.join(MISSING)} here"

@@ -7,10 +7,8 @@ import re
 import unittest
 
 import proxies
-from board_run import Plant, has_loopback, until
+from board_run import Plant, free_port, has_loopback, until
 from proxies import Proxy, Told
-
-from nulvrader.machine import free_port
 
 
 @unittest.skipUnless(has_loopback(), 'no sockets on 127.0.0.1 here')

@@ -16,10 +16,8 @@ import tempfile
 import unittest
 
 import proxies
-from programs import ROOT, wait_for_port
+from programs import ROOT, free_port, wait_for_port
 from test_program import Serving, over_sockets
-
-from nulvrader.machine import free_port
 
 MAIN = """daemon off; pid {here}/nginx.pid; error_log {here}/error.log; worker_processes 1; {user}
 events {{ worker_connections 64; }}

@@ -11,14 +11,13 @@ from typing import Any
 import programs
 import proxies
 from board_run import PROGRAM, Process
-from programs import within
+from programs import free_port, within
 from proxies import Proxy
 from test_client import KIT1, told
 from test_program import over_sockets
 from test_scripts import LAYOUT
 
 from nulvrader import client
-from nulvrader.machine import free_port
 
 ask = programs.module('ask')
 

@@ -12,7 +12,7 @@ import sys
 import unittest
 from unittest import mock
 
-from programs import ROOT, TOOLS
+from programs import ROOT, TOOLS, free_port
 from test_migrate import BEGUN, CANCELLED, FIRST
 from test_program import DESK, Serving, over_sockets, run
 from why_files import OTHER, WhyTest, another_user, told
@@ -132,8 +132,8 @@ class Mistakes(WhyTest):
     def test_a_port_in_use(self):
         self.fill()
         for address in ('127.0.0.1', ''):
-            with socket.create_server((address, 0)) as listener:
-                port = str(listener.getsockname()[1])
+            port = str(free_port())
+            with socket.create_server((address, int(port))):
                 program = 'the program %d (' % os.getpid()
                 self.check_fault('Net', program, 'listens on port %s of ' % port, 'name another port', words=('--port', port), port=port)
         self.look('--port', port, expected=0)

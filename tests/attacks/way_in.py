@@ -26,10 +26,8 @@ import browser
 import proxies
 from board_run import FOLDER, ONE, PROGRAM, Plant, has_loopback, until
 from browser import Browser
-from programs import ROOT
+from programs import ROOT, free_port
 from proxies import Proxy, Told
-
-from nulvrader.machine import free_port
 
 PLACE = '/vehicles/KIT/0001/place'
 # The field of a form without a coding: a "=" and the value behind it, it is JSON.
