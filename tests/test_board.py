@@ -234,8 +234,12 @@ class Asks(unittest.TestCase):
         told = {job: [board.get('job', job)[name] for name in ('load', 'target')] for job in ('J1', 'J2')}
         self.assertEqual(told, {'J1': ['L150', 'B'], 'J2': ['L151', 'C']})
         self.assertEqual(sorted(board.all('job')), ['J1', 'J2'])
-        write_notes(notes, Notes(jobs, {'job J1': 'no vehicle is free'}))
-        until(lambda: board.get('why', 'job J1') == 'no vehicle is free', 'why it waits')
+
+        def is_told() -> bool:
+            write_notes(notes, Notes(jobs, {'job J1': 'no vehicle is free'}))
+            return bool(board.get('why', 'job J1') == 'no vehicle is free')
+
+        until(is_told, 'why it waits')
         os.utime(notes, (0, 0))
         until(lambda: not board.get('why', 'job J1'), 'the notes are old')
 

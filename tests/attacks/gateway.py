@@ -33,6 +33,12 @@ def state(number: int, **others: Any) -> bytes:
     return json.dumps({**told(number), **others}).encode()
 
 
+def more_lines(begun: float) -> int:
+    """Returns how many lines more the gateway may say of a thing that has gone on since a moment:
+    20 in each minute but the first."""
+    return 20 * int((time.monotonic() - begun) / 60)
+
+
 def names() -> list[str]:
     """Returns the topics of invented vehicles."""
     return [f'uagv/v2/FAKE/{number}/state' for number in range(INVENTED)]
@@ -44,6 +50,7 @@ class Attacked(WithADesk):
     def setUp(self) -> None:
         super().setUp()
         self.broker('allow_anonymous true', 'max_queued_messages 0')
+        self.begun = time.monotonic()
         self.process = self.gateway(self.desk.address, '--timeout', '10')
         self.vehicle = self.enterContext(Client(self.port))
         self.attacker = self.enterContext(Client(self.port))
@@ -74,7 +81,7 @@ class Attacked(WithADesk):
         """Checks that the gateway goes on, and has said little, and nothing a terminal obeys."""
         self.assertIsNone(self.process.poll(), 'the gateway has ended')
         said = self.said('gateway')
-        self.assertLessEqual(len(said), most, said[:50])
+        self.assertLessEqual(len(said), most + more_lines(self.begun), said[:50])
         self.assertNotIn('Traceback (most recent call last):', said)
         for line in said:
             self.assertTrue(line.isprintable(), ascii(line))
@@ -84,18 +91,26 @@ class Attacked(WithADesk):
 @with_mosquitto
 @with_paho
 class InventedVehicles(Attacked):
+    def burst(self) -> float:
+        """Sends a state of each, and returns after how many seconds the attacker, who reads them,
+        has had them all: so long takes what only reads them, on this machine."""
+        begun, wanted = time.monotonic(), len(self.attacker.came) + INVENTED
+        for topic in names():
+            self.attacker.publish(topic, state(1))
+        until(lambda: len(self.attacker.came) >= wanted, 'the states of invented vehicles')
+        return time.monotonic() - begun
+
     def test_they_delay_nobody(self) -> None:
         """2,300 vehicles that nobody has send states: those of a real one arrive within two
         seconds, more on a slow machine, and the gateway says in a line now and then how many it
         dropped."""
         over, calm = threading.Event(), max(self.arrive() for _ in range(3))
-        body = state(1)
+        self.attacker.subscribe('uagv/v2/FAKE/+/state')
+        bursts = [self.burst()]
 
         def flood() -> None:
-            while not over.is_set():
-                for topic in names():
-                    self.attacker.publish(topic, body)
-                over.wait(0.5)
+            while not over.wait(0.5 + 2 * bursts[-1]):
+                bursts.append(self.burst())
 
         thread = threading.Thread(target=flood, daemon=True)
         thread.start()
@@ -105,24 +120,41 @@ class InventedVehicles(Attacked):
         finally:
             over.set()
             thread.join(PATIENCE)
-        self.assertLess(times[1], 2 + 5 * calm, (times, calm))
+        self.assertLess(times[1], 2 + 5 * (calm + max(bursts)), (times, calm, bursts))
         self.check_log(30)
 
     def test_they_are_not_polled(self) -> None:
-        """After they have sent one state each, the desk is asked about none of them."""
+        """They have sent one state each: the gateway asks the desk about none of them, and for its
+        vehicles at most every two seconds."""
+        self.process.kill()
+        self.process.wait(PATIENCE)
+        asked: list[bytes] = []
+
+        def hand_on(line: socket.socket, request: bytes) -> None:
+            asked.append(request.split(b' ')[1])
+            with socket.create_connection(('127.0.0.1', self.serving.port)) as desk:
+                desk.sendall(request)
+                while answer := desk.recv(65536):
+                    line.sendall(answer)
+
+        def is_said() -> bool:
+            self.attacker.publish(names()[0], state(1))
+            return self.has_said('gateway', 'does not have the vehicle')
+
+        server = HostileServer(hand_on)
+        self.addCleanup(end, server.listener)
+        begun, order = time.monotonic(), f'/{TOPIC}order'.encode()
+        self.process = self.gateway(server.address, '--vehicle', 'KIT/0001')
+        until(is_said, 'it is said')
         for topic in names():
             self.attacker.publish(topic, state(1))
-        until(lambda: self.has_said('gateway', 'does not have the vehicle'), 'it is said')
-        begun = self.calls()
-        time.sleep(3)
-        turns = 30
-        self.assertLess(self.calls() - begun, turns * 5)
-
-    def calls(self) -> int:
-        """Returns how many connections the desk has accepted, as far as its process says it: the
-        times that it waited for one."""
-        with open(f'/proc/{self.serving.process.pid}/io') as file:
-            return int(re.findall(r'syscw: (\d+)', file.read())[0])
+        self.attacker.publish(TOPIC + 'connection', b'{"connectionState":"ONLINE"}')
+        until(lambda: self.has_said('gateway', 'KIT/0001: ONLINE'), 'all of them have come')
+        turns = asked.count(order)
+        until(lambda: asked.count(order) > turns + 30, 'the next turns')
+        self.assertEqual([target for target in asked if b'FAKE' in target], [])
+        looks = asked.count(b'/report/holds')
+        self.assertLessEqual(looks, 2 + (time.monotonic() - begun) / 2)
 
     def test_they_leave_room(self) -> None:
         """While the desk is stopped, they send 200 MB: the memory of the gateway stays small, and
@@ -223,6 +255,13 @@ class HostileMessages(Attacked):
         self.arrive()
 
 
+def end(listener: socket.socket) -> None:
+    """Ends a listener, also where a thread waits at it."""
+    with contextlib.suppress(OSError):
+        listener.shutdown(socket.SHUT_RDWR)
+    listener.close()
+
+
 class HostileServer:
     """A server in the place of the desk. `answer` takes a connection whose request it has read."""
 
@@ -271,8 +310,8 @@ class AnotherServer(Programs):
 
     def serve(self, answer: Callable[[socket.socket, bytes], None]) -> subprocess.Popen[bytes]:
         """Starts it, and a gateway, to which a vehicle sends states."""
-        self.server = HostileServer(answer)
-        self.addCleanup(self.server.listener.close)
+        self.server, self.begun = HostileServer(answer), time.monotonic()
+        self.addCleanup(end, self.server.listener)
         process = self.gateway(self.server.address, '--timeout', '2', '--vehicle', 'KIT/0001')
         until(lambda: self.has_said('gateway', 'the broker is connected'), 'the gateway')
         self.vehicle = self.enterContext(Client(self.port))
@@ -292,7 +331,7 @@ class AnotherServer(Programs):
         self.assertLess(time.monotonic() - begun, SOON)
         said = self.said('gateway')
         self.assertNotIn('Traceback (most recent call last):', said)
-        self.assertLessEqual(len(said), 30)
+        self.assertLessEqual(len(said), 30 + more_lines(self.begun))
         self.assertTrue(all(line.isprintable() for line in said), said)
 
     def test_wrong_answers(self) -> None:
@@ -400,7 +439,7 @@ class AnotherBroker(WithADesk):
     def attack(self, sends: Callable[[socket.socket], None]) -> None:
         """Runs a gateway over it, which connects again and again, and whose memory stays small."""
         broker = HostileBroker(self.port, sends)
-        self.addCleanup(broker.listener.close)
+        self.addCleanup(end, broker.listener)
         process = self.gateway(self.desk.address, '--vehicle', 'KIT/0001')
         until(lambda: broker.connections > 1, 'a second connection')
         self.assertIsNone(process.poll(), self.said('gateway'))

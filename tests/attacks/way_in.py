@@ -38,7 +38,7 @@ PAGE = """<!doctype html><title>foreign</title>
 <script>if (location.search === '?go') document.forms[0].submit()</script>"""
 SYSTEMD = os.path.join(ROOT, 'examples', 'systemd')
 EXPOSURE = 2.0
-SECOND, SLOWER = 1.0, 20.0  # how long a call may take, and how many times as long as alone
+SECOND, SLOWER = 1.0, 100.0  # how long a call may take, and how many times as long as elsewhere
 
 
 def order_of(plant: Plant) -> str | None:
@@ -408,24 +408,27 @@ class Passwords(ThroughNginx):
         line = [sys.executable, '-c', GUESS, str(self.proxy.port), '6', proxies.basic('anna', 'x')]
         begun = time.monotonic()
         subprocess.run(line, check=True, timeout=300)
-        took = time.monotonic() - begun
-        looked = self.proxy.errors().count('user "anna": password mismatch')
-        self.assertGreater(looked, 20)
-        self.assertLessEqual(looked, 41 + 40 * took)
+        until(lambda: self.looked() > 20, 'the passwords are looked at')
+        self.assertLessEqual(self.looked(), 41 + 40 * (time.monotonic() - begun))
+
+    def looked(self) -> int:
+        """How many passwords of the dispatcher were looked at, and were wrong."""
+        return self.proxy.errors().count('user "anna": password mismatch')
 
 
-# Sends a request for so many seconds, 14 at a time, and waits for no answer.
+# Sends requests for so many seconds, and at least 100, 14 at a time, and waits for no answer.
 GUESS = """
 import asyncio, sys, time
 
-port, end = int(sys.argv[1]), time.monotonic() + float(sys.argv[2])
+port, end, sent = int(sys.argv[1]), time.monotonic() + float(sys.argv[2]), []
 head = ['GET /report/stock HTTP/1.1', f'Host: 127.0.0.1:{port}', sys.argv[3], '', '']
 
 async def one():
-    while time.monotonic() < end:
+    while time.monotonic() < end or len(sent) < 100:
         try:
             _, target = await asyncio.open_connection('127.0.0.1', port)
             target.write('\\r\\n'.join(head).encode())
+            sent.append(time.monotonic())
             await asyncio.sleep(0.02)
             target.transport.abort()
         except OSError:
@@ -577,7 +580,10 @@ class Starvation(ThroughNginx):
         take less than a second."""
         for number in range(2, 400):
             self.plant.desk.register_load(f'X{number}')
-        alone = statistics.median(self.call(number) for number in range(5))
+        other = Plant()
+        self.addCleanup(other.close)
+        beside = Proxy(other.port, self.board_port)
+        self.addCleanup(beside.close)
         lines = ['GET /export/loads HTTP/1.1', f'Host: {self.proxy.host(False)}']
         request = '|'.join([*lines, proxies.basic('otto', 'otto!'), '', ''])
         line = [sys.executable, '-c', FLOOD, str(self.proxy.port), '600', request]
@@ -586,17 +592,18 @@ class Starvation(ThroughNginx):
                 assert flood.stdout is not None
                 flood.stdout.readline()
                 time.sleep(1)
-                took = statistics.median(self.call(number) for number in range(10, 25))
+                calls = [(self.call(self.proxy, at), self.call(beside, at)) for at in range(15)]
                 self.assertIsNone(flood.poll())
             finally:
                 flood.kill()
-        # where the machine has no time for its programs, a call takes long even alone
-        self.assertLess(took, max(SECOND, SLOWER * alone))
+        took, elsewhere = (statistics.median(times) for times in zip(*calls))
+        # where the machine has no time for its programs, a call of a desk beside takes long, too
+        self.assertLess(took, max(SECOND, SLOWER * elsewhere))
 
-    def call(self, number: int) -> float:
+    def call(self, proxy: Proxy, number: int) -> float:
         """The seconds that a command of a dispatcher takes."""
         begun = time.monotonic()
-        told = self.proxy.ask('POST /loads', user='anna', body=f'{{"load":"Y{number}"}}')
+        told = proxy.ask('POST /loads', user='anna', body=f'{{"load":"Y{number}"}}')
         self.assertEqual(told.status, 200)
         return time.monotonic() - begun
 
