@@ -1,17 +1,24 @@
 """What is only asked: messages, loads, vehicles, the reports and the export."""
 import datetime
 
-from model.orders import OF_VEHICLE
+from tests.model.orders import OF_VEHICLE
 
 
 def stamp(moment):
     """A moment as messages have it, decimals cut off."""
     at = datetime.datetime.fromtimestamp(moment // 1000, datetime.timezone.utc)
-    return at.strftime('%Y-%m-%dT%H:%M:%S.') + '%02dZ' % (moment % 1000 // 10)
+    return at.strftime('%Y-%m-%dT%H:%M:%S.') + f'{moment % 1000 // 10:02d}Z'
 
 
 def message(key, header, moment, **more):
-    return dict(more, headerId=header, manufacturer=key[0], serialNumber=key[1], timestamp=stamp(moment), version='2.0.0')
+    return dict(
+        more,
+        headerId=header,
+        manufacturer=key[0],
+        serialNumber=key[1],
+        timestamp=stamp(moment),
+        version='2.0.0',
+    )
 
 
 def actions_at(trip, k):
@@ -41,7 +48,12 @@ def get_order(desk, manufacturer, serial, _):
         return None
     row = trip.row
     nodes = [
-        {'actions': actions_at(trip, k), 'nodeId': trip.nodes[k], 'released': k <= row['base'], 'sequenceId': 2 * k}
+        {
+            'actions': actions_at(trip, k),
+            'nodeId': trip.nodes[k],
+            'released': k <= row['base'],
+            'sequenceId': 2 * k,
+        }
         for k in range(row['first'], len(trip.nodes))
     ]
     edges = [
@@ -55,7 +67,12 @@ def get_order(desk, manufacturer, serial, _):
         }
         for k in range(row['first'], len(trip.edges))
     ]
-    order = {'edges': edges, 'nodes': nodes, 'orderId': row['order_id'], 'orderUpdateId': row['sent']}
+    order = {
+        'edges': edges,
+        'nodes': nodes,
+        'orderId': row['order_id'],
+        'orderUpdateId': row['sent'],
+    }
     return message(key, vehicle['order_header'], vehicle['order_at'], **order)
 
 
@@ -64,17 +81,22 @@ def get_instant(desk, manufacturer, serial, _):
     if vehicle['pending'] is None:
         return None
     action = {
-        'actionId': 'instant-%d' % vehicle['instant_header'],
+        'actionId': f'instant-{vehicle["instant_header"]}',
         'actionParameters': [],
         'actionType': vehicle['pending'],
         'blockingType': 'HARD',
     }
-    return message((manufacturer, serial), vehicle['instant_header'], vehicle['instant_at'], actions=[action])
+    return message(
+        (manufacturer, serial), vehicle['instant_header'], vehicle['instant_at'], actions=[action]
+    )
 
 
 def place_text(row):
     """Where a load is."""
-    texts = {'station': 'station %s' % row['station'], 'vehicle': 'vehicle %s/%s' % (row['manufacturer'], row['serial'])}
+    texts = {
+        'station': f'station {row["station"]}',
+        'vehicle': f'vehicle {row["manufacturer"]}/{row["serial"]}',
+    }
     return texts.get(row['kind'], row['kind'])
 
 
@@ -111,21 +133,85 @@ def stock_report(desk, _):
     out = []
     for name, (node, capacity) in sorted(desk.layout.stations.items()):
         loads = at.get('station ' + name, [])
-        out.append('station %s at %s: %d of %d, reserved %d' % (name, node, len(loads), capacity, desk.coming(name)))
+        out.append(
+            f'station {name} at {node}: {len(loads)} of {capacity}, reserved {desk.coming(name)}'
+        )
         out += ['  ' + load for load in loads]
-    vehicles = desk.base.execute('SELECT manufacturer, serial FROM vehicle ORDER BY manufacturer, serial')
+    vehicles = desk.base.execute(
+        'SELECT manufacturer, serial FROM vehicle ORDER BY manufacturer, serial'
+    )
     for place in ['checking', *['vehicle %s/%s' % tuple(row) for row in vehicles]]:
         loads = at.get(place, [])
-        out += ['%s: %d' % (place, len(loads))] + ['  ' + load for load in loads]
-    return '\n'.join(out + ['left: %d\n' % len(at.get('left', []))])
+        out += [f'{place}: {len(loads)}'] + ['  ' + load for load in loads]
+    return '\n'.join(out + [f'left: {len(at.get("left", []))}\n'])
 
 
 def hold_report(desk, _):
-    rows = desk.base.execute('SELECT kind, id, manufacturer, serial FROM hold ORDER BY kind DESC, id')
+    rows = desk.base.execute(
+        'SELECT kind, id, manufacturer, serial FROM hold ORDER BY kind DESC, id'
+    )
     lines = ['%s %s %s/%s\n' % tuple(row) for row in rows]
-    return ''.join(lines) + 'held %d of %d\n' % (len(lines), len(desk.layout.nodes) + len(desk.layout.edges))
+    return (
+        ''.join(lines) + f'held {len(lines)} of {len(desk.layout.nodes) + len(desk.layout.edges)}\n'
+    )
 
 
 def export_loads(desk, _):
     rows = desk.base.execute('SELECT * FROM load ORDER BY id')
-    return 'load,place,at\n' + ''.join('%s,%s,%s\n' % (row['id'], *(place_text(row).split(' ') + [''])[:2]) for row in rows)
+    return 'load,place,at\n' + ''.join(
+        '%s,%s,%s\n' % (row['id'], *(place_text(row).split(' ') + [''])[:2]) for row in rows
+    )
+
+
+def csv_text(header, rows):
+    """Returns a CSV file; None is an empty field, and a truth value a word."""
+    words = {None: '', False: 'false', True: 'true'}
+    shown = [
+        [words[field] if field is None or isinstance(field, bool) else str(field) for field in row]
+        for row in rows
+    ]
+    return ''.join(','.join(row) + '\n' for row in [header.split(','), *shown])
+
+
+def export_jobs(desk, _):
+    riders = {
+        act['job']: (act['manufacturer'], act['serial'], act['order_id'])
+        for act in desk.base.execute(
+            'SELECT job, manufacturer, serial, order_id FROM act JOIN journey USING (order_id)'
+        )
+    }
+    rows = desk.base.execute("SELECT * FROM job WHERE phase IN ('waiting', 'riding') ORDER BY id")
+    return csv_text(
+        'job,load,from,to,phase,manufacturer,serialNumber,order',
+        [(*row, *riders.get(row['id'], ('', '', ''))) for row in rows],
+    )
+
+
+def export_vehicles(desk, _):
+    rows = []
+    for row in desk.base.execute('SELECT * FROM vehicle ORDER BY manufacturer, serial'):
+        key = row['manufacturer'], row['serial']
+        told = get_vehicle(desk, *key, b'')
+        trip = desk.trip(key)
+        way = (trip.row['base'], len(trip.edges), trip.row['seen']) if trip else (None, None, None)
+        seen = [
+            told[name]
+            for name in ('node', 'capacity', 'ready', 'paused', 'astray', 'headerId', 'pending')
+        ]
+        open_order = [told[name] for name in ('order', 'sent', 'confirmed')]
+        rows.append([*key, *seen, *open_order, *way, row['rest_edge'], row['rest_node']])
+    return csv_text(
+        'manufacturer,serialNumber,node,capacity,ready,paused,astray,headerId,pending,order,'
+        'sent,confirmed,released,'
+        'edges,seen,restEdge,restNode',
+        rows,
+    )
+
+
+def export_layout(desk, _):
+    nodes = [
+        ('node', row['id'], '', '') for row in desk.base.execute('SELECT * FROM node ORDER BY id')
+    ]
+    edges = [('edge', *row) for row in desk.base.execute('SELECT * FROM edge ORDER BY id')]
+    stations = [('station', *row) for row in desk.base.execute('SELECT * FROM station ORDER BY id')]
+    return csv_text('kind,id,from,to', nodes + edges + stations)

@@ -50,14 +50,18 @@ def depth_of(told):
         value, depth = left.pop()
         if isinstance(value, (dict, list)):
             deepest = max(deepest, depth)
-            left += [(one, depth + 1) for one in (value.values() if isinstance(value, dict) else value)]
+            left += [
+                (one, depth + 1) for one in (value.values() if isinstance(value, dict) else value)
+            ]
     return deepest
 
 
 def read_body(body):
     """The value of a body that is JSON."""
     try:
-        told = json.loads(body.decode(), parse_int=whole, parse_float=fraction, parse_constant=no_json)
+        told = json.loads(
+            body.decode(), parse_int=whole, parse_float=fraction, parse_constant=no_json
+        )
     except (ValueError, RecursionError):
         raise Refused('BadJson') from None
     check(body.count(b'[') + body.count(b'{') > 127 and depth_of(told) > 127, 'BadJson')
@@ -83,13 +87,20 @@ def number(told, wanted):
 
 
 def texts(told, *wanted):
-    check(not isinstance(told, dict) or not all(isinstance(told.get(name), str) for name in wanted), 'BadBody')
+    check(
+        not isinstance(told, dict) or not all(isinstance(told.get(name), str) for name in wanted),
+        'BadBody',
+    )
 
 
 def table(body, header):
     """The rows of a CSV file with this header."""
     try:
-        rows = [row for row in csv.reader(io.StringIO(body.decode('utf-8-sig'), newline=''), strict=True) if row]
+        rows = [
+            row
+            for row in csv.reader(io.StringIO(body.decode('utf-8-sig'), newline=''), strict=True)
+            if row
+        ]
     except (ValueError, csv.Error):
         raise Refused('BadCsv') from None
     check(not rows or rows[0] != header or any(len(row) != len(header) for row in rows), 'BadCsv')
@@ -123,7 +134,16 @@ def read_state(body):
     check(told.get('agvPosition') is not None or told.get('velocity') is not None, 'Position')
     for name in ('headerId', 'orderUpdateId', 'lastNodeSequenceId'):
         number(told, name)
-    texts(told, 'timestamp', 'version', 'manufacturer', 'serialNumber', 'orderId', 'lastNodeId', 'operatingMode')
+    texts(
+        told,
+        'timestamp',
+        'version',
+        'manufacturer',
+        'serialNumber',
+        'orderId',
+        'lastNodeId',
+        'operatingMode',
+    )
     acts, errors = told.get('actionStates'), told.get('errors')
     check(not all(isinstance(values, list) for values in (nodes, acts, errors)), 'BadBody')
     for node in nodes:
@@ -147,4 +167,6 @@ def is_moment(text):
         moment = datetime.datetime.fromisoformat(text.replace('Z', '+00:00'))
     except ValueError:
         return False
-    return moment.tzinfo is not None and 1970 <= moment.astimezone(datetime.timezone.utc).year <= 2099
+    return (
+        moment.tzinfo is not None and 1970 <= moment.astimezone(datetime.timezone.utc).year <= 2099
+    )

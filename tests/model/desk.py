@@ -1,18 +1,28 @@
-"""The model as a whole: the table of calls, each of them one transaction, and the bytes of an answer."""
+"""The model as a whole: the table of calls, each of them one transaction, and the bytes of an
+answer."""
 import json
 import re
 import sqlite3
 
-from model import answers, layouts, loads, orders, states
-from model.bodies import NAME, Refused, check
-from model.tables import Tables
+from tests.model import answers, layouts, loads, orders, states
+from tests.model.bodies import NAME, Refused, check
+from tests.model.tables import Tables
 
-from nulvrader.refusals import BY_NAME
+from nulvrader.desk.refusals import BY_NAME
 
 AT = 1700000000000  # the moment of a model that is told none
 REASONS = {
-    200: 'OK', 204: 'No Content', 400: 'Bad Request', 404: 'Not Found', 405: 'Method Not Allowed', 409: 'Conflict',
-    411: 'Length Required', 413: 'Payload Too Large', 422: 'Unprocessable Entity', 501: 'Not Implemented'}
+    200: 'OK',
+    204: 'No Content',
+    400: 'Bad Request',
+    404: 'Not Found',
+    405: 'Method Not Allowed',
+    409: 'Conflict',
+    411: 'Length Required',
+    413: 'Payload Too Large',
+    422: 'Unprocessable Entity',
+    501: 'Not Implemented',
+}
 TYPES = {'json': 'application/json', 'plain': 'text/plain', 'csv': 'text/csv'}
 CALLS = [
     (method, re.compile(path.replace('{}', '([^/]*)')), call, kind)
@@ -40,12 +50,16 @@ CALLS = [
         ('GET', '/report/stock', answers.stock_report, 'plain'),
         ('GET', '/report/holds', answers.hold_report, 'plain'),
         ('GET', '/export/loads', answers.export_loads, 'csv'),
+        ('GET', '/export/jobs', answers.export_jobs, 'csv'),
+        ('GET', '/export/vehicles', answers.export_vehicles, 'csv'),
+        ('GET', '/export/layout', answers.export_layout, 'csv'),
     )
 ]
 
 
 class Model(Tables):
-    """A warehouse in memory, or in a file: then with a log (WAL) that is synced at each commit, as the desk has it."""
+    """A warehouse in memory, or in a file: then with a log (WAL) that is synced at each commit, as
+    the desk has it."""
 
     def __init__(self, path=':memory:', now=AT):
         base = sqlite3.connect(path, isolation_level=None)
@@ -62,8 +76,8 @@ class Model(Tables):
         return found
 
     def answer(self, method, target, body=b''):
-        """The status of the answer to a request, what it tells, as JSON, text or None, its type, and the method that
-        the path has where another was asked."""
+        """The status of the answer to a request, what it tells, as JSON, text or None, its type,
+        and the method that the path has where another was asked."""
         allow = None
         self.base.execute('BEGIN')
         try:
@@ -79,16 +93,21 @@ class Model(Tables):
         except Refused as refused:
             self.base.execute('ROLLBACK')
             known = BY_NAME[refused.name]
-            return known.status, dict(refused.more, name=refused.name, refusal=known.number), 'json', allow
+            return (
+                known.status,
+                dict(refused.more, name=refused.name, refusal=known.number),
+                'json',
+                allow,
+            )
 
     def served(self, method, target, body=b''):
         """The bytes of the answer."""
         status, told, kind, allow = self.answer(method, target, body)
         data = b'' if told is None else told.encode() if isinstance(told, str) else compact(told)
-        head = 'HTTP/1.1 %d %s\r\n' % (status, REASONS[status])
+        head = f'HTTP/1.1 {status} {REASONS[status]}\r\n'
         if status != 204:
-            head += 'Content-Length: %d\r\nContent-Type: %s\r\n' % (len(data), TYPES[kind])
-        return ('%s%s\r\n' % (head, 'Allow: %s\r\n' % allow if allow else '')).encode() + data
+            head += f'Content-Length: {len(data)}\r\nContent-Type: {TYPES[kind]}\r\n'
+        return ('%s%s\r\n' % (head, f'Allow: {allow}\r\n' if allow else '')).encode() + data
 
     def serve(self, source, out):
         """Serves the requests of a stream, which are well formed, to its end."""

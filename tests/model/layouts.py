@@ -1,20 +1,28 @@
 """The layout is set once."""
 import re
 
-from model.bodies import NAME, check, table
-from model.tables import Layout
+from tests.model.bodies import NAME, check, table
+from tests.model.tables import Layout
 
 
 def set_layout(desk, body):
     rows = table(body, ['kind', 'id', 'from', 'to'])
     check(not all(map(is_row, rows)), 'BadCsv')
     check(desk.layout.nodes, 'LayoutSet')
-    kinds = {kind: [row[1:] for row in rows if row[0] == kind] for kind in ('node', 'edge', 'station')}
-    check(len(kinds['node']) > 500 or len(kinds['edge']) > 1500 or len(kinds['station']) > 500, 'Limit')
+    kinds = {
+        kind: [row[1:] for row in rows if row[0] == kind] for kind in ('node', 'edge', 'station')
+    }
+    check(
+        len(kinds['node']) > 500 or len(kinds['edge']) > 1500 or len(kinds['station']) > 500,
+        'Limit',
+    )
     check(not is_sound(kinds), 'LayoutBad')
     desk.base.executemany('INSERT INTO node VALUES (?)', [row[:1] for row in kinds['node']])
     desk.base.executemany('INSERT INTO edge VALUES (?, ?, ?)', kinds['edge'])
-    desk.base.executemany('INSERT INTO station VALUES (?, ?, ?)', [(name, node, int(capacity)) for name, node, capacity in kinds['station']])
+    desk.base.executemany(
+        'INSERT INTO station VALUES (?, ?, ?)',
+        [(name, node, int(capacity)) for name, node, capacity in kinds['station']],
+    )
     desk.layout = Layout(desk.base)
     return {}
 
@@ -37,6 +45,9 @@ def is_sound(kinds):
     return (
         bool(nodes)
         and all(len({row[0] for row in said}) == len(said) for said in kinds.values())
-        and all(start in nodes and finish in nodes and start != finish for _, start, finish in kinds['edge'])
+        and all(
+            start in nodes and finish in nodes and start != finish
+            for _, start, finish in kinds['edge']
+        )
         and all(node in nodes and int(capacity) > 0 for _, node, capacity in kinds['station'])
     )

@@ -1,5 +1,5 @@
 """The calls about loads, jobs and stocktakes."""
-from model.bodies import NAME, check, name_or_none, names, read_body, table
+from tests.model.bodies import NAME, check, name_or_none, names, read_body, table
 
 REFERENCES = "used WHERE kind = 'ref'"
 
@@ -13,7 +13,12 @@ def register_load(desk, body):
         check(station not in desk.layout.stations, 'NoStation')
         check(desk.room(station) <= 0, 'Full')
     desk.check_limit('load')
-    desk.put('INSERT INTO load VALUES (?, ?, ?, NULL, NULL)', load, 'station' if station else 'checking', station)
+    desk.put(
+        'INSERT INTO load VALUES (?, ?, ?, NULL, NULL)',
+        load,
+        'station' if station else 'checking',
+        station,
+    )
     return {}
 
 
@@ -70,13 +75,23 @@ def stop_job(desk, job, _):
 
 def take_stock(desk, ref, body):
     rows = table(body, ['station', 'load'])
-    check(not all(NAME.fullmatch(station) and (load == '' or NAME.fullmatch(load)) for station, load in rows), 'BadCsv')
+    check(
+        not all(
+            NAME.fullmatch(station) and (load == '' or NAME.fullmatch(load))
+            for station, load in rows
+        ),
+        'BadCsv',
+    )
     check(desk.is_used('ref', ref), 'RefUsed')
     check(any(station not in desk.layout.stations for station, _ in rows), 'NoStation')
-    stations, said = {station for station, _ in rows}, [(load, station) for station, load in rows if load]
+    stations, said = {station for station, _ in rows}, [
+        (load, station) for station, load in rows if load
+    ]
     check(len(dict(said)) != len(said), 'CountTwice')
     known = {load: desk.one('SELECT * FROM load WHERE id = ?', load) for load, _ in said}
-    here = {load: station for load, station in said if known[load] and known[load]['kind'] != 'left'}
+    here = {
+        load: station for load, station in said if known[load] and known[load]['kind'] != 'left'
+    }
     check(any(known[load]['kind'] == 'vehicle' for load in here), 'OnVehicle')
     moves = {load: station for load, station in here.items() if known[load]['station'] != station}
     for station in stations:
@@ -84,7 +99,11 @@ def take_stock(desk, ref, body):
         moves.update({row['id']: None for row in found if row['id'] not in here})
     check(any(desk.live_job(load) for load in moves), 'InJob')
     for station in stations:
-        check(sum(at == station for at in here.values()) + desk.coming(station) > desk.layout.stations[station][1], 'Full')
+        check(
+            sum(at == station for at in here.values()) + desk.coming(station)
+            > desk.layout.stations[station][1],
+            'Full',
+        )
     desk.check_limit(REFERENCES)
     for load, station in moves.items():
         desk.put_load(load, 'station' if station else 'checking', station)

@@ -1,7 +1,7 @@
 """The calls about vehicles and their orders, but for the states that they post."""
-from model.bodies import check, names, number, read_body, stops_of
-from model.loads import REFERENCES
-from model.tables import LAST, VEHICLES, things
+from tests.model.bodies import check, names, number, read_body, stops_of
+from tests.model.loads import REFERENCES
+from tests.model.tables import LAST, VEHICLES, things
 
 OF_VEHICLE = ' WHERE manufacturer = ? AND serial = ?'
 SENT = 'UPDATE vehicle SET order_header = order_header + 1, order_at = ?' + OF_VEHICLE
@@ -17,7 +17,11 @@ def register_vehicle(desk, body):
     desk.check_free(key, [('node', node)])
     desk.check_limit('vehicle', VEHICLES)
     check(not 1 <= capacity <= 4, 'Limit')
-    desk.put('INSERT INTO vehicle VALUES (?, ?, ?, NULL, NULL, NULL, NULL, 0, 0, 0, 0, 0, 0, NULL)', *key, node)
+    desk.put(
+        'INSERT INTO vehicle VALUES (?, ?, ?, NULL, NULL, NULL, NULL, 0, 0, 0, 0, 0, 0, NULL)',
+        *key,
+        node,
+    )
     desk.put('INSERT INTO capacity VALUES (?, ?, ?)', *key, capacity)
     desk.hold(key, [('node', node)])
     return {}
@@ -56,10 +60,18 @@ def start_order(desk, body):
     desk.check_free(key, wanted)
     check(vehicle['order_header'] == LAST, 'Spent')
     desk.check_limit("used WHERE kind = 'order'")
-    desk.put('INSERT INTO journey VALUES (?, ?, ?, ?, 0, ?, 0, NULL, 0)', order, *key, vehicle['node'], edges)
+    desk.put(
+        'INSERT INTO journey VALUES (?, ?, ?, ?, 0, ?, 0, NULL, 0)',
+        order,
+        *key,
+        vehicle['node'],
+        edges,
+    )
     acts = [(order, n, job, kind, at) for n, ((kind, job), at) in enumerate(zip(stops, places))]
     desk.base.executemany("INSERT INTO act VALUES (?, ?, ?, ?, ?, 'WAITING')", acts)
-    desk.base.executemany('INSERT INTO leg VALUES (?, ?, ?)', [(order, k, edge) for k, edge in enumerate(way)])
+    desk.base.executemany(
+        'INSERT INTO leg VALUES (?, ?, ?)', [(order, k, edge) for k, edge in enumerate(way)]
+    )
     desk.base.executemany("UPDATE job SET phase = 'riding' WHERE id = ?", [(job,) for job in jobs])
     desk.put(SENT, desk.now, *key)
     desk.use('order', order)
@@ -91,7 +103,11 @@ def advance(desk, manufacturer, serial, body):
     wanted = things(trip.nodes, trip.edges, row['seen'], row['base'] + edges)
     desk.check_free(key, wanted)
     check(vehicle['order_header'] == LAST, 'Spent')
-    desk.put('UPDATE journey SET first = base, base = base + ?, sent = sent + 1 WHERE order_id = ?', edges, order)
+    desk.put(
+        'UPDATE journey SET first = base, base = base + ?, sent = sent + 1 WHERE order_id = ?',
+        edges,
+        order,
+    )
     desk.put(SENT, desk.now, *key)
     desk.hold(key, wanted)
     return {'orderUpdateId': update}
@@ -106,9 +122,11 @@ def instant(kind):
         check(kind == 'cancelOrder' and not desk.has_trip(key), 'NoOrder')
         check(vehicle['pending'] is not None, 'InstantPending')
         check(vehicle['instant_header'] == LAST, 'Spent')
-        changed = 'UPDATE vehicle SET instant_header = instant_header + 1, instant_at = ?, pending = ?'
+        changed = (
+            'UPDATE vehicle SET instant_header = instant_header + 1, instant_at = ?, pending = ?'
+        )
         desk.put(changed + OF_VEHICLE, desk.now, kind, *key)
-        return {'actionId': 'instant-%d' % (vehicle['instant_header'] + 1)}
+        return {'actionId': f'instant-{vehicle["instant_header"] + 1}'}
 
     return told
 
@@ -124,7 +142,12 @@ def place_vehicle(desk, manufacturer, serial, body):
     trip = desk.trip(key)
     if trip:
         desk.end_trip(trip)
-    desk.put('UPDATE vehicle SET node = ?, rest_edge = NULL, rest_node = NULL, pending = NULL' + OF_VEHICLE, node, *key)
+    desk.put(
+        'UPDATE vehicle SET node = ?, rest_edge = NULL, rest_node = NULL, pending = NULL'
+        + OF_VEHICLE,
+        node,
+        *key,
+    )
     desk.use('ref', ref)
     desk.hold(key, [('node', node)])
     return {}

@@ -1,9 +1,10 @@
-"""The states that vehicles post: each is judged against the open order, and then it moves loads, frees track and may end the order."""
+"""The states that vehicles post: each is judged against the open order, and then it moves loads,
+frees track and may end the order."""
 import collections
 
-from model.bodies import ACTIVE, FINAL, check, is_name, read_state
-from model.orders import OF_VEHICLE
-from model.tables import things
+from tests.model.bodies import ACTIVE, FINAL, check, is_name, read_state
+from tests.model.orders import OF_VEHICLE
+from tests.model.tables import things
 
 
 def state(desk, manufacturer, serial, body):
@@ -12,8 +13,10 @@ def state(desk, manufacturer, serial, body):
     vehicle = desk.vehicle(key)
     if vehicle['last_header'] is not None and told['headerId'] <= vehicle['last_header']:
         return {'accepted': False}
-    trip, listed = desk.trip(key), [(act['actionId'], act['actionStatus']) for act in told['actionStates']]
-    action = 'instant-%d' % vehicle['instant_header'] if vehicle['pending'] else None
+    trip, listed = desk.trip(key), [
+        (act['actionId'], act['actionStatus']) for act in told['actionStates']
+    ]
+    action = f'instant-{vehicle["instant_header"]}' if vehicle['pending'] else None
     over = next((status for name, status in listed if name == action and status in FINAL), None)
     cancelled = over == 'FINISHED' and vehicle['pending'] == 'cancelOrder'
     if trip is not None and trip.row['order_id'] == told['orderId']:
@@ -25,7 +28,8 @@ def state(desk, manufacturer, serial, body):
         check(sum(name == action for name, _ in listed) > 1, 'ActionTwice')
         check(told['lastNodeId'] not in ('', vehicle['node']), 'NotThere')
     desk.put(
-        'UPDATE vehicle SET last_header = ?, reported = ?, ready = ?, paused = ?, pending = ?' + OF_VEHICLE,
+        'UPDATE vehicle SET last_header = ?, reported = ?, ready = ?, paused = ?, pending = ?'
+        + OF_VEHICLE,
         told['headerId'],
         told['orderId'] if is_name(told['orderId']) else None,
         is_ready(told),
@@ -62,10 +66,24 @@ def judged(trip, action, told, listed):
     before = [act['status'] for act in trip.acts]
     found = dict(listed)
     acts = [found.get(name, old) for name, old in zip(wanted, before)]
-    check(any(new != old and (old in FINAL or new == 'WAITING') for old, new in zip(before, acts)), 'ActionBackwards')
-    check(any(new == 'FINISHED' and act['place_at'] > k for act, new in zip(trip.acts, acts)), 'ActionEarly')
-    picked = {act['job'] for act, new in zip(trip.acts, acts) if (act['kind'], new) == ('pick', 'FINISHED')}
-    dropped = {act['job'] for act, new in zip(trip.acts, acts) if (act['kind'], new) == ('drop', 'FINISHED')}
+    check(
+        any(new != old and (old in FINAL or new == 'WAITING') for old, new in zip(before, acts)),
+        'ActionBackwards',
+    )
+    check(
+        any(new == 'FINISHED' and act['place_at'] > k for act, new in zip(trip.acts, acts)),
+        'ActionEarly',
+    )
+    picked = {
+        act['job']
+        for act, new in zip(trip.acts, acts)
+        if (act['kind'], new) == ('pick', 'FINISHED')
+    }
+    dropped = {
+        act['job']
+        for act, new in zip(trip.acts, acts)
+        if (act['kind'], new) == ('drop', 'FINISHED')
+    }
     check(not dropped <= picked, 'DropFirst')
     return k, acts
 
@@ -86,10 +104,25 @@ def report(desk, key, trip, k, acts, cancelled, update):
         desk.end_trip(trip)
         wanted = wanted[:1]
         if not at_end and k < row['base']:
-            desk.put('UPDATE vehicle SET rest_edge = ?, rest_node = ?' + OF_VEHICLE, trip.edges[k], trip.nodes[k + 1], *key)
+            desk.put(
+                'UPDATE vehicle SET rest_edge = ?, rest_node = ?' + OF_VEHICLE,
+                trip.edges[k],
+                trip.nodes[k + 1],
+                *key,
+            )
             wanted = things(trip.nodes, trip.edges, k, k + 1)
     else:
-        desk.put('UPDATE journey SET confirmed = ?, seen = ? WHERE order_id = ?', update, k, row['order_id'])
+        desk.put(
+            'UPDATE journey SET confirmed = ?, seen = ? WHERE order_id = ?',
+            update,
+            k,
+            row['order_id'],
+        )
         for act, new in zip(trip.acts, acts):
-            desk.put('UPDATE act SET status = ? WHERE order_id = ? AND n = ?', new, row['order_id'], act['n'])
+            desk.put(
+                'UPDATE act SET status = ? WHERE order_id = ? AND n = ?',
+                new,
+                row['order_id'],
+                act['n'],
+            )
     desk.hold(key, wanted)

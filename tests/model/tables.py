@@ -1,28 +1,44 @@
-"""What the model keeps: the fourteen tables with the indexes of docs/TABLES.md, over a connection of SQLite, and beside them the layout in
-memory. And the questions and the writes that several calls have in common."""
-import programs  # noqa: F401 the package of the tools is found by it
+"""What the model keeps: the fourteen tables with the indexes of docs/TABLES.md, over a connection
+of SQLite, and beside them the layout in memory. And the questions and the writes that several calls
+have in common."""
+from nulvrader.file.database import SHAPES
+from nulvrader.file.rows import TABLES, columns
 
-from nulvrader.database import SHAPES
-from nulvrader.rows import TABLES, columns
-
-from model.bodies import check
+from tests.model.bodies import check
 
 MOST = 1_000_000  # loads, jobs, orders and references, of each
 VEHICLES = 100
 LAST = 4294967295  # the last number
-INDEXES = {'load_station': 'load (station)', 'load_vehicle': 'load (manufacturer, serial)', 'job_load': 'job (load, phase)',
-           'job_target': 'job (target, phase)'}
+INDEXES = {
+    'load_station': 'load (station)',
+    'load_vehicle': 'load (manufacturer, serial)',
+    'job_load': 'job (load, phase)',
+    'job_target': 'job (target, phase)',
+}
 
 
 def schema():
     """The statements that make the tables, where there are none yet."""
     made = []
     for table, (names, (primary, *others)) in SHAPES.items():
-        parts = ['%s %s%s' % (name.rstrip('#?'), 'INT' if '#' in name else 'TEXT', '' if '?' in name else ' NOT NULL') for name in names.split()]
-        parts += ['PRIMARY KEY (%s)' % primary.replace(' ', ', '), *['UNIQUE (%s)' % other.replace(' ', ', ') for other in others]]
-        made.append('CREATE TABLE IF NOT EXISTS %s (%s) STRICT;' % (table, ', '.join(parts)))
+        parts = [
+            '%s %s%s'
+            % (
+                name.rstrip('#?'),
+                'INT' if '#' in name else 'TEXT',
+                '' if '?' in name else ' NOT NULL',
+            )
+            for name in names.split()
+        ]
+        parts += [
+            f'PRIMARY KEY ({primary.replace(" ", ", ")})',
+            *[f'UNIQUE ({other.replace(" ", ", ")})' for other in others],
+        ]
+        made.append(f'CREATE TABLE IF NOT EXISTS {table} ({", ".join(parts)}) STRICT;')
     made.append('INSERT OR IGNORE INTO meta VALUES (1, 2);')
-    return '\n'.join(made + ['CREATE INDEX IF NOT EXISTS %s ON %s;' % index for index in INDEXES.items()])
+    return '\n'.join(
+        made + ['CREATE INDEX IF NOT EXISTS %s ON %s;' % index for index in INDEXES.items()]
+    )
 
 
 class Layout:
@@ -30,8 +46,13 @@ class Layout:
 
     def __init__(self, base):
         self.nodes = {row['id'] for row in base.execute('SELECT id FROM node')}
-        self.edges = {row['id']: (row['start'], row['finish']) for row in base.execute('SELECT * FROM edge')}
-        self.stations = {row['id']: (row['node'], row['capacity']) for row in base.execute('SELECT * FROM station')}
+        self.edges = {
+            row['id']: (row['start'], row['finish']) for row in base.execute('SELECT * FROM edge')
+        }
+        self.stations = {
+            row['id']: (row['node'], row['capacity'])
+            for row in base.execute('SELECT * FROM station')
+        }
         self.out, self.into = {node: [] for node in self.nodes}, {node: [] for node in self.nodes}
         for name in sorted(self.edges):
             start, finish = self.edges[name]
@@ -49,7 +70,9 @@ class Layout:
         check(start not in hops or target not in self.nodes, 'NoWalk')
         edges = []
         while start != target:
-            name, start = next((name, end) for name, end in self.out[start] if hops.get(end, -1) == hops[start] - 1)
+            name, start = next(
+                (name, end) for name, end in self.out[start] if hops.get(end, -1) == hops[start] - 1
+            )
             edges.append(name)
         return edges
 
@@ -62,7 +85,7 @@ class Trip:
 
     def action(self, act):
         """The id by which the vehicle knows an act."""
-        return '%s.%d' % (self.row['order_id'], act['n'])
+        return f'{self.row["order_id"]}.{act["n"]}'
 
 
 def things(nodes, edges, begin, end):
@@ -87,13 +110,21 @@ class Tables:
 
     def rows(self):
         """All rows by table."""
-        return {table: [tuple(row) for row in self.base.execute('SELECT %s FROM %s' % (', '.join(columns(table)), table))] for table in TABLES}
+        return {
+            table: [
+                tuple(row)
+                for row in self.base.execute(f'SELECT {", ".join(columns(table))} FROM {table}')
+            ]
+            for table in TABLES
+        }
 
     def take_rows(self, rows):
         """Has these rows in the place of its own."""
         for table, of in rows.items():
             self.put('DELETE FROM ' + table)
-            self.base.executemany('INSERT INTO %s VALUES (%s)' % (table, ', '.join('?' * len(columns(table)))), of)
+            self.base.executemany(
+                f'INSERT INTO {table} VALUES ({", ".join("?" * len(columns(table)))})', of
+            )
         self.layout = Layout(self.base)
 
     # Vehicles and their orders.
@@ -104,31 +135,42 @@ class Tables:
         return row
 
     def capacity(self, key):
-        return self.one('SELECT capacity FROM capacity WHERE manufacturer = ? AND serial = ?', *key)[0]
+        return self.one(
+            'SELECT capacity FROM capacity WHERE manufacturer = ? AND serial = ?', *key
+        )[0]
 
     def trip(self, key):
         row = self.one('SELECT * FROM journey WHERE manufacturer = ? AND serial = ?', *key)
         if row is None:
             return None
-        legs = self.base.execute('SELECT edge FROM leg WHERE order_id = ? ORDER BY k', (row['order_id'],))
+        legs = self.base.execute(
+            'SELECT edge FROM leg WHERE order_id = ? ORDER BY k', (row['order_id'],)
+        )
         edges = [leg['edge'] for leg in legs]
         nodes = [row['start']] + [self.layout.edges[edge][1] for edge in edges]
         acts = self.base.execute(
-            "SELECT act.*, load, CASE kind WHEN 'pick' THEN origin ELSE target END AS station "
-            'FROM act JOIN job ON job.id = job WHERE order_id = ? ORDER BY n',
+            (
+                "SELECT act.*, load, CASE kind WHEN 'pick' THEN origin ELSE target END AS station "
+                "FROM act JOIN job ON job.id = job WHERE order_id = ? ORDER BY n"
+            ),
             (row['order_id'],),
         ).fetchall()
         return Trip(row, edges, nodes, acts)
 
     def has_trip(self, key):
-        return self.one('SELECT 1 FROM journey WHERE manufacturer = ? AND serial = ?', *key) is not None
+        return (
+            self.one('SELECT 1 FROM journey WHERE manufacturer = ? AND serial = ?', *key)
+            is not None
+        )
 
     def end_trip(self, trip):
         order = trip.row['order_id']
         for act in trip.acts:
-            self.put("UPDATE job SET phase = 'stopped' WHERE phase = 'riding' AND id = ?", act['job'])
+            self.put(
+                "UPDATE job SET phase = 'stopped' WHERE phase = 'riding' AND id = ?", act['job']
+            )
         for name in ('journey', 'act', 'leg'):
-            self.put('DELETE FROM %s WHERE order_id = ?' % name, order)
+            self.put(f'DELETE FROM {name} WHERE order_id = ?', order)
 
     # Loads, stations, jobs.
 
@@ -138,14 +180,22 @@ class Tables:
         return row
 
     def put_load(self, load, kind, station=None, key=(None, None)):
-        self.put('UPDATE load SET kind = ?, station = ?, manufacturer = ?, serial = ? WHERE id = ?', kind, station, *key, load)
+        self.put(
+            'UPDATE load SET kind = ?, station = ?, manufacturer = ?, serial = ? WHERE id = ?',
+            kind,
+            station,
+            *key,
+            load,
+        )
 
     def live_job(self, load):
         row = self.one("SELECT id FROM job WHERE load = ? AND phase IN ('waiting', 'riding')", load)
         return row['id'] if row else None
 
     def coming(self, station):
-        return self.one("SELECT count(*) FROM job WHERE target = ? AND phase IN ('waiting', 'riding')", station)[0]
+        return self.one(
+            "SELECT count(*) FROM job WHERE target = ? AND phase IN ('waiting', 'riding')", station
+        )[0]
 
     def aboard(self, key):
         return self.one('SELECT count(*) FROM load WHERE manufacturer = ? AND serial = ?', *key)[0]
@@ -163,21 +213,27 @@ class Tables:
         return self.one('SELECT 1 FROM used WHERE kind = ? AND id = ?', kind, name) is not None
 
     def check_limit(self, what, most=None):
-        check(self.one('SELECT count(*) FROM ' + what)[0] >= (MOST if most is None else most), 'Limit')
+        check(
+            self.one('SELECT count(*) FROM ' + what)[0] >= (MOST if most is None else most), 'Limit'
+        )
 
     def holder(self, kind, name):
-        row = self.one('SELECT manufacturer, serial FROM hold WHERE kind = ? AND id = ?', kind, name)
+        row = self.one(
+            'SELECT manufacturer, serial FROM hold WHERE kind = ? AND id = ?', kind, name
+        )
         return row and tuple(row)
 
     def check_free(self, key, wanted):
         for kind, name in wanted:
             by = self.holder(kind, name) or key
-            check(by != key, 'Held', by='%s/%s' % by, what='%s %s' % (kind, name))
+            check(by != key, 'Held', by='%s/%s' % by, what=f'{kind} {name}')
 
     def hold(self, key, wanted):
         """The vehicle holds just these."""
         wanted = set(wanted)
-        held = self.base.execute('SELECT kind, id FROM hold WHERE manufacturer = ? AND serial = ?', key)
+        held = self.base.execute(
+            'SELECT kind, id FROM hold WHERE manufacturer = ? AND serial = ?', key
+        )
         before = {(row['kind'], row['id']) for row in held}
         for kind, name in before - wanted:
             self.put('DELETE FROM hold WHERE kind = ? AND id = ?', kind, name)

@@ -1,5 +1,5 @@
--- The export is what the writer of `csv` writes: no field of it needs quotes.
-use Rattle.std.proofs.Common.{arith, ◌≡◌, ℕ, true, false, ◌||◌, cond, List, [], ◌∷◌, ◌++◌, codes, map, append-nil, refl, sym, ap, ◌∙◌}
+-- The export of loads is what the writer of `csv` writes: no field of it needs quotes.
+use Rattle.std.proofs.Common.{arith, ◌≡◌, ℕ, Bool, true, false, ◌||◌, cond, List, [], ◌∷◌, ◌++◌, codes, map, append-nil, refl, sym, ap, ◌∙◌}
 use Rattle.std.specs.List.{flat_map, list_all}
 use Rattle.std.proofs.lemmas.Bool.{and_parts}
 use Rattle.std.proofs.lemmas.Bool.Decides.{nat_tests}
@@ -15,25 +15,26 @@ use Rattle.agv_count.specs.ExportRecords.{AreLoadsNamed, IsPlaceNamed, export_fi
 use Rattle.agv_count.specs.Reports.{key_text, load_line, loads_text}
 
 -- a field that needs no quotes
-abbrev IsPlain : List ℕ → Type 0
+abbrev pub IsPlain : List ℕ → Type 0
 IsPlain field = needs_quotes default_writer field ≡ false
 
 plain_byte : (b : ℕ) → is_name_byte b ≡ true → needs_byte default_writer b ≡ false
 plain_byte b name = grind (arith, nat_tests)
 
-plain_bytes : (s : List ℕ) → list_all is_name_byte s ≡ true → IsPlain s
-plain_bytes [] names = refl
-plain_bytes (b ∷ s) names =
-    let each = and_parts _ _ names in
-    λ i. plain_byte b each.0 i || plain_bytes s each.1 i
+-- bytes that pass a test, where none that needs quotes passes it
+pub plain_bytes : (passes : ℕ → Bool) → ((b : ℕ) → passes b ≡ true → needs_byte default_writer b ≡ false) → (s : List ℕ) → list_all passes s ≡ true → IsPlain s
+plain_bytes passes plain [] all = refl
+plain_bytes passes plain (b ∷ s) all =
+    let each = and_parts _ _ all in
+    λ i. plain b each.0 i || plain_bytes passes plain s each.1 i
 
-plain_name : (s : List ℕ) → IsName s → IsPlain s
-plain_name s name = plain_bytes s (and_parts _ _ name).1
+pub plain_name : (s : List ℕ) → IsName s → IsPlain s
+plain_name s name = plain_bytes is_name_byte plain_byte s (and_parts _ _ name).1
 
 plain_both : (s t : List ℕ) → IsPlain s → IsPlain t → IsPlain (s ++ t)
 plain_both s t one other = list_any-append (needs_byte default_writer) s t ∙ λ i. one i || other i
 
-as_it_is : (s : List ℕ) → IsPlain s → field_text default_writer s ≡ s
+pub as_it_is : (s : List ℕ) → IsPlain s → field_text default_writer s ≡ s
 as_it_is s plain = ap (λ b. cond b (quoted default_writer s) s) plain
 
 -- three fields that need no quotes

@@ -79,7 +79,7 @@ IsUtf8-capacity s h = IsUtf8-from_ascii s (digit_bytes s (capacity_digits s h))
 are_digits : IsDigitsTest (λ ds. list_all is_ascii_digit ds ≡ true)
 are_digits = search rules
 
-own : IsNumeralModel (λ ds. list_all is_ascii_digit ds ≡ true) (digits_value 10)
+pub own : IsNumeralModel (λ ds. list_all is_ascii_digit ds ≡ true) (digits_value 10)
 own = numerals_by_value _ are_digits
 
 -- a capacity is read as its number

@@ -7,3 +7,5 @@ pub mod ReadSoFar
 pub mod FieldLemmas
 pub mod Pieces
 pub mod LoadsByPlaceLemmas
+pub mod LayoutReadBack
+pub mod LayoutListed

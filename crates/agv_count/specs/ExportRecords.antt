@@ -1,4 +1,4 @@
--- The export as CSV: the fields of its records (RFC 4180, but each record ends in LF alone).
+-- The export of loads as CSV: the fields of its records (RFC 4180, but each record ends in LF alone).
 use Rattle.std.specs.Prelude.{ℕ, List, [], ◌∷◌, All, codes, map}
 use Rattle.std.specs.List.{flat_map}
 use Rattle.csv.specs.Writing.{default_writer, row_text}

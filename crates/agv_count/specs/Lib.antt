@@ -1,6 +1,7 @@
 pub mod CountFile
 pub mod ExportRecords
 pub mod Fault
+pub mod LayoutExport
 pub mod LayoutFile
 pub mod Records
 pub mod Reports

@@ -1,10 +1,12 @@
--- The exact bytes of the reports and the export (this project's formats).
+-- The exact bytes of the reports and the exports (this project's formats).
 use Rattle.std.specs.Prelude.{ℕ, Bool, List, [], ◌∷◌, ◌++◌, length, filter, codes, decimal}
 use Rattle.std.specs.List.{count_by, flat_map}
 use Rattle.std.specs.Map.{keys_of}
 use Rattle.agv_header.specs.declared.key.Thing.{Thing}
 use Rattle.agv_header.specs.declared.key.Thing.TheVariants as thing
 use Rattle.agv_header.specs.declared.key.VehicleKey.{VehicleKey}
+use Rattle.agv_layout.specs.declared.row.LayoutRow.{LayoutRow}
+use Rattle.agv_layout.specs.declared.row.LayoutRow.TheVariants as row
 use Rattle.agv_layout.specs.declared.station.Station.{Station}
 use Rattle.agv_stock.specs.Rooms.{is_at, is_on, is_checking, has_left}
 use Rattle.agv_stock.specs.declared.place.Place.{Place}
@@ -76,6 +78,16 @@ place_text place.Left = codes "left,"
 abbrev pub load_line : List ℕ × Place → List ℕ
 load_line load = line (load.0 ++ (codes "," ++ place_text load.1))
 
--- the export: the header `load,place,at`, and a line for each load
+-- the export of loads: the header `load,place,at`, and a line for each load
 abbrev pub loads_text : List (List ℕ × Place) → List ℕ
 loads_text loads = line (codes "load,place,at") ++ flat_map load_line loads
+
+-- the line of a row of a layout, as `node,N1,,`, `edge,E12,N1,N2` or `station,A,N1,1`
+abbrev pub layout_line : LayoutRow → List ℕ
+layout_line (row.Node id) = line (codes "node," ++ (id ++ codes ",,"))
+layout_line (row.Edge id start finish) = line (codes "edge," ++ (id ++ (codes "," ++ (start ++ (codes "," ++ finish)))))
+layout_line (row.Station id node capacity) = line (codes "station," ++ (id ++ (codes "," ++ (node ++ (codes "," ++ decimal capacity)))))
+
+-- the export of a layout: the header `kind,id,from,to`, and a line for each row
+abbrev pub layout_text : List LayoutRow → List ℕ
+layout_text rows = line (codes "kind,id,from,to") ++ flat_map layout_line rows

@@ -1,3 +1,4 @@
+mod exports
 mod histories
 mod lawful_worlds
 pub mod lists

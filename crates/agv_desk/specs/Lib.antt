@@ -19,6 +19,7 @@ pub mod Step
 pub mod Unchanged
 pub mod Refusals
 pub mod Reports
+pub mod Exported
 pub mod InOrder
 pub mod Moves
 pub mod WellTyped

@@ -3,7 +3,9 @@ use Rattle.std.specs.Prelude.{ℕ, ◌+◌, List, Option, None, Some}
 use Rattle.std.specs.FinMap as finite
 use Rattle.std.specs.FinSet as set
 use Rattle.std.specs.Map.{keys_of}
-use Rattle.agv_count.specs.Reports.{stock_text, hold_text, loads_text}
+use Rattle.agv_count.specs.Reports.{stock_text, hold_text, layout_text, loads_text}
+use Rattle.agv_count_exports.specs.Exports.{jobs_text, jobs_told, vehicles_text, vehicles_told}
+use Rattle.agv_layout.specs.LayoutOf.{rows_in}
 use Rattle.agv_world_core.specs.Questions.{stations_told}
 use Rattle.agv_world_core.specs.Maps.{maps_of}
 use Rattle.agv_world_core.specs.Worlds.{World}
@@ -19,6 +21,9 @@ abbrev pub report_text : World → Report → List ℕ
 report_text world report.Stock = stock_text (stations_told world) (finite.entries world.places) (keys_of (finite.entries world.vehicles))
 report_text world report.Holds = hold_text (finite.entries (maps_of world).holds) (set.len world.layout.nodes + finite.len world.layout.edges)
 report_text world report.Loads = loads_text (finite.entries world.places)
+report_text world report.Jobs = jobs_text (jobs_told world) (vehicles_told world)
+report_text world report.Vehicles = vehicles_text (vehicles_told world)
+report_text world report.Layout = layout_text (rows_in world.layout)
 
 -- the report that a call asks for, if any
 abbrev pub report_asked : Call → Option Report

@@ -9,4 +9,10 @@ pub enum Report {
     Holds,
     /// The export of loads: where each load is, as CSV.
     Loads,
+    /// The export of jobs: the live jobs, each with the vehicle that carries it out, if any, as CSV.
+    Jobs,
+    /// The export of vehicles: where each vehicle stands, what its last state said, and its open order, as CSV.
+    Vehicles,
+    /// The export of the layout, as a call to set it takes it: a CSV file.
+    Layout,
 }

@@ -15,7 +15,8 @@ ghost use Rattle.agv_store_floor.specs.Floors.{Knows, facts_of, world_at};
 ghost use Rattle.agv_store.specs.Serving.{IsServedBy, LeavesAll};
 
 use crate::desk::Desk;
-use agv_count::{hold_report, loads_csv, stock_report};
+use agv_count::{hold_report, layout_csv, loads_csv, stock_report};
+use agv_count_exports::{jobs_csv, vehicles_csv};
 use agv_desk::{Answer, Report};
 use agv_message_core::Sequence;
 use agv_store_floor::KeyedFloor;
@@ -110,6 +111,9 @@ fn bytes_of<S: Alter + Drop>(floor: &mut KeyedFloor<S>, report: Report) -> Resul
         Report::Stock => stock(floor),
         Report::Holds => holds(floor),
         Report::Loads => export(floor),
+        Report::Jobs => jobs(floor),
+        Report::Vehicles => vehicles(floor),
+        Report::Layout => layout(floor),
     }
 }
 
@@ -142,4 +146,32 @@ fn export<S: Alter + Drop>(floor: &mut KeyedFloor<S>) -> Result<Vec<u8>, Fault>
     let alloc = floor.alloc;
     let loads = floor.loads_told()?;
     Ok(loads_csv(alloc, &loads)?)
+}
+
+/// Exports the live jobs, each with the vehicle that carries it out, as CSV.
+fn jobs<S: Alter + Drop>(floor: &mut KeyedFloor<S>) -> Result<Vec<u8>, Fault>
+    ensures { Asks (facts_of S.Store) floor.old floor.new result (λ world bytes. bytes.items ≡ report_text world report.Jobs) }
+{
+    let alloc = floor.alloc;
+    let jobs = floor.jobs_told()?;
+    let vehicles = floor.vehicles_with_trips_told()?;
+    Ok(jobs_csv(alloc, &jobs, &vehicles)?)
+}
+
+/// Exports the vehicles with their open orders, as CSV.
+fn vehicles<S: Alter + Drop>(floor: &mut KeyedFloor<S>) -> Result<Vec<u8>, Fault>
+    ensures { Asks (facts_of S.Store) floor.old floor.new result (λ world bytes. bytes.items ≡ report_text world report.Vehicles) }
+{
+    let alloc = floor.alloc;
+    let vehicles = floor.vehicles_with_trips_told()?;
+    Ok(vehicles_csv(alloc, &vehicles)?)
+}
+
+/// Exports the layout, as CSV.
+fn layout<S: Alter + Drop>(floor: &mut KeyedFloor<S>) -> Result<Vec<u8>, Fault>
+    ensures { Asks (facts_of S.Store) floor.old floor.new result (λ world bytes. IsLawful desk_seats world → bytes.items ≡ report_text world report.Layout) }
+{
+    let alloc = floor.alloc;
+    let rows = floor.layout_told()?;
+    Ok(layout_csv(alloc, &rows)?)
 }

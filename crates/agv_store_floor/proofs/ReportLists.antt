@@ -1,10 +1,11 @@
--- What reports list, as the world has it.
-use Rattle.std.proofs.Common.{◌≡◌, ◌+◌, ◌-◌, ◌<◌, ◌≤◌, ◌^◌, ◌⊎◌, ℕ, Bool, true, false, cond, not, min, T, ◌&&◌, ◌||◌, List, [], ◌∷◌, ◌++◌, map, length, get_or, drop, Option, None, Some, Ordering, Less, append_assoc, arith, inl, inr, refl, sym, ap, subst, ◌∙◌}
+-- What reports and exports list, as the world has it.
+use Rattle.std.proofs.Common.{◌≡◌, ◌+◌, ◌-◌, ◌<◌, ◌≤◌, ◌^◌, ◌⊎◌, ℕ, Bool, true, false, cond, not, min, T, ◌&&◌, ◌||◌, List, [], ◌∷◌, ◌++◌, map, length, get_or, drop, Option, None, Some, Result, Ok, Err, Ordering, Less, append_assoc, arith, inl, inr, refl, sym, ap, subst, ◌∙◌}
 use Rattle.std.proofs.lemmas.Bool.{and_parts}
-use Rattle.std.proofs.lemmas.List.{at_drop_more}
+use Rattle.std.proofs.lemmas.List.{at_drop_more, nil_from_length}
 use Rattle.std.proofs.lemmas.List.Concat.{flat_map_single}
 use Rattle.std.proofs.lemmas.List.Sums.{count_by-le-length}
 use Rattle.std.proofs.lemmas.Map.Keys.{sorted_head, sorted_tail}
+use Rattle.std.specs.Prelude.{⊤}
 use Rattle.std.specs.BTreeMap.{is_at}
 use Rattle.std.specs.Cmp.{Equal-is, IsTotalOrder, eq_by_cmp_equiv, tied_itself}
 use Rattle.std.specs.FinMap as finite
@@ -13,6 +14,7 @@ use Rattle.std.specs.FinSet as set
 use Rattle.std.specs.List.{AllByRecursion, list_all, list_any}
 use Rattle.std.specs.List.Sorted.{IsStrictlySortedBy}
 use Rattle.std.specs.Map.{keys_of, lookup}
+use Rattle.std.specs.Option.{option_and_then}
 use Rattle.std.specs.Ordering.{eq_by_cmp, is_eq, is_lt}
 use Rattle.agv_header.specs.Key.{key_cmp, thing_cmp}
 use Rattle.agv_header.specs.KeyOrder.{key_cmp-IsAntisymmetric, key_cmp-ties, key_cmp-total}
@@ -21,20 +23,29 @@ use Rattle.agv_header.specs.declared.key.Thing.{Thing}
 use Rattle.agv_header.specs.declared.key.VehicleKey.{VehicleKey}
 use Rattle.agv_header.specs.Name.{name_cmp}
 use Rattle.agv_layout.specs.Layout.{KeepsRules, Layout, station_of}
+use Rattle.agv_layout.specs.LayoutOf.{edge_row, layout_of, rows_in, station_row}
 use Rattle.agv_layout.specs.declared.edge.EdgeEnds.{EdgeEnds}
+use Rattle.agv_layout.specs.declared.fault.LayoutFault.{LayoutFault}
+use Rattle.agv_layout.specs.declared.row.LayoutRow.TheVariants as row
 use Rattle.agv_layout.specs.declared.station.StationSite.{StationSite}
 use Rattle.agv_layout.specs.declared.station.Station.{Station}
 use Rattle.agv_track_holds.specs.Holds.{Holds, is_own}
 use Rattle.agv_world_core.specs.Lawful.{IsLawful}
-use Rattle.agv_world_core.specs.Questions.{is_live_to, reserved}
+use Rattle.agv_world_core.specs.Questions.{given, is_live_to, layout_set, reserved, trip_of}
 use Rattle.agv_world_core.specs.Maps.{maps_of}
 use Rattle.agv_header.specs.Spread.{spread}
 use Rattle.agv_world_core.specs.Worlds.{Vehicle, World, empty_layout}
 use Rattle.agv_world_core.specs.declared.row.JobRow.{JobRow}
 use Rattle.agv_world_core.specs.declared.row.VehicleRow.{VehicleRow}
+use Rattle.agv_world_core.proofs.lists.Entries.{entries_found}
+use Rattle.agv_world_core.proofs.lists.Orders.{names_total}
+use Rattle.agv_order.specs.declared.trip.Trip.{Trip}
+use Rattle.agv_count_exports.specs.Exports.{vehicles_told}
+use Rattle.agv_count_exports.specs.declared.told.VehicleTold.{VehicleTold}
+use Rattle.agv_store_known.proofs.KeptLayout.{GivesItself, NeedsANode}
 use Rattle.agv_store_read.specs.HeldThings.{HasEach, are_entries}
 use Rattle.agv_store_schema.specs.SchemaNumbers.{desk_seats}
-use Rattle.agv_store_floor.specs.ReportLists.{entered}
+use Rattle.agv_store_floor.specs.ReportLists.{entered, rows_of, with_trip}
 
 -- ---- lists in order
 
@@ -140,6 +151,9 @@ all_entered table pairs are each =
 
 -- ---- the vehicles
 
+append_one : {A : Type 0} (xs more : List A) (x : A) (rest : List A) → more ≡ xs ++ x ∷ [] → more ++ rest ≡ xs ++ x ∷ rest
+append_one xs more x rest is = ap (λ ys. ys ++ rest) is ∙ append_assoc xs (x ∷ []) rest
+
 abbrev own_row : VehicleKey × Vehicle → VehicleKey × VehicleRow
 own_row entry = (entry.0, entry.1.row)
 
@@ -155,14 +169,60 @@ sorted_same : (es : List (VehicleKey × Vehicle)) → is_sorted key_cmp (map own
 sorted_same [] = refl
 sorted_same (e ∷ es) = λ i. below_same e.0 es i && sorted_same es i
 
--- the table of vehicles has a row for each vehicle
-pub vehicles_same : (world : World) → keys_of (finite.entries (maps_of world).vehicles) ≡ keys_of (finite.entries world.vehicles)
+-- the table of vehicles has the row of each vehicle
+rows_same : (world : World) → finite.entries (maps_of world).vehicles ≡ map own_row (finite.entries world.vehicles)
 unfolding spread
-vehicles_same world =
+rows_same world =
     let es = finite.entries world.vehicles in
-    ap (λ (rows : List (VehicleKey × VehicleRow)). keys_of (finite.entries (finite.from_entries {R = key_cmp} rows))) (flat_map_single own_row es)
-    ∙ ap keys_of (listed_again key_cmp-total key_cmp-IsAntisymmetric (map own_row es) (subst T (sym (sorted_same es)) (finite.entries_sorted world.vehicles)))
-    ∙ keys_same es
+    ap (λ (rows : List (VehicleKey × VehicleRow)). finite.entries (finite.from_entries {R = key_cmp} rows)) (flat_map_single own_row es)
+    ∙ listed_again key_cmp-total key_cmp-IsAntisymmetric (map own_row es) (subst T (sym (sorted_same es)) (finite.entries_sorted world.vehicles))
+
+pub vehicles_same : (world : World) → keys_of (finite.entries (maps_of world).vehicles) ≡ keys_of (finite.entries world.vehicles)
+vehicles_same world = ap keys_of (rows_same world) ∙ keys_same (finite.entries world.vehicles)
+
+-- the vehicles with their trips
+trip_in : (world : World) (es : List (VehicleKey × Vehicle)) → AllByRecursion (λ (e : VehicleKey × Vehicle). finite.get world.vehicles e.0 ≡ Some e.1) es
+    → map (with_trip world) (map own_row es) ≡ map (λ (e : VehicleKey × Vehicle). record { key = e.0; row = e.1.row; trip = e.1.trip }) es
+trip_in world [] found = refl
+trip_in world (e ∷ es) found = λ i. record { key = e.0; row = e.1.row; trip = option_and_then (λ (vehicle : Vehicle). vehicle.trip) (found.0 i) } ∷ trip_in world es found.1 i
+
+pub trips_same : (world : World) → map (with_trip world) (finite.entries (maps_of world).vehicles) ≡ vehicles_told world
+trips_same world = ap (map (with_trip world)) (rows_same world) ∙ trip_in world (finite.entries world.vehicles) (entries_found key_cmp-total world.vehicles)
+
+-- one vehicle more is listed
+pub one_more_vehicle : (world now : World) (entry : VehicleKey × VehicleRow) (trip : Option Trip) (so_far more : List VehicleTold) (rest : List (VehicleKey × VehicleRow)) (all : List VehicleTold) → now ≡ world
+    → trip ≡ trip_of now entry.0 → more ≡ so_far ++ record { key = entry.0; row = entry.1; trip = trip } ∷ [] → so_far ++ map (with_trip world) (entry ∷ rest) ≡ all → more ++ map (with_trip world) rest ≡ all
+one_more_vehicle world now entry trip so_far more rest all same told pushed before =
+    append_one so_far more (record { key = entry.0; row = entry.1; trip = trip }) (map (with_trip world) rest) pushed
+    ∙ ap (λ (t : Option Trip). so_far ++ record { key = entry.0; row = entry.1; trip = t } ∷ map (with_trip world) rest) (told ∙ ap (λ (w : World). trip_of w entry.0) same)
+    ∙ before
+
+-- ---- the layout
+
+none_given : (r : Result Layout LayoutFault) → ((layout : Layout) → ¬ (r ≡ Ok layout)) → rows_of (given r) ≡ []
+none_given (Ok layout) none = absurd (none layout refl)
+none_given (Err why) none = refl
+
+none_listed : {X : Type 0} → finite.entries (finite.empty {X = X} {R = name_cmp}) ≡ []
+none_listed {X} = nil_from_length _ (sym (finite.len-entries _) ∙ finite.len-empty name_cmp X)
+
+no_names : (names : List (List ℕ)) → ((q : List ℕ) → list_any (eq_by_cmp name_cmp q) names ≡ false) → names ≡ []
+no_names [] none = refl
+no_names (name ∷ names) none = absurd (cc (sym (none name) ∙ ap (λ o. is_eq o || list_any (eq_by_cmp name_cmp name) names) (tied_itself names_total name)))
+
+no_nodes : set.items (set.empty {R = name_cmp}) ≡ []
+no_nodes = no_names _ (λ q. sym (set.contains-items set.empty q) ∙ set.contains-empty name_cmp q)
+
+none_laid : rows_in empty_layout ≡ []
+none_laid =
+    (λ i. map (λ id. row.Node id) (finite.keys (finite.from_entries {X = ⊤} {R = name_cmp} (map (λ id. (id, tt)) (no_nodes i)))) ++ (map edge_row (none_listed i) ++ map station_row (none_listed i)))
+    ∙ ap (λ (es : List (List ℕ × ⊤)). map (λ (id : List ℕ). row.Node id) (map (λ (e : List ℕ × ⊤). e.0) es) ++ []) none_listed
+
+-- the layout that is set has the rows of the world's
+pub rows_given : GivesItself → NeedsANode → (world : World) → (world.layout ≡ empty_layout) ⊎ KeepsRules world.layout → rows_of (layout_set world) ≡ rows_in world.layout
+unfolding layout_set
+rows_given gives needs world (inl empty) = none_given (layout_of (rows_in world.layout)) (λ layout. needs world.layout layout (ap (λ (l : Layout). l.nodes) empty)) ∙ sym (ap rows_in empty ∙ none_laid)
+rows_given gives needs world (inr rules) = ap (λ (r : Result Layout LayoutFault). rows_of (given r)) (gives world.layout rules)
 
 -- ---- numbers
 
@@ -194,9 +254,6 @@ counted nodes edges n m sum told few n_is m_is sum_is told_is =
 -- a station with its name, and the live jobs to it
 abbrev pub with_jobs_to : World → List ℕ × StationSite → Station × ℕ
 with_jobs_to world site = (station_of site.0 site.1, reserved world site.0)
-
-append_one : {A : Type 0} (xs more : List A) (x : A) (rest : List A) → more ≡ xs ++ x ∷ [] → more ++ rest ≡ xs ++ x ∷ rest
-append_one xs more x rest is = ap (λ ys. ys ++ rest) is ∙ append_assoc xs (x ∷ []) rest
 
 -- one station more is listed
 pub one_more_station : (world now : World) (sites : List (List ℕ × StationSite)) (i : ℕ) (site : List ℕ × StationSite) (jobs : ℕ) (so_far more : List (Station × ℕ)) → now ≡ world

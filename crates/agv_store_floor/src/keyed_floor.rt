@@ -19,7 +19,6 @@ use std::marker::Model;
 ///
 /// After `Storage` its store has failed permanently; after `Memory` its connection may be closed, which the next
 /// question finds out.
-/// question.
 #[derive(Drop)]
 pub struct KeyedFloor<S: Alter> {
     /// The connection to the desk's tables.

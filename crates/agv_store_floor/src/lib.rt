@@ -2,9 +2,10 @@
 //!
 //! - A [`KeyedFloor`] answers the questions of `agv_desk` to a floor (`floor_questions`), over a connection to the
 //!   desk's tables. Beside the connection it has what is known beside the tables (`Known` of agv_store_known): five counts,
-//!   the layout (`kept_layout`), the room at stations (`kept_rooms`), the open trips of orders (`kept_trips`) and the
-//!   rows of vehicles (`kept_vehicles`).
-//! - The lists of a report are read from whole tables (`report_lists`, `whole_tables`).
+//!   the layout (`kept_layout`), the room at stations (`kept_rooms`), the open trips of orders (`kept_trips`), the rows of
+//!   vehicles (`kept_vehicles`) and the live jobs (`kept_jobs`).
+//! - The lists of a report and of the exports are read from whole tables, unless they are cached (`report_lists`,
+//!   `whole_tables`).
 //! - [`flags`] defines what a fault of a query or of a write sets.
 //!
 //! Its invariant, about its connection and what it knows beside the tables, is in `specs/Floors.antt`. Code that
@@ -14,6 +15,7 @@
 
 pub mod flags;
 mod floor_questions;
+mod kept_jobs;
 mod kept_layout;
 mod kept_rooms;
 mod kept_trips;

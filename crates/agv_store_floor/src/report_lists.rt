@@ -1,10 +1,12 @@
-//! The lists of a report, in its order.
+//! The lists of a report and of the exports, each in its order.
 ghost use Rattle.std.specs.Prelude.{◌≡◌, ◌<◌, ◌+◌, ◌^◌, ℕ, List, map, IfOk, IfSome};
 ghost use Rattle.std.specs.FinMap as finite;
 ghost use Rattle.std.specs.FinSet as set;
 ghost use Rattle.std.specs.Map.{keys_of};
 ghost use Rattle.agv_layout.specs.Layout.{station_of};
+ghost use Rattle.agv_layout.specs.LayoutOf.{rows_in};
 ghost use Rattle.agv_layout.specs.declared.station.StationSite.{StationSite as SiteOf};
+ghost use Rattle.agv_count_exports.specs.Exports.{jobs_told, vehicles_told};
 ghost use Rattle.agv_world_core.specs.Asks.{Asks};
 ghost use Rattle.agv_world_core.specs.Lawful.{IsLawful};
 ghost use Rattle.agv_world_core.specs.Questions.{reserved, stations_told};
@@ -12,14 +14,17 @@ ghost use Rattle.agv_world_core.specs.Maps.{maps_of};
 ghost use Rattle.agv_store_schema.specs.SchemaNumbers.{desk_seats};
 ghost use Rattle.agv_store_schema.specs.Connections.{IsClean, IsOpen};
 ghost use Rattle.agv_store_floor.specs.Floors.{facts_of, world_at};
-ghost use Rattle.agv_store_floor.specs.ReportLists.{entered};
+ghost use Rattle.agv_store_floor.specs.ReportLists.{entered, rows_of, with_trip};
 
 use crate::keyed_floor::KeyedFloor;
+use agv_count_exports::VehicleTold;
 use agv_header::{Memory, Name, Thing, VehicleKey};
-use agv_layout::{Station, StationSite};
+use agv_layout::laws::{gives_itself, needs_a_node};
+use agv_layout::{Layout, LayoutRow, Station, StationSite};
 use agv_stock::Place;
+use agv_store_known::kept_jobs;
 use agv_store_read::HeldThings;
-use agv_world_core::{ByVehicle, Fault, Floor, VehicleRow};
+use agv_world_core::{ByVehicle, Fault, Floor, JobRow, VehicleRow};
 use sqlite::Alter;
 use std::alloc::Global;
 use std::collections::BTreeMap;
@@ -70,6 +75,59 @@ impl<S: Alter + Drop> KeyedFloor<S> {
         let table = self.all_vehicles()?;
         let keys = keys_of(self.alloc, &table)?;
         Ok(keys)
+    }
+
+    /// Returns the vehicles by manufacturer and serial number, each with its row and its open trip, if any.
+    pub fn vehicles_with_trips_told(&mut self) -> Result<Vec<VehicleTold>, Fault>
+        ensures { Asks (facts_of S.Store) self.old self.new result (λ world vehicles. vehicles.items ≡ vehicles_told world) }
+    {
+        let table = self.all_vehicles()?;
+        let vehicles = self.with_trips(&table)?;
+        Ok(vehicles)
+    }
+
+    /// Returns these vehicles with their rows, each with its open trip, if any.
+    fn with_trips(&mut self, table: &ByVehicle<VehicleRow>) -> Result<Vec<VehicleTold>, Fault>
+        ensures { Asks (facts_of S.Store) self.old self.new result (λ world vehicles. vehicles.items ≡ map (with_trip world) (finite.entries table.now)) }
+    {
+        let mut vehicles = Vec::new(self.alloc);
+        for (key, row) in table.iter() {
+            let trip = self.trip(*key)?;
+            vehicles.push(VehicleTold {
+                key: *key,
+                row: *row,
+                trip,
+            })?;
+        }
+        Ok(vehicles)
+    }
+
+    /// Returns the live jobs by name. Unless they are cached, it reads all jobs, and caches the live ones.
+    pub fn jobs_told(&mut self) -> Result<Vec<(Name, JobRow)>, Fault>
+        ensures { Asks (facts_of S.Store) self.old self.new result (λ world jobs. jobs.items ≡ jobs_told world) }
+    {
+        let kept = self.kept_jobs()?;
+        if let Some(jobs) = kept {
+            self.settle()?;
+            return Ok(jobs);
+        }
+        let table = self.all_jobs()?;
+        let live = kept_jobs::of(self.alloc, &table)?;
+        let jobs = live.list(self.alloc)?;
+        self.keep_jobs(live);
+        Ok(jobs)
+    }
+
+    /// Returns the rows of the layout: its nodes, its edges and its stations, each by id. Before the layout is set there
+    /// are none.
+    pub fn layout_told(&mut self) -> Result<Vec<LayoutRow>, Fault>
+        ensures { Asks (facts_of S.Store) self.old self.new result (λ world rows. IsLawful desk_seats world → rows.items ≡ rows_in world.layout) }
+    {
+        gives_itself();
+        needs_a_node();
+        let layout = self.layout()?;
+        let rows = rows_of(self.alloc, &layout)?;
+        Ok(rows)
     }
 
     /// Returns the held nodes and edges with their vehicles: the nodes first, then the edges, each by id.
@@ -135,6 +193,16 @@ fn keys_of(alloc: Global, table: &ByVehicle<VehicleRow>) -> Result<Vec<VehicleKe
         keys.push(*key)?;
     }
     Ok(keys)
+}
+
+/// Returns the rows of a layout, if there is one: its nodes, its edges and its stations, each by id.
+fn rows_of(alloc: Global, layout: &Option<Layout>) -> Result<Vec<LayoutRow>, Memory>
+    ensures { IfOk result (λ rows. rows.items ≡ rows_of layout.now) }
+{
+    match layout {
+        None => Ok(Vec::new(alloc)),
+        Some(layout) => layout.rows(alloc),
+    }
 }
 
 /// Returns the held nodes and edges with their vehicles: the nodes first, then the edges, each by id.

@@ -1,4 +1,4 @@
-//! Reading whole tables for a report.
+//! Reading whole tables for a report or an export.
 ghost use Rattle.std.specs.Prelude.{◌≡◌};
 ghost use Rattle.agv_world_core.specs.Asks.{Asks};
 ghost use Rattle.agv_world_core.specs.Maps.{maps_of};
@@ -11,9 +11,9 @@ use agv_stock::Place;
 use agv_store_read::HeldThings;
 use agv_store_read_tables::hold_reading::query_holds;
 use agv_store_read_tables::table_reading::{
-    query_edges, query_nodes, query_places, query_stations, query_vehicles,
+    query_edges, query_jobs, query_nodes, query_places, query_stations, query_vehicles,
 };
-use agv_world_core::{ByName, ByVehicle, Fault, Names, VehicleRow};
+use agv_world_core::{ByName, ByVehicle, Fault, JobRow, Names, VehicleRow};
 use sqlite::Alter;
 
 impl<S: Alter + Drop> KeyedFloor<S> {
@@ -54,6 +54,14 @@ impl<S: Alter + Drop> KeyedFloor<S> {
         ensures { Asks (facts_of S.Store) self.old self.new result (λ world table. table ≡ world.places) }
     {
         let asked = query_places(self.alloc, &mut self.conn);
+        note(&mut self.failed, &mut self.in_doubt, asked)
+    }
+
+    /// Reads the jobs, also those that have ended.
+    pub(crate) fn all_jobs(&mut self) -> Result<ByName<JobRow>, Fault>
+        ensures { Asks (facts_of S.Store) self.old self.new result (λ world table. table ≡ world.jobs) }
+    {
+        let asked = query_jobs(self.alloc, &mut self.conn);
         note(&mut self.failed, &mut self.in_doubt, asked)
     }
 

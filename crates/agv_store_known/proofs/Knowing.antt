@@ -6,6 +6,7 @@ use Rattle.agv_world_core.specs.Changes.{change, changed}
 use Rattle.agv_world_core.specs.Maps.{Maps}
 use Rattle.agv_world_core.specs.declared.change.Change.{Change}
 use Rattle.agv_world_core.specs.declared.floor.Counted.{Counted}
+use Rattle.agv_store_known.specs.KeptJobs.{AreJobs, JobsOf}
 use Rattle.agv_store_known.specs.KeptLayouts.{IsLayoutOf}
 use Rattle.agv_store_known.specs.KeptRooms.{AreLeft, RoomsLeft}
 use Rattle.agv_store_known.specs.KeptTrips.{AreTrips, TripsOf}
@@ -17,16 +18,19 @@ use Rattle.agv_store_known.specs.declared.known.Known.{Known}
 
 module _ {known : Known} {count : Counted → ℕ} {maps : Maps} where
   pub with_layout : {layout : Option Layout} → IsLayoutOf layout maps → IsKnown known count maps → IsKnown (record known { layout = layout }) count maps
-  with_layout so is = record { counted = is.counted; agrees = so; fits = is.fits; trips_are = is.trips_are; vehicles_are = is.vehicles_are }
+  with_layout so is = record { counted = is.counted; agrees = so; fits = is.fits; trips_are = is.trips_are; vehicles_are = is.vehicles_are; jobs_are = is.jobs_are }
 
   pub with_rooms : {rooms : RoomsLeft} → AreLeft rooms maps → IsKnown known count maps → IsKnown (record known { rooms = rooms }) count maps
-  with_rooms so is = record { counted = is.counted; agrees = is.agrees; fits = so; trips_are = is.trips_are; vehicles_are = is.vehicles_are }
+  with_rooms so is = record { counted = is.counted; agrees = is.agrees; fits = so; trips_are = is.trips_are; vehicles_are = is.vehicles_are; jobs_are = is.jobs_are }
 
   pub with_trips : {trips : TripsOf} → AreTrips trips maps → IsKnown known count maps → IsKnown (record known { trips = trips }) count maps
-  with_trips so is = record { counted = is.counted; agrees = is.agrees; fits = is.fits; trips_are = so; vehicles_are = is.vehicles_are }
+  with_trips so is = record { counted = is.counted; agrees = is.agrees; fits = is.fits; trips_are = so; vehicles_are = is.vehicles_are; jobs_are = is.jobs_are }
 
   pub with_vehicles : {vehicles : VehiclesOf} → AreVehicles vehicles maps → IsKnown known count maps → IsKnown (record known { vehicles = vehicles }) count maps
-  with_vehicles so is = record { counted = is.counted; agrees = is.agrees; fits = is.fits; trips_are = is.trips_are; vehicles_are = so }
+  with_vehicles so is = record { counted = is.counted; agrees = is.agrees; fits = is.fits; trips_are = is.trips_are; vehicles_are = so; jobs_are = is.jobs_are }
+
+  pub with_jobs : {jobs : Option JobsOf} → AreJobs jobs maps → IsKnown known count maps → IsKnown (record known { jobs = jobs }) count maps
+  with_jobs so is = record { counted = is.counted; agrees = is.agrees; fits = is.fits; trips_are = is.trips_are; vehicles_are = is.vehicles_are; jobs_are = so }
 
 -- ---- changes
 

@@ -1,3 +1,4 @@
+pub mod KeptJobs
 pub mod KeptLayout
 pub mod KeptMaps
 pub mod KeptRooms

@@ -8,6 +8,7 @@ use Rattle.agv_world_core.specs.Worlds.{World}
 use Rattle.agv_world_core.specs.declared.change.Change.{Change}
 use Rattle.agv_world_core.specs.declared.floor.Counted.{Counted}
 use Rattle.agv_store_known.specs.Counts.{count_in}
+use Rattle.agv_store_known.specs.KeptJobs.{AreJobs}
 use Rattle.agv_store_known.specs.KeptLayouts.{IsLayoutOf}
 use Rattle.agv_store_known.specs.KeptRooms.{AreLeft}
 use Rattle.agv_store_known.specs.KeptTrips.{AreTrips}
@@ -25,6 +26,8 @@ pub record IsKnown (known : Known) (count : Counted → ℕ) (maps : Maps) : Typ
   pub trips_are : AreTrips known.trips maps
   -- a cached row is that of its vehicle
   pub vehicles_are : AreVehicles known.vehicles maps
+  -- the cached jobs, if any, are the live ones
+  pub jobs_are : AreJobs known.jobs maps
 
 -- what is known is true of this world
 abbrev pub IsKnownIn : Known → World → Type 0

@@ -1,4 +1,5 @@
 pub mod Counts
+pub mod KeptJobs
 pub mod KeptLayouts
 pub mod KeptRooms
 pub mod KeptTrips

@@ -1,5 +1,5 @@
 //! What a desk knows beside its tables, so that it reads them less: how many there are of each kind, the layout, how
-//! many more loads fit at a station, open trips, and rows of vehicles. It is true of the world whose rows the tables
+//! many more loads fit at a station, open trips, rows of vehicles, and the live jobs. It is true of the world whose rows the tables
 //! have, and is updated with each write. Each part has a file, which says what is cached and how a written row changes
 //! it.
 ghost use Rattle.std.specs.Prelude.{◌≡◌, ℕ, IfOk};
@@ -15,10 +15,11 @@ ghost use Rattle.agv_store_known.specs.KeptLayouts.{IsLayoutOf};
 ghost use Rattle.agv_store_known.specs.Known.{Follows, IsKnown, IsKnownIn};
 
 use crate::counts::Counts;
+use crate::kept_jobs::LiveJobs;
 use crate::kept_rooms::RoomsLeft;
 use crate::kept_trips::KeptTrips;
 use crate::kept_vehicles::KeptVehicles;
-use crate::{kept_layout, kept_rooms, kept_trips, kept_vehicles};
+use crate::{kept_jobs, kept_layout, kept_rooms, kept_trips, kept_vehicles};
 use agv_header::Memory;
 use agv_layout::Layout;
 use agv_layout::laws::{gives_itself, needs_a_node};
@@ -41,6 +42,8 @@ pub struct Known {
     pub trips: KeptTrips,
     /// The rows of vehicles, once they were read or written.
     pub vehicles: KeptVehicles,
+    /// The rows of the live jobs, all of them; `None` while they are not known.
+    pub jobs: Option<LiveJobs>,
 }
 
 impl Known {
@@ -54,6 +57,7 @@ impl Known {
             rooms: kept_rooms::none(alloc),
             trips: kept_trips::none(alloc),
             vehicles: kept_vehicles::none(alloc),
+            jobs: None,
         }
     }
 
@@ -70,7 +74,10 @@ impl Known {
         needs_a_node();
         let counts = Counts::of(tables);
         let layout = tables.layout(alloc)?;
-        Ok(Known::new(alloc, counts, layout))
+        let jobs = kept_jobs::of(alloc, &tables.jobs)?;
+        let mut known = Known::new(alloc, counts, layout);
+        known.jobs = Some(jobs);
+        Ok(known)
     }
 
     /// Updates what is known after a call that made these changes and added one of this kind, if any.
@@ -100,4 +107,5 @@ fn follow_one(known: &mut Known, one: &Change)
     kept_rooms::follow(&mut known.rooms, one);
     kept_trips::follow(&mut known.trips, one);
     kept_vehicles::follow(&mut known.vehicles, one);
+    kept_jobs::follow(&mut known.jobs, one);
 }

@@ -7,12 +7,13 @@
 //! - [`Counts`]: how many vehicles, loads, jobs, orders and references there are.
 //! - What is cached once it was read has a file each, which says how a written row changes it: [`kept_layout`], the
 //!   layout; [`kept_rooms`], how many more loads fit at stations; [`kept_trips`], the open trips of orders, and the
-//!   vehicles without one; [`kept_vehicles`], the rows of vehicles.
+//!   vehicles without one; [`kept_vehicles`], the rows of vehicles; [`kept_jobs`], the rows of the live jobs.
 //!
 //! What is cached may be dropped if there is no memory for it; then it is read again.
 #![tactic(auto)]
 
 mod counts;
+pub mod kept_jobs;
 pub mod kept_layout;
 pub mod kept_rooms;
 pub mod kept_trips;

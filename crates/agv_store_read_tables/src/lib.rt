@@ -6,7 +6,7 @@
 //!   number.
 //! - [`world_reading`] reads all tables into those of a world in memory, and what is held beside it, as an opening needs
 //!   them; `world_tables` and `trip_reading` read those that nothing else reads: open trips with their edges, journeys and
-//!   acts, jobs, and the names that were used. [`reading_laws`] says when the database has the rows of a world.
+//!   acts, and the names that were used. [`reading_laws`] says when the database has the rows of a world.
 //! - The world that all the desk's tables tell is a function of the database (`specs/WorldIn.antt`): [`world_laws`] says
 //!   that it is the lawful world whose rows they have, where they have those of one.
 //! - [`new_desk_laws`] says that a new desk's tables have the rows of the world that knows nothing.

@@ -1,11 +1,11 @@
-//! Reading whole tables: those of the layout, of the vehicles and of the loads.
+//! Reading whole tables: those of the layout, of the vehicles, of the loads and of the jobs.
 //!
 //! Each result is that part of the lawful world whose rows the tables have (`WorldAnswers.antt` of agv_store_read),
 //! and it has exactly the rows of the tables, whatever these are (`TablesRead.antt` of agv_store_read). The places of
 //! the loads are read one row at a time, any other table as a list of its rows.
 ghost use Rattle.std.specs.Prelude.{◌≡◌, IsPermutation};
 ghost use Rattle.agv_world_core.specs.Maps.{maps_of};
-ghost use Rattle.agv_store_rows.specs.Columns.{capacity_columns, edge_columns, load_columns, node_columns, vehicle_capacity_columns, station_columns, vehicle_columns};
+ghost use Rattle.agv_store_rows.specs.Columns.{capacity_columns, edge_columns, job_columns, load_columns, node_columns, vehicle_capacity_columns, station_columns, vehicle_columns};
 ghost use Rattle.agv_store_rows.specs.DecodedTrips.{capacities_of};
 ghost use Rattle.agv_store_schema.specs.DeskRows.{place_of, table_at};
 ghost use Rattle.agv_store_rows.specs.Rows.{rows_for, rows_in};
@@ -19,12 +19,13 @@ use agv_store_read::OpenFault;
 use agv_store_read::all_rows::query_all_rows;
 use agv_store_read::asked_tables::take_place;
 use agv_store_read::row_tables::{
-    capacities_in_rows, edges_in_rows, nodes_in_rows, stations_in_rows, vehicles_in_rows,
+    capacities_in_rows, edges_in_rows, jobs_in_rows, nodes_in_rows, stations_in_rows,
+    vehicles_in_rows,
 };
 use agv_store_rows::CapacityRow;
 use agv_store_schema::table_name::TableName;
 use agv_store_sql::query_texts::all_rows;
-use agv_world_core::{ByName, ByVehicle, Names, VehicleRow};
+use agv_world_core::{ByName, ByVehicle, JobRow, Names, VehicleRow};
 use sqlite::{Alter, Connection};
 use std::alloc::Global;
 
@@ -135,4 +136,18 @@ pub fn query_places<S: Alter>(
         let _count = table.len();
         take_place(&mut table, row)?;
     }
+}
+
+/// Reads the jobs by their names, also those that have ended.
+///
+/// # Errors
+/// As [`OpenFault`] says.
+pub fn query_jobs<S: Alter>(
+    alloc: Global,
+    conn: &mut Connection<S>,
+) -> Result<ByName<JobRow>, OpenFault>
+    ensures { TellsAll S.Store conn.old conn.new result (λ world table. table ≡ world.jobs) (λ lists table. IsPermutation (table_at (place_of the.Job) lists) (rows_in job_columns table)) }
+{
+    let rows = query_all_rows(conn, TableName::Job)?;
+    jobs_in_rows(alloc, rows.as_slice())
 }

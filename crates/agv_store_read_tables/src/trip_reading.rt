@@ -11,7 +11,7 @@ ghost use Rattle.agv_store_rows.specs.Rows.{rows_in};
 ghost use Rattle.agv_store_read.specs.TablesRead.{TellsAll};
 ghost use Rattle.agv_store_schema.specs.declared.table_name.TableName.TheVariants as the;
 
-use crate::world_tables::query_jobs;
+use crate::table_reading::query_jobs;
 use agv_store_read::OpenFault;
 use agv_store_read::all_rows::query_all_rows;
 use agv_store_read::asked_tables::acts_in_rows;

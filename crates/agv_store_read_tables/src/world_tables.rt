@@ -1,10 +1,9 @@
-//! Reading the whole tables of the edges of trips, of the jobs and of the names that were used, which only a whole
-//! world needs.
+//! Reading the whole tables of the edges of trips and of the names that were used, which only a whole world needs.
 //!
 //! The results are as for the other whole tables (`TablesRead.antt` of agv_store_read).
 ghost use Rattle.std.specs.Prelude.{◌≡◌, IsPermutation};
 ghost use Rattle.agv_world_core.specs.Maps.{maps_of};
-ghost use Rattle.agv_store_rows.specs.Columns.{job_columns, leg_columns, used_columns};
+ghost use Rattle.agv_store_rows.specs.Columns.{leg_columns, used_columns};
 ghost use Rattle.agv_store_schema.specs.DeskRows.{place_of, table_at};
 ghost use Rattle.agv_store_rows.specs.Rows.{rows_for, rows_in};
 ghost use Rattle.agv_store_read.specs.TablesRead.{TellsAll};
@@ -13,10 +12,10 @@ ghost use Rattle.agv_store_schema.specs.declared.table_name.TableName.TheVariant
 use agv_store_read::OpenFault;
 use agv_store_read::all_rows::query_all_rows;
 use agv_store_read::asked_tables::legs_in_rows;
-use agv_store_read::row_tables::{jobs_in_rows, used_in_rows};
+use agv_store_read::row_tables::used_in_rows;
 use agv_store_schema::table_name::TableName;
 use agv_world_core::lawful_laws::has_consistent_trips;
-use agv_world_core::{ByLeg, ByName, JobRow, UsedNames};
+use agv_world_core::{ByLeg, UsedNames};
 use sqlite::{Alter, Connection};
 use std::alloc::Global;
 
@@ -30,17 +29,6 @@ pub(crate) fn query_legs<S: Alter>(
     has_consistent_trips();
     let rows = query_all_rows(conn, TableName::Leg)?;
     legs_in_rows(alloc, rows.as_slice())
-}
-
-/// Reads the jobs.
-pub(crate) fn query_jobs<S: Alter>(
-    alloc: Global,
-    conn: &mut Connection<S>,
-) -> Result<ByName<JobRow>, OpenFault>
-    ensures { TellsAll S.Store conn.old conn.new result (λ world table. table ≡ world.jobs) (λ lists table. IsPermutation (table_at (place_of the.Job) lists) (rows_in job_columns table)) }
-{
-    let rows = query_all_rows(conn, TableName::Job)?;
-    jobs_in_rows(alloc, rows.as_slice())
 }
 
 /// Reads the names that were used, each with its kind.

@@ -98,6 +98,9 @@ fn answer(rt: &impl Abort, alloc: Global, text: &str) -> Answer {
         "load" => checked(name(rt, more)),
         "stock" => reported(rt, alloc, Report::Stock),
         "holds" => reported(rt, alloc, Report::Holds),
+        "jobs" => reported(rt, alloc, Report::Jobs),
+        "vehicles" => reported(rt, alloc, Report::Vehicles),
+        "layout" => reported(rt, alloc, Report::Layout),
         _ => reported(rt, alloc, Report::Loads),
     }
 }
@@ -111,7 +114,10 @@ accepted false => 200 OK|application/json||{"accepted":false}
 load L1 => 200 OK|application/json||{"job":null,"load":"L1","place":"checking"}
 stock - => 200 OK|text/plain||a report
 holds - => 200 OK|text/plain||a report
-export - => 200 OK|text/csv||a report
+loads - => 200 OK|text/csv||a report
+jobs - => 200 OK|text/csv||a report
+vehicles - => 200 OK|text/csv||a report
+layout - => 200 OK|text/csv||a report
 "#;
 
 /// Checks a line of the table.

@@ -3,9 +3,9 @@
 
 use crate::cases::{check_text, kit, name, row, shown};
 use crate::layouts::lines;
-use agv_count::{hold_report, loads_csv, read_count, stock_report};
+use agv_count::{hold_report, layout_csv, loads_csv, read_count, stock_report};
 use agv_header::Thing;
-use agv_layout::Station;
+use agv_layout::{LayoutRow, Station};
 use agv_stock::Place;
 use std::process::Abort;
 use std::str;
@@ -134,9 +134,39 @@ fn nothing(rt: HostRuntime) {
     check_bytes(&rt, &found.expect(&rt, "memory"), "checking: 0\nleft: 0\n");
     let found = loads_csv(rt.alloc(), &[]);
     check_bytes(&rt, &found.expect(&rt, "memory"), "load,place,at\n");
+    let found = layout_csv(rt.alloc(), &[]);
+    check_bytes(&rt, &found.expect(&rt, "memory"), "kind,id,from,to\n");
     let found = hold_report(rt.alloc(), &[], 4294967295);
     check_bytes(&rt, &found.expect(&rt, "memory"), "held 0 of 4294967295\n");
 }
+
+/// The rows of a layout, in the order given.
+#[test]
+fn layout(rt: HostRuntime) {
+    let rows = [
+        LayoutRow::Station {
+            id: name(&rt, "A"),
+            node: name(&rt, "N2"),
+            capacity: 999,
+        },
+        LayoutRow::Node {
+            id: name(&rt, "N2"),
+        },
+        LayoutRow::Edge {
+            id: name(&rt, "E12"),
+            start: name(&rt, "N1"),
+            finish: name(&rt, "N2"),
+        },
+    ];
+    let found = layout_csv(rt.alloc(), &rows);
+    check_bytes(&rt, &found.expect(&rt, "memory"), LAYOUT);
+}
+
+const LAYOUT: &str = "kind,id,from,to
+station,A,N2,999
+node,N2,,
+edge,E12,N1,N2
+";
 
 const HOLDS: &str = "node N1 KIT/0001
 node N2 KIT/0001

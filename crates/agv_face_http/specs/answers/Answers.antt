@@ -32,6 +32,9 @@ abbrev pub report_type : Report → List ℕ
 report_type named.Stock = codes "text/plain"
 report_type named.Holds = codes "text/plain"
 report_type named.Loads = codes "text/csv"
+report_type named.Jobs = codes "text/csv"
+report_type named.Vehicles = codes "text/csv"
+report_type named.Layout = codes "text/csv"
 
 -- the body of each answer
 abbrev pub answer_content : Answer → Content

@@ -50,6 +50,9 @@ entries =
     ∷ entry Get (codes "/report/stock") (Fixed (fixed.Report report.Stock))
     ∷ entry Get (codes "/report/holds") (Fixed (fixed.Report report.Holds))
     ∷ entry Get (codes "/export/loads") (Fixed (fixed.Report report.Loads))
+    ∷ entry Get (codes "/export/jobs") (Fixed (fixed.Report report.Jobs))
+    ∷ entry Get (codes "/export/vehicles") (Fixed (fixed.Report report.Vehicles))
+    ∷ entry Get (codes "/export/layout") (Fixed (fixed.Report report.Layout))
     ∷ []
 
 -- the call of a line with the names in a path: none, one, or a manufacturer and a serial number

@@ -87,6 +87,9 @@ fn report_type(report: Report) -> &'static str
         Report::Stock => "text/plain",
         Report::Holds => "text/plain",
         Report::Loads => "text/csv",
+        Report::Jobs => "text/csv",
+        Report::Vehicles => "text/csv",
+        Report::Layout => "text/csv",
     }
 }
 

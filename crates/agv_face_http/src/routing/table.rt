@@ -13,7 +13,7 @@ use matchit::{InsertError, Router};
 use std::alloc::Global;
 
 /// The lines of the table: the method, the path with names in braces, and the call.
-const LINES: [(Verb, &str, RouteKind); 23] = [
+const LINES: [(Verb, &str, RouteKind); 26] = [
     (Put, "/layout", Fixed(FixedRoute::SetLayout)),
     (Post, "/vehicles", Fixed(FixedRoute::RegisterVehicle)),
     (Post, "/loads", Fixed(FixedRoute::RegisterLoad)),
@@ -96,6 +96,17 @@ const LINES: [(Verb, &str, RouteKind); 23] = [
         Get,
         "/export/loads",
         Fixed(FixedRoute::Report(Report::Loads)),
+    ),
+    (Get, "/export/jobs", Fixed(FixedRoute::Report(Report::Jobs))),
+    (
+        Get,
+        "/export/vehicles",
+        Fixed(FixedRoute::Report(Report::Vehicles)),
+    ),
+    (
+        Get,
+        "/export/layout",
+        Fixed(FixedRoute::Report(Report::Layout)),
     ),
 ];
 

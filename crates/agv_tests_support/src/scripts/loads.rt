@@ -12,6 +12,12 @@ POST /loads {"load":"L1"}
 409 {"name":"Exists","refusal":30}
 GET /loads/L1
 200 {"job":null,"load":"L1","place":"checking"}
+GET /export/layout
+200
+| kind,id,from,to
+GET /export/vehicles
+200
+| manufacturer,serialNumber,node,capacity,ready,paused,astray,headerId,pending,order,sent,confirmed,released,edges,seen,restEdge,restNode
 rows
 | meta 1 2
 | load L1 checking NULL NULL NULL
@@ -49,6 +55,10 @@ const LEAVES: &str = r#"
 POST /loads/L1/leave {"ref":"R1"}
 409 {"name":"InJob","refusal":35}
 row job J1 L1 A B waiting
+GET /export/jobs
+200
+| job,load,from,to,phase,manufacturer,serialNumber,order
+| J1,L1,A,B,waiting,,,
 DELETE /jobs/J1
 200 {}
 DELETE /jobs/J1

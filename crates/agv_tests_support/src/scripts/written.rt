@@ -72,6 +72,27 @@ GET /export/loads
 | L1,vehicle,KIT/0001
 | L2,checking,
 | L3,left,
+GET /export/jobs
+200
+| job,load,from,to,phase,manufacturer,serialNumber,order
+| J1,L1,A,B,riding,KIT,0001,O1
+GET /export/vehicles
+200
+| manufacturer,serialNumber,node,capacity,ready,paused,astray,headerId,pending,order,sent,confirmed,released,edges,seen,restEdge,restNode
+| KIT,0001,N1,1,true,false,false,2,startPause,O1,0,0,1,2,0,,
+GET /export/layout
+200
+| kind,id,from,to
+| node,N1,,
+| node,N2,,
+| node,N3,,
+| edge,E12,N1,N2
+| edge,E21,N2,N1
+| edge,E23,N2,N3
+| edge,E32,N3,N2
+| station,A,N1,1
+| station,B,N3,1
+| station,C,N3,2
 "#;
 
 /// The vehicle gets the remaining edges of its way and drops the load at B; then a load comes to A with a job to C,
@@ -87,6 +108,9 @@ POST /jobs {"job":"J2","load":"L2","to":"C"}
 200 {}
 DELETE /jobs/J2
 200 {}
+GET /export/jobs
+200
+| job,load,from,to,phase,manufacturer,serialNumber,order
 "#;
 
 /// The trip and its edges are gone, and the vehicle holds the node where it stands.
@@ -182,6 +206,15 @@ state 0001 3 O1 0 N1 0 O1.0=FINISHED instant-1=FINISHED
 200 {"accepted":true}
 state 0002 3 O2 0 N3 0 O2.0=FINISHED
 200 {"accepted":true}
+GET /export/jobs
+200
+| job,load,from,to,phase,manufacturer,serialNumber,order
+| J2,L2,C,A,riding,KIT,0002,O2
+GET /export/vehicles
+200
+| manufacturer,serialNumber,node,capacity,ready,paused,astray,headerId,pending,order,sent,confirmed,released,edges,seen,restEdge,restNode
+| KIT,0001,N1,1,true,false,true,3,,,,,,,,E12,N2
+| KIT,0002,N3,1,true,false,false,3,,O2,0,0,0,2,0,,
 rows
 | meta 1 2
 | node N1

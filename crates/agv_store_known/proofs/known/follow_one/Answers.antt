@@ -7,4 +7,5 @@ returns c count maps is = record {
   fits = c.follow-2.ensures maps is.fits;
   trips_are = c.follow-3.ensures maps is.trips_are;
   vehicles_are = c.follow-4.ensures maps is.vehicles_are;
+  jobs_are = c.follow-5.ensures maps is.jobs_are;
 }

@@ -14,4 +14,5 @@ returns c world next lead below adds is =
       fits = its.fits;
       trips_are = its.trips_are;
       vehicles_are = its.vehicles_are;
+      jobs_are = its.jobs_are;
     }

@@ -8,4 +8,5 @@ returns c world counted agrees = record {
   fits = c.none.ensures (maps_of world);
   trips_are = c.none-2.ensures (maps_of world);
   vehicles_are = c.none-3.ensures (maps_of world);
+  jobs_are = tt;
 }

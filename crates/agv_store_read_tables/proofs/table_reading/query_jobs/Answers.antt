@@ -8,7 +8,7 @@ use Rattle.agv_store_rows.proofs.ColumnsWritten.{job_written}
 use Rattle.agv_store_rows.proofs.ListsFollow.{names_apart}
 use Rattle.agv_store_read_tables.proofs.TableAnswers.{tells_jobs}
 use Rattle.agv_store_read.proofs.TablesBack.{shows_table}
-use Rattle.agv_store_read_tables.proofs.world_tables.query_jobs.Goals as goal
+use Rattle.agv_store_read_tables.proofs.table_reading.query_jobs.Goals as goal
 
 pub returns-in_err-rows : goal.returns-in_err-rows
 returns-in_err-rows g c = all_passes g.S.Store c.args.conn.now c.query_all_rows.new.conn c.in_err-rows.field-0.0 _ _ _ _ c.from_residual.result c.from_residual.ensures.1 c.in_err-rows.ensures

@@ -1,0 +1,132 @@
+//! The export of jobs.
+ghost use Rattle.std.specs.Prelude.{◌≡◌, ◌++◌, IfOk, OnOk, string_bytes};
+ghost use Rattle.std.specs.List.{list_any};
+ghost use Rattle.std.specs.Option.{option_copied};
+ghost use Rattle.agv_count_exports.specs.Exports.{has_drop_of, is_drop_of, job_line, job_text, jobs_text, order_name, phase_word, rider_of, rider_text};
+
+use crate::VehicleTold;
+use agv_header::{Memory, Name};
+use agv_order::{Act, Trip, is_drop, is_finished};
+use agv_stock::Phase;
+use agv_world_core::JobRow;
+use std::alloc::Global;
+
+/// Exports jobs as CSV: the header `job,load,from,to,phase,manufacturer,serialNumber,order`, and a record for each job,
+/// in the order given. The last three fields are those of the vehicle whose open trip has an unfinished drop of the
+/// job, and of its order; they are empty if there is none. The desk gives the live jobs in the order of their names,
+/// and all vehicles. Each record ends in LF alone.
+///
+/// Returns `Memory` only when out of memory.
+pub fn jobs_csv(
+    alloc: Global,
+    jobs: &[(Name, JobRow)],
+    vehicles: &[VehicleTold],
+) -> Result<Vec<u8>, Memory>
+    ensures { IfOk result (λ export. export.items ≡ jobs_text jobs.now vehicles.now) }
+{
+    let mut out = String::new(alloc);
+    writeln!(
+        out,
+        "job,load,from,to,phase,manufacturer,serialNumber,order"
+    )?;
+    for (job, row) in jobs {
+        write_job(&mut out, *job, *row, vehicles)?;
+    }
+    Ok(out.into_bytes())
+}
+
+/// Writes the record of a job.
+fn write_job(
+    out: &mut String,
+    job: Name,
+    row: JobRow,
+    vehicles: &[VehicleTold],
+) -> Result<(), Memory>
+    ensures { OnOk result (string_bytes out.new ≡ string_bytes out.old ++ job_line vehicles.now (job, row)) }
+{
+    write_row(out, job, row)?;
+    write!(out, ",")?;
+    write_rider(out, rider_of(vehicles, job))?;
+    writeln!(out)?;
+    Ok(())
+}
+
+/// Writes the fields of a job that its row has.
+fn write_row(out: &mut String, job: Name, row: JobRow) -> Result<(), Memory>
+    ensures { OnOk result (string_bytes out.new ≡ string_bytes out.old ++ job_text (job, row)) }
+{
+    write!(out, "{job},{},", row.load)?;
+    write!(out, "{},{},", row.origin, row.target)?;
+    write!(out, "{}", phase_word(row.phase))?;
+    Ok(())
+}
+
+/// Returns the word for a phase.
+fn phase_word(phase: Phase) -> &'static str
+    ensures { result.now ≡ phase_word phase }
+{
+    match phase {
+        Phase::Waiting => "waiting",
+        Phase::Riding => "riding",
+        Phase::Done => "done",
+        Phase::Stopped => "stopped",
+    }
+}
+
+/// Writes the fields of a job's vehicle and of its order, which are empty without a vehicle.
+fn write_rider(out: &mut String, rider: Option<&VehicleTold>) -> Result<(), Memory>
+    ensures { OnOk result (string_bytes out.new ≡ string_bytes out.old ++ rider_text (option_copied rider.entry)) }
+{
+    match rider {
+        Some(vehicle) => {
+            write!(out, "{},{},", vehicle.key.manufacturer, vehicle.key.serial)?;
+            write_order(out, &vehicle.trip)?;
+        }
+        None => write!(out, ",,")?,
+    }
+    Ok(())
+}
+
+/// Writes the name of a trip's order, or nothing without a trip.
+fn write_order(out: &mut String, trip: &Option<Trip>) -> Result<(), Memory>
+    ensures { OnOk result (string_bytes out.new ≡ string_bytes out.old ++ order_name trip.now) }
+{
+    match trip {
+        Some(trip) => write!(out, "{}", trip.order)?,
+        None => {}
+    }
+    Ok(())
+}
+
+/// Returns the first vehicle whose open trip has an unfinished drop of the job, if any.
+fn rider_of(vehicles: &[VehicleTold], job: Name) -> Option<&VehicleTold>
+    ensures { option_copied result ≡ rider_of vehicles.now job }
+{
+    vehicles
+        .iter()
+        .find(|vehicle| has_drop_of(job, &vehicle.trip))
+}
+
+/// Returns whether there is a trip, and it has an unfinished drop of the job.
+fn has_drop_of(job: Name, trip: &Option<Trip>) -> bool
+    ensures { result ≡ has_drop_of job trip.now }
+{
+    match trip {
+        Some(trip) => has_drop_among(job, trip.acts.as_slice()),
+        None => false,
+    }
+}
+
+/// Returns whether one of the acts is an unfinished drop of the job.
+fn has_drop_among(job: Name, acts: &[Act]) -> bool
+    ensures { result ≡ list_any (is_drop_of job) acts.now }
+{
+    acts.iter().any(|act| is_drop_of(job, act))
+}
+
+/// Returns whether the act is an unfinished drop of the job.
+fn is_drop_of(job: Name, act: &Act) -> bool
+    ensures { result ≡ is_drop_of job act.now }
+{
+    is_drop(act.kind) && !is_finished(act.status) && act.job == job
+}
