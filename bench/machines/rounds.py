@@ -1,0 +1,288 @@
+"""The rounds of the drill."""
+from __future__ import annotations
+
+import hashlib
+import os
+import random
+import statistics
+import subprocess
+import time
+from collections.abc import Sequence
+from dataclasses import dataclass, field
+
+from .desks import DB, Supervisor, Term
+from .faults import KINDS, STAYS
+from .namespaces import Machine, Machines, NoMachines, until
+from .records import Answered, Judgement, Records
+from .traffic import Traffic, missing
+from .volume import Volume
+
+EXPORT = b'GET /export/loads HTTP/1.1\r\n\r\n'
+TAKEOVER = 300.0  # seconds until another desk has to answer
+
+
+@dataclass
+class Figures:
+    """What was measured, by kind: from the fault to the first answer of the next desk."""
+
+    takeovers: dict[str, list[float]] = field(default_factory=dict)
+    planned: list[float] = field(default_factory=list)  # from the stop of a desk to the next one's
+    last: dict[str, list[float]] = field(default_factory=dict)  # of the old desk after the fault
+    heals: list[float] = field(default_factory=list)
+
+
+class Drill:
+    """Three machines, a volume, a desk for each machine, and those that ask."""
+
+    def __init__(self, machines: Machines, volume: Volume, program: str, *, is_plain: bool) -> None:
+        self.machines, self.volume, self.program = machines, volume, program
+        self.terms: list[Term] = []
+        self.desks = {
+            machine.number: Supervisor(machine, program, self.terms, is_plain)
+            for machine in machines.all
+        }
+        self.records, self.figures = Records(), Figures()
+        sockets = {number: desk.socket for number, desk in self.desks.items()}
+        self.sockets = sockets
+        self.traffic: Traffic | None = None
+
+    def begin(self, vehicles: int) -> None:
+        """Starts the desks and all that asks them."""
+        for desk in self.desks.values():
+            desk.start()
+        self.traffic = Traffic(self.sockets, vehicles, self.records)
+        self.traffic.begin()
+
+    def end(self) -> None:
+        """Ends all that asks, and the desks."""
+        if self.traffic is not None:
+            self.traffic.end()
+        for desk in self.desks.values():
+            desk.close()
+
+    # What kinds of faults use.
+
+    def others(self, machine: Machine) -> list[Machine]:
+        """Returns the other machines."""
+        return [one for one in self.machines.all if one is not machine]
+
+    def boot(self, machine: Machine) -> None:
+        """Starts a machine that was killed, with its copy, its mount and its desk."""
+        machine.boot()
+        machine.join()
+        self.volume.start_daemon(machine)
+        self.volume.mount(machine)
+
+    def brick_of(self, machine: Machine) -> list[int]:
+        """Returns the numbers of the programs that serve a machine's copy."""
+        found = []
+        for pid in machine.programs():
+            try:
+                with open(f'/proc/{pid}/cmdline', 'rb') as file:
+                    words = file.read().split(b'\0')
+            except OSError:
+                continue
+            if words[0].endswith(b'glusterfsd'):
+                found.append(pid)
+        return found
+
+    def nobody_answers(self) -> None:
+        """Sees that for some seconds no desk answers, once what was sent before has been
+        answered."""
+        time.sleep(6)
+        before = time.monotonic()
+        time.sleep(4)
+        for answer in self.answers_since(before):
+            if answer.sent > before:
+                self.records.stale.append(f'm{answer.machine} answers without the others')
+
+    def wait_for_desk(self, since: float, besides: int) -> None:
+        """Waits until another machine has the desk."""
+        for _ in until(TAKEOVER):
+            if any(one.began >= since and one.machine != besides for one in list(self.terms)):
+                return
+        raise NoMachines(f'no desk goes on within {TAKEOVER:g} s')
+
+    def wait_until_whole(self, machine: Machine) -> None:
+        """Waits until a machine is connected to all copies, for two minutes at most."""
+        for _ in until():
+            if self.volume.is_whole(machine):
+                return
+
+    def fill(self, machine: Machine) -> str:
+        """Fills the disk of a machine."""
+        path = os.path.join(machine.folder, 'brick', 'filling')
+        with open(path, 'wb', buffering=0) as file:
+            for size in (1 << 20, 4096, 1):
+                try:
+                    while file.write(bytes(size)) == size:
+                        pass
+                except OSError:
+                    pass
+        return path
+
+    def wait_until_full(self, machine: Machine) -> None:
+        """Waits until no change is answered."""
+        for _ in until(TAKEOVER):
+            now = time.monotonic()
+            time.sleep(3)
+            if not any(one.changes and one.sent > now for one in self.answers_since(now)):
+                return
+        raise NoMachines('a full disk does not keep the desk from changes')
+
+    # What is seen.
+
+    def answers_since(self, moment: float) -> list[Answered]:
+        """Returns the answers that have come since a moment."""
+        found: list[Answered] = []
+        with self.records.lock:
+            for answer in reversed(self.records.answers):
+                if answer.came < moment - 60:
+                    break
+                if answer.came >= moment:
+                    found.append(answer)
+        return found[::-1]
+
+    def holder(self, since: float = 0.0, besides: int = 0) -> tuple[Machine, float]:
+        """Waits for an answer of a desk that has begun since a moment, and returns its machine with
+        the moment of its first answer."""
+        for _ in until(TAKEOVER):
+            terms = [
+                one for one in list(self.terms) if one.began >= since and one.machine != besides
+            ]
+            for term in sorted(terms, key=lambda one: -one.began):
+                for answer in self.answers_since(term.began):
+                    if answer.machine == term.machine:
+                        return self.machines.all[term.machine - 1], answer.came
+        raise NoMachines(f'no desk answers within {TAKEOVER:g} s')
+
+    def control(self, kind: str) -> None:
+        """A fault with desks that nothing keeps from writing side by side."""
+        assert self.traffic is not None
+        old, _ = self.holder()
+        time.sleep(3)
+        mend = KINDS[kind](self, old)
+        time.sleep(5)
+        mend()
+        for _ in until():
+            if Judgement.of(self.records, self.terms).writers:
+                break
+
+    def round(self, number: int, kind: str) -> None:
+        """One round: a fault, a takeover, the mending, a check; and a stop, so that the next desk
+        uses all copies."""
+        assert self.traffic is not None
+        old, _ = self.holder()
+        time.sleep(random.uniform(1.5, 3))
+        began, known = time.monotonic(), len(self.records.loads)
+        mend = KINDS[kind](self, old)
+        if kind == 'full-one':
+            new, first = self.first_change(began)
+        elif kind != 'full':
+            new, first = self.holder(began, 0 if kind in STAYS else old.number)
+        time.sleep(random.uniform(1, 2))
+        mended = time.monotonic()
+        mend()
+        if kind == 'full':
+            new, first = self.first_change(mended)
+            began = mended
+        time.sleep(random.uniform(1, 2))
+        self.traffic.check()
+        took = first - began
+        self.note(kind, old, began, took)
+        healed = self.hand_over()
+        lines = f'{kind}: m{old.number} to m{new.number} after {took:.1f} s'
+        judged = Judgement.of(self.records, self.terms)
+        told = f'{len(self.records.loads) - known} loads, healed after {healed:.1f} s; {judged}'
+        print(f'{number}. {lines}; {told}', flush=True)
+
+    def first_change(self, since: float) -> tuple[Machine, float]:
+        """Waits for the first change that was asked for since a moment, and is answered."""
+        for _ in until(TAKEOVER):
+            for answer in self.answers_since(since):
+                if answer.changes and answer.sent >= since:
+                    return self.machines.all[answer.machine - 1], answer.came
+        raise NoMachines(f'no desk changes anything within {TAKEOVER:g} s')
+
+    def note(self, kind: str, old: Machine, began: float, took: float) -> None:
+        """Notes what was measured."""
+        self.figures.takeovers.setdefault(kind, []).append(took)
+        if kind not in STAYS:
+            last = [one.came for one in self.answers_since(began) if one.machine == old.number]
+            before = [came for came in last if came < began + took]
+            self.figures.last.setdefault(kind, []).append(max(before, default=began) - began)
+
+    def hand_over(self) -> float:
+        """Stops the desk, so that another goes on with all copies, and waits until these are equal:
+        a desk doesn't use a copy that was away when it began. Returns how long that took."""
+        began = time.monotonic()
+        for _ in range(5):
+            self.stop_and_start()
+            if self.heal() is not None:
+                self.figures.heals.append(time.monotonic() - began)
+                return self.figures.heals[-1]
+        raise NoMachines('the copies do not become equal')
+
+    def heal(self) -> float | None:
+        """Waits until the copies are equal, while nobody asks."""
+        assert self.traffic is not None
+        self.traffic.may.clear()
+        try:
+            return self.volume.heal(60)
+        finally:
+            self.traffic.may.set()
+
+    def stop_and_start(self) -> None:
+        """Stops the desk as a person does, and starts it once another goes on."""
+        old, _ = self.holder()
+        for _ in until():
+            if all(self.volume.is_whole(one) for one in self.machines.all):
+                break
+        began = time.monotonic()
+        desk = self.desks[old.number]
+        desk.wait()
+        _, first = self.holder(began)
+        self.figures.planned.append(first - began)
+        desk.start()
+
+    # The end.
+
+    def finish(self) -> None:
+        """Ends all, and compares the copies, and what the program reports of the file in each
+        machine with what was answered."""
+        assert self.traffic is not None
+        self.traffic.check()
+        self.end()
+        self.volume.heal(60)
+        self.records.lost += [f'the copies of {name} differ' for name in self.differing()]
+        for machine in self.machines.all:
+            path = os.path.join(machine.folder, 'mount', DB)
+            words = machine.words(self.program, 'replay', '--db', path, '--at', '0')
+            done = subprocess.run(
+                words, input=EXPORT, capture_output=True, timeout=600, check=False
+            )
+            if done.returncode:
+                self.records.lost.append(f'the file in {machine.name}: {done.stderr.decode()}')
+            else:
+                self.records.lost += missing(done.stdout, self.records.loads)
+
+    def differing(self) -> list[str]:
+        """Returns the names of the desk's files whose copies differ."""
+        found = []
+        for name in (DB, f'{DB}-wal'):
+            paths = [os.path.join(one.folder, 'brick', 'desk', name) for one in self.machines.all]
+            sums = set()
+            for path in paths:
+                if os.path.exists(path):
+                    with open(path, 'rb') as file:
+                        sums.add(hashlib.sha256(file.read()).digest())
+                else:
+                    sums.add(b'')
+            if len(sums) != 1:
+                found.append(name)
+        return found
+
+
+def middle(values: Sequence[float]) -> str:
+    """Returns the median, the least and the most."""
+    return f'{statistics.median(values):.1f} s ({min(values):.1f} to {max(values):.1f})'

@@ -1,0 +1,190 @@
+"""The lock that chooses the machine whose desk serves a file: on the file `FILE.holder` beside it.
+
+The desk locks its file, too, which alone keeps two desks from writing. This lock is taken before a
+desk is started, and kept while it runs. So as long as it is held no other machine has started a
+desk, and what this one answers is not out of date."""
+from __future__ import annotations
+
+import contextlib
+import errno
+import fcntl
+import os
+import re
+import stat
+import struct
+import time
+from dataclasses import dataclass
+
+from ..common.text import shown
+
+END = '.holder'
+RECORD = 128  # bytes of the file: who holds it, since when, and a number that grows
+# A lock for writing on all bytes of the file, of this open file alone (fcntl(2), F_OFD_SETLK).
+WHOLE = struct.pack('hhqqi', fcntl.F_WRLCK, os.SEEK_SET, 0, 0, 0)
+TAKEN = (errno.EAGAIN, errno.EACCES)
+# What a volume answers that has lost its copies, or a disk that fails.
+FAILS = (errno.ENOTCONN, errno.EIO, errno.EROFS, errno.EBADFD, errno.ESTALE, errno.ETIMEDOUT)
+NAME = re.compile(r'[A-Za-z0-9._-]{1,64}', re.A)
+
+
+class NotHeld(Exception):
+    """The lock is not held any more, or nobody can tell."""
+
+
+@dataclass(frozen=True)
+class Holder:
+    """The machine that has the lock, or had it last, and since when, in seconds since 1970."""
+
+    name: str
+    since: int
+
+    @classmethod
+    def parse(cls, data: bytes) -> Holder | None:
+        """Reads a record, or None where it is none."""
+        words = data.decode('ascii', errors='replace').split()
+        if len(words) != 3 or not NAME.fullmatch(words[0]):
+            return None
+        if not all(re.fullmatch('[0-9]{1,15}', word, re.A) for word in words[1:]):
+            return None
+        return cls(words[0], int(words[1]))
+
+    def __str__(self) -> str:
+        try:
+            when = time.strftime('%Y-%m-%dT%H:%M:%SZ', time.gmtime(self.since))
+        except (OverflowError, ValueError, OSError):
+            when = 'an unknown moment'
+        return f'{self.name} since {when}'
+
+
+def machine_name() -> str:
+    """Returns the name of this machine, as a record has it."""
+    name = os.uname().nodename.split('.')[0][:64]
+    return name if NAME.fullmatch(name) else 'unknown'
+
+
+def path_of(db: str) -> str:
+    """Returns the path of the file that is locked for a desk's file."""
+    return db + END
+
+
+def _open(path: str, flags: int) -> int:
+    """Opens a regular file, and nothing else: no link, no pipe."""
+    number = os.open(path, flags | os.O_NOFOLLOW | os.O_NONBLOCK | os.O_CLOEXEC, 0o640)
+    if not stat.S_ISREG(os.fstat(number).st_mode):
+        os.close(number)
+        raise OSError(errno.EINVAL, 'is not a regular file')
+    return number
+
+
+def holder_of(db: str) -> Holder | None:
+    """Returns who has the lock, or had it last; None where no file says so."""
+    try:
+        number = _open(path_of(db), os.O_RDONLY)
+    except FileNotFoundError:
+        return None
+    try:
+        return Holder.parse(os.pread(number, RECORD, 0))
+    finally:
+        os.close(number)
+
+
+def is_free(db: str) -> bool:
+    """Whether nobody has the lock. Nothing is locked or written for that."""
+    number = _open(path_of(db), os.O_RDONLY)
+    try:
+        told = fcntl.fcntl(number, fcntl.F_OFD_GETLK, WHOLE)
+    finally:
+        os.close(number)
+    return bool(struct.unpack('hhqqi', told[: struct.calcsize('hhqqi')])[0] == fcntl.F_UNLCK)
+
+
+def reason(db: str) -> str | None:
+    """Returns why no desk may start here on a file, if the lock beside it says so."""
+    path = shown(db, 1000)
+    try:
+        if not os.path.lexists(path_of(db)):
+            os.stat(os.path.dirname(os.path.abspath(db)))
+            return None
+        if is_free(db):
+            return None
+        holder = holder_of(db)
+        if holder is not None and holder.name == machine_name():
+            return None  # it is a program of this machine, which is found by its files
+    except OSError as fault:
+        if fault.errno not in FAILS:
+            return None
+        return (
+            f'The disk or the volume of {path} fails: {fault.strerror} (`fault: Storage`). Look at '
+            '`journalctl -k`; where machines share it, at the network and at `tools/standby check`.'
+        )
+    who = holder or 'it has not said where'
+    return (
+        f'Another desk has {path}: {who} (`fault: Storage`). Ask that one; this machine goes on '
+        'once that one has ended (docs/TWO_MACHINES.md).'
+    )
+
+
+def is_shared(path: str) -> bool:
+    """Whether a file lies on a file system in user space, as GlusterFS, where a write has reached
+    the copies when it returns. Elsewhere it may be in the memory of this machine alone."""
+    wanted = os.stat(path).st_dev
+    place = f'{os.major(wanted)}:{os.minor(wanted)}'
+    with contextlib.suppress(OSError), open('/proc/self/mountinfo', encoding='utf-8') as file:
+        for line in file:
+            words = line.split()
+            if words[2] == place:
+                kind = words[words.index('-') + 1]
+                return kind == 'fuse' or kind.startswith('fuse.')
+    return False
+
+
+class Lock:
+    """The lock of a desk's file. The methods may wait for the disk."""
+
+    def __init__(self, db: str) -> None:
+        self.path = path_of(db)
+        self.number = -1
+        self.count = 0
+        self.head = b''
+        self.is_shared = False
+
+    def take(self) -> bool:
+        """Takes the lock, and proves it. False where another has it; an OSError where the disk
+        fails."""
+        if self.number < 0:
+            self.number = _open(self.path, os.O_RDWR | os.O_CREAT)
+        try:
+            fcntl.fcntl(self.number, fcntl.F_OFD_SETLK, WHOLE)
+        except OSError as fault:
+            self.close()
+            if fault.errno in TAKEN:
+                return False
+            raise
+        self.is_shared = is_shared(self.path)
+        self.head = f'{machine_name()} {int(time.time())} '.encode()
+        self.write()
+        return True
+
+    def write(self) -> None:
+        """Writes a record by the locked file. On GlusterFS with `client.strict-locks` this fails
+        once the lock is lost, or two of three copies can't be reached."""
+        self.count += 1
+        record = (self.head + str(self.count).encode()).ljust(RECORD - 1) + b'\n'
+        if os.pwrite(self.number, record, 0) != RECORD:
+            raise OSError(errno.EIO, 'was not written as a whole')
+        if not self.is_shared:
+            os.fdatasync(self.number)
+
+    def prove(self) -> None:
+        """Returns if the lock was held at some moment since the call, else raises `NotHeld`."""
+        try:
+            self.write()
+        except OSError as fault:
+            raise NotHeld(f'{shown(self.path, 1000)}: {fault.strerror}') from None
+
+    def close(self) -> None:
+        """Lets the lock go."""
+        if self.number >= 0:
+            with contextlib.suppress(OSError):
+                os.close(self.number)
+            self.number = -1
