@@ -1,0 +1,36 @@
+"""/etc/nulvrader/nulvrader.conf, which the units read as their environment: lines NAME=VALUE."""
+from __future__ import annotations
+
+import os
+import re
+
+from ..common import plain_files
+
+PATH = '/etc/nulvrader/nulvrader.conf'
+WHERE = 'NULVRADER_CONF'  # the variable with another path, for tests
+DEFAULTS = {
+    'NULVRADER_DB': '/var/lib/nulvrader/desk/warehouse.db',
+    'NULVRADER_DESK': 'unix:/run/nulvrader/desk.sock',
+    'NULVRADER_LAYOUT': '/etc/nulvrader/layout.csv',
+    'NULVRADER_NAME': 'desk.example',
+    'NULVRADER_UNITS': 'board dispatch',
+}
+LINE = re.compile(r'(NULVRADER_[A-Z_]+)=(.*)')
+
+
+def read() -> dict[str, str]:
+    """Returns the values, none if there is no such file, or this user may not read it."""
+    try:
+        data = plain_files.read_text(os.environ.get(WHERE, PATH))
+    except OSError:
+        return {}
+    lines = data.decode('utf-8', 'replace').splitlines()
+    found = (LINE.fullmatch(line.strip()) for line in lines)
+    return {one[1]: one[2].strip() for one in found if one}
+
+
+def values() -> dict[str, str]:
+    """Returns all values. An environment variable of the same name comes first; without either the
+    value is that of the package."""
+    found = {**DEFAULTS, **read()}
+    return {name: os.environ.get(name, value) for name, value in found.items()}

@@ -1,0 +1,136 @@
+"""`nulvrader init`: makes the file of an installed desk with its layout, and starts the desk."""
+from __future__ import annotations
+
+import argparse
+import os
+import pwd
+import subprocess
+import sys
+import time
+from collections.abc import Mapping
+from typing import Any
+
+from ..common import entry
+from ..common.layouts import LayoutFile
+from ..common.plain_files import read_text
+from ..common.text import shown
+from ..desk.client import Answer, Desk, NoAnswer, refused
+from ..file import stopped_file
+from . import conf, units
+from .units import Fault
+
+TOLD = 10_000  # the most characters of a line
+PATIENCE = 60.0  # seconds until a desk that is started answers
+USER = 'desk'  # the user of the desk
+REQUEST = b'PUT /layout HTTP/1.1\r\nContent-Length: %d\r\nConnection: close\r\n\r\n%s'
+
+
+def as_the_desk() -> dict[str, Any]:
+    """Returns as whom the desk's file is made: its user, if there is one and root runs this."""
+    if os.geteuid() != 0 or USER not in (one.pw_name for one in pwd.getpwall()):
+        return {}
+    return {'user': USER, 'group': USER, 'extra_groups': []}
+
+
+def read_layout(path: str) -> bytes:
+    """Returns the layout of a file; a `Fault` with each error if no desk takes it."""
+    data = read_text(path)
+    layout = LayoutFile(data)
+    if layout.faults:
+        lines = [shown(str(one), TOLD) for one in layout.faults]
+        raise Fault('\n'.join([f'{shown(path, TOLD)} is no layout:', *lines]))
+    return data
+
+
+def check_free(db: str) -> None:
+    """A `Fault` if there is a file that init did not begin: a desk's without a layout."""
+    if not os.path.lexists(db):
+        return
+    try:
+        with stopped_file.opened(db) as base:
+            if not stopped_file.layout_in(base).nodes:
+                return
+    except stopped_file.Unread as fault:
+        raise Fault(f'there is a file already: {fault}') from None
+    raise Fault(f'{db} is a desk\'s file with a layout: systemctl start {units.DESK}')
+
+
+def make_file(program: str, db: str, layout: bytes) -> None:
+    """Makes the file with its layout, by one request."""
+    moment = str(time.time_ns() // 1_000_000)
+    line = [program, 'replay', '--db', db, '--at', moment]
+    request = REQUEST % (len(layout), layout)
+    done = subprocess.run(
+        line, input=request, capture_output=True, check=False, umask=0o027, **as_the_desk()
+    )
+    head, _, body = done.stdout.partition(b'\r\n\r\n')
+    if done.returncode or not head.startswith(b'HTTP/1.1 '):
+        raise Fault(f'{db} can not be made: {done.stderr.decode(errors="replace").strip()}')
+    status = int(head[9:12])
+    if status != 200:
+        raise Fault(f'the desk does not take the layout: {refused(Answer(status, body))}')
+
+
+def put(path: str, data: bytes) -> None:
+    """Puts a file in the place of another one, as a whole."""
+    with open(f'{path}.new', 'wb') as file:
+        file.write(data)
+        os.fsync(file.fileno())
+    os.chmod(f'{path}.new', 0o644)
+    os.replace(f'{path}.new', path)
+
+
+def wait_for(desk: Desk) -> None:
+    """Returns once the desk answers; a `Fault` if that takes too long."""
+    ends = time.monotonic() + PATIENCE
+    while True:
+        try:
+            desk.hold_report()
+            return
+        except NoAnswer as fault:
+            if time.monotonic() > ends:
+                raise Fault(f'{fault} (journalctl -u {units.DESK} says why)') from None
+        time.sleep(0.2)
+
+
+def start(values: Mapping[str, str]) -> None:
+    """Starts the desk and what is beside it, now and at each boot."""
+    systems = [units.SOCKET, units.DESK, units.TIMER, *units.beside(dict(values))]
+    if not units.runs():
+        units.systemctl('enable', *systems)
+        print('systemd does not run here: the units are enabled, and not started')
+        return
+    units.systemctl('enable', '--now', *systems)
+    wait_for(Desk(values['NULVRADER_DESK']))
+    print('the desk answers at', values['NULVRADER_DESK'])
+
+
+def carry_out(said: argparse.Namespace) -> None:
+    """Makes the file, and starts the desk."""
+    values = conf.values()
+    layout = read_layout(said.layout)
+    check_free(values['NULVRADER_DB'])
+    make_file(said.program, values['NULVRADER_DB'], layout)
+    put(values['NULVRADER_LAYOUT'], layout)
+    print(f'{values["NULVRADER_DB"]} has the layout of {shown(said.layout, TOLD)}')
+    if said.no_start:
+        return
+    start(values)
+    if any('board' in unit for unit in units.beside(values)):
+        name = values['NULVRADER_NAME']
+        print(f'the board: https://{name}/board/ (docs/OPERATE.md, *TLS, and who may do what*)')
+
+
+def run(words: list[str], text: str) -> int:
+    """Runs `init`; `text` is the head of its help."""
+    line = entry.parser(text, 'init')
+    line.add_argument('layout', metavar='LAYOUT.csv', help='the layout, as docs/PROFILE.md has it')
+    line.add_argument('--no-start', action='store_true', help='make the file alone')
+    help_text = 'the program of the desk (default: that beside this one)'
+    line.add_argument('--program', default=entry.PROGRAM, metavar='FILE', help=help_text)
+    try:
+        carry_out(line.parse_args(words))
+    except (Fault, OSError, KeyError) as fault:
+        print(f'init: {fault}', file=sys.stderr)
+        return 1
+    return 0
