@@ -1,6 +1,6 @@
-"""Registers loads in a file through the built program, up to 1,000, 100,000 and 1,000,000, and at each number times the opening of
-the file, a hundred registrations more and the reports, with the most memory of the program. Python's standard library and
-`/usr/bin/time`.
+"""Registers loads in a file through the built program, up to 1,000, 100,000 and 1,000,000, and at
+each number times the opening of the file, a hundred registrations more and the reports, with the
+most memory of the program. Python's standard library and `/usr/bin/time`.
 
     DESK=crates/agv_app/out/agv_app python3 bench/many_loads.py
 """
@@ -11,21 +11,25 @@ import tempfile
 import time
 
 HERE = os.path.dirname(os.path.abspath(__file__))
-sys.path.insert(0, os.path.join(HERE, '..', 'tests'))
+sys.path.insert(0, os.path.join(HERE, '..'))
 
-import calls  # noqa: E402
+from tests.support import calls  # noqa: E402
 
 DESK = os.path.abspath(os.environ.get('DESK', os.path.join(HERE, '..', 'build', 'desk')))
 AT = '1700000000000'
 
 
 def load(number):
-    return calls.load('L%07d' % number).to_bytes()
+    return calls.load(f'L{number:07d}').to_bytes()
 
 
 def timed(what, words, stdin=b''):
-    done = subprocess.run(['/usr/bin/time', '-f', '%e s, %M KB', DESK, *words], input=stdin, capture_output=True)
-    print('  %-22s %s, %d bytes out' % (what, done.stderr.decode().strip(), len(done.stdout)), flush=True)
+    done = subprocess.run(
+        ['/usr/bin/time', '-f', '%e s, %M KB', DESK, *words], input=stdin, capture_output=True
+    )
+    print(
+        f'  {what!s:<22} {done.stderr.decode().strip()}, {len(done.stdout)} bytes out', flush=True
+    )
 
 
 with tempfile.TemporaryDirectory() as folder:
@@ -33,16 +37,27 @@ with tempfile.TemporaryDirectory() as folder:
     done = 0
     for total in (1_000, 100_000, 1_000_000):
         begun = time.perf_counter()
-        replay = subprocess.Popen([DESK, 'replay', '--db', db, '--at', AT], stdin=subprocess.PIPE, stdout=subprocess.DEVNULL)
+        replay = subprocess.Popen(
+            [DESK, 'replay', '--db', db, '--at', AT],
+            stdin=subprocess.PIPE,
+            stdout=subprocess.DEVNULL,
+        )
         for number in range(done, total):
             replay.stdin.write(load(number))
         replay.stdin.close()
         if replay.wait():
             raise SystemExit('the replay failed')
-        print('%d loads: %d registrations in %.2f s' % (total, total - done, time.perf_counter() - begun), flush=True)
+        print(
+            f'{total} loads: {total - done} registrations in {time.perf_counter() - begun:.2f} s',
+            flush=True,
+        )
         done = total
         timed('opening alone', ['replay', '--db', db, '--at', AT])
         if total < 1_000_000:
-            timed('100 registrations', ['replay', '--db', db, '--at', AT], b''.join(load(5_000_000 + total + i) for i in range(100)))
+            timed(
+                '100 registrations',
+                ['replay', '--db', db, '--at', AT],
+                b''.join(load(5_000_000 + total + i) for i in range(100)),
+            )
         timed('the stock report', ['report', '--db', db, 'stock'])
         timed('the hold report', ['report', '--db', db, 'holds'])

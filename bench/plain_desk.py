@@ -1,6 +1,7 @@
-"""A plain desk to compare with: the model of the rules in `tests/model`, in Python over the SQLite of C, with one commit a call over the
-same fourteen tables with the same indexes, by WAL with `synchronous=FULL`. It reads requests from standard input, writes the answers to
-standard output, and proves nothing; with a port it serves one connection instead.
+"""A plain desk to compare with: the model of the rules in `tests/model`, in Python over the SQLite
+of C, with one commit a call over the same fourteen tables with the same indexes, by WAL with
+`synchronous=FULL`. It reads requests from standard input, writes the answers to standard output,
+and proves nothing; with a port it serves one connection instead.
 
     python3 bench/plain_desk.py FILE|:memory: [MILLIS] < requests
     python3 bench/plain_desk.py FILE|:memory: MILLIS PORT
@@ -9,9 +10,9 @@ import os
 import socket
 import sys
 
-sys.path.insert(0, os.path.join(os.path.dirname(os.path.abspath(__file__)), '..', 'tests'))
+sys.path.insert(0, os.path.dirname(os.path.dirname(os.path.abspath(__file__))))
 
-from model.desk import AT, Model  # noqa: E402
+from tests.model.desk import AT, Model  # noqa: E402
 
 
 def streams(port):
@@ -19,7 +20,7 @@ def streams(port):
     if port is None:
         return sys.stdin.buffer, sys.stdout.buffer
     listener = socket.create_server(('127.0.0.1', port))
-    print('listening on 127.0.0.1:%d' % listener.getsockname()[1], flush=True)
+    print(f'listening on 127.0.0.1:{listener.getsockname()[1]}', flush=True)
     connection, _ = listener.accept()
     connection.setsockopt(socket.IPPROTO_TCP, socket.TCP_NODELAY, 1)
     return connection.makefile('rb'), connection.makefile('wb')

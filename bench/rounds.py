@@ -1,18 +1,26 @@
-"""Rounds of requests for the measuring scripts: in each a load is registered, moved by an order from station A to B and gone, so that
-the desk ends a round as it began it, but for names that are used and the count of what has ended. Each request is answered 200, a
-question for a message that isn't there 204."""
+"""Rounds of requests for the measuring scripts: in each a load is registered, moved by an order
+from station A to B and gone, so that the desk ends a round as it began it, but for names that are
+used and the count of what has ended. Each request is answered 200, a question for a message that
+isn't there 204."""
 import os
 import sqlite3
 import sys
 
-sys.path.insert(0, os.path.join(os.path.dirname(os.path.abspath(__file__)), '..', 'tests'))
+sys.path.insert(0, os.path.dirname(os.path.dirname(os.path.abspath(__file__))))
 
-import calls  # noqa: E402
+from tests.support import calls  # noqa: E402
 
 AT = '1700000000000'
-LAYOUT = ('kind,id,from,to\nnode,N1,,\nnode,N2,,\nnode,N3,,\nedge,E12,N1,N2\nedge,E21,N2,N1\nedge,E23,N2,N3\nedge,E32,N3,N2\n'
-          'station,A,N1,999\nstation,B,N3,999\n')
-START = [calls.layout(LAYOUT).to_bytes(), calls.vehicle('0001', 'N1').to_bytes(), calls.state(1).to_bytes()]
+LAYOUT = (
+    'kind,id,from,to\nnode,N1,,\nnode,N2,,\nnode,N3,,\nedge,E12,N1,N2\nedge,E21,N2,N1\nedge,E23,'
+    'N2,N3\nedge,E32,N3,N2\n'
+    'station,A,N1,999\nstation,B,N3,999\n'
+)
+START = [
+    calls.layout(LAYOUT).to_bytes(),
+    calls.vehicle('0001', 'N1').to_bytes(),
+    calls.state(1).to_bytes(),
+]
 
 
 def nodes_ahead(*nodes):
@@ -28,11 +36,13 @@ class Rounds:
 
     def next_state(self, order='', update=0, node='N1', sequence=0, statuses=(), ahead=()):
         self.header += 1
-        return calls.state(self.header, order, update, node, sequence, statuses, nodeStates=nodes_ahead(*ahead))
+        return calls.state(
+            self.header, order, update, node, sequence, statuses, nodeStates=nodes_ahead(*ahead)
+        )
 
     def next_instant(self):
         self.instant += 1
-        return 'instant-%d' % self.instant
+        return f'instant-{self.instant}'
 
     def round(self):
         for what, call in self.calls():
@@ -41,8 +51,8 @@ class Rounds:
     def calls(self):
         self.number += 1
         n = self.number
-        load, job, stopped, back = 'A%06d' % n, 'P%06d' % n, 'Q%06d' % n, 'R%06d' % n
-        order, second = 'O%06d' % n, 'T%06d' % n
+        load, job, stopped, back = f'A{n:06d}', f'P{n:06d}', f'Q{n:06d}', f'R{n:06d}'
+        order, second = f'O{n:06d}', f'T{n:06d}'
         picked, dropped = (order + '.0', 'FINISHED'), (order + '.1', 'FINISHED')
         yield 'register a load', calls.load(load, 'A')
         yield 'add a job', calls.job(stopped, load, 'B')
@@ -53,7 +63,9 @@ class Rounds:
         yield 'a state: picked', self.next_state(order, statuses=[picked], ahead=[('N2', 2)])
         yield 'release an edge more', calls.advance(order, 1, 1)
         waits = order + '.1', 'WAITING'
-        yield 'a state: at the next node', self.next_state(order, 1, 'N2', 2, [picked, waits], [('N3', 4)])
+        yield 'a state: at the next node', self.next_state(
+            order, 1, 'N2', 2, [picked, waits], [('N3', 4)]
+        )
         ended = self.next_state(order, 1, 'N3', 4, [picked, dropped])
         yield 'a state: dropped, the order ends', ended
         yield 'the same state again', ended
@@ -61,29 +73,41 @@ class Rounds:
         yield 'start an order', calls.order(second, back, 1)
         yield 'cancel an order', calls.instant('cancel')
         cancelled = self.next_instant(), 'FINISHED'
-        yield 'a state: the cancel is done', self.next_state(second, node='N3', statuses=[cancelled], ahead=[('N2', 2)])
-        yield 'correct a load', calls.correct(load, 'C%06d' % n)
+        yield 'a state: the cancel is done', self.next_state(
+            second, node='N3', statuses=[cancelled], ahead=[('N2', 2)]
+        )
+        yield 'correct a load', calls.correct(load, f'C{n:06d}')
         yield 'get a load', calls.get_load(load)
         yield 'get a vehicle', calls.get_vehicle()
-        yield 'a load leaves', calls.leave(load, 'D%06d' % n)
-        yield 'place a vehicle', calls.place('E%06d' % n, 'N1')
+        yield 'a load leaves', calls.leave(load, f'D{n:06d}')
+        yield 'place a vehicle', calls.place(f'E{n:06d}', 'N1')
         yield 'pause', calls.instant('pause')
         yield 'get an instantActions message', calls.get_instant()
-        yield 'a state: the pause is done', self.next_state(second, statuses=[(self.next_instant(), 'FINISHED')])
+        yield 'a state: the pause is done', self.next_state(
+            second, statuses=[(self.next_instant(), 'FINISHED')]
+        )
         yield 'resume', calls.instant('resume')
-        yield 'a state: resumed', self.next_state(second, statuses=[(self.next_instant(), 'FINISHED')])
+        yield 'a state: resumed', self.next_state(
+            second, statuses=[(self.next_instant(), 'FINISHED')]
+        )
         yield 'begin anew', calls.resync()
         yield 'a state without an order', self.next_state()
-        yield 'stocktake of two stations', calls.stocktake('F%06d' % n, [('A', ''), ('B', '')])
+        yield 'stocktake of two stations', calls.stocktake(f'F{n:06d}', [('A', ''), ('B', '')])
 
 
 def fill(name, count):
-    """Puts so many loads at the checking place into a desk's file, with a job each that has ended, as its rows."""
+    """Puts so many loads at the checking place into a desk's file, with a job each that has ended,
+    as its rows."""
     base = sqlite3.connect(name)
     base.execute('PRAGMA synchronous = OFF')
     have = base.execute('SELECT count(*) FROM load').fetchone()[0]
     with base:
-        base.executemany("INSERT INTO load (id, kind) VALUES (?, 'checking')", (('L%07d' % i,) for i in range(have, count)))
-        base.executemany("INSERT INTO job (id, load, origin, target, phase) VALUES (?, ?, 'A', 'B', 'done')",
-                         (('J%07d' % i, 'L%07d' % i) for i in range(have, count)))
+        base.executemany(
+            "INSERT INTO load (id, kind) VALUES (?, 'checking')",
+            ((f'L{i:07d}',) for i in range(have, count)),
+        )
+        base.executemany(
+            "INSERT INTO job (id, load, origin, target, phase) VALUES (?, ?, 'A', 'B', 'done')",
+            ((f'J{i:07d}', f'L{i:07d}') for i in range(have, count)),
+        )
     base.close()

@@ -1,10 +1,13 @@
-"""Measures each kind of call over `serve` on a file with 1,000, 100,000 and 999,000 loads at the checking place and as many jobs that have
-ended: the wall time from the last byte of the request written to the answer read, the median of some rounds, and the instructions of the
-program for it, by `replay` on the file. Beside, in the same run and on copies of the same files, the statements that the desk carries out
-for the call (bench/statements.txt; the layout, the room at stations, open trips and the rows of vehicles are kept in memory, so that some
-calls have none) by the SQLite of C (bench/plain_calls.c; WAL, synchronous=FULL, each text prepared once). Besides the time and the memory of an
-opening, and the time in which C reads all rows of the tables. The layout and the vehicle are set once, and reports are in
-bench/many_loads.py. Python's standard library, gcc with SQLite's header and library, and valgrind.
+"""Measures each kind of call over `serve` on a file with 1,000, 100,000 and 999,000 loads at the
+checking place and as many jobs that have ended: the wall time from the last byte of the request
+written to the answer read, the median of some rounds, and the instructions of the program for it,
+by `replay` on the file. Beside, in the same run and on copies of the same files, the statements
+that the desk carries out for the call (bench/statements.txt; the layout, the room at stations, open
+trips and the rows of vehicles are kept in memory, so that some calls have none) by the SQLite of C
+(bench/plain_calls.c; WAL, synchronous=FULL, each text prepared once). Besides the time and the
+memory of an opening, and the time in which C reads all rows of the tables. The layout and the
+vehicle are set once, and reports are in bench/many_loads.py. Python's standard library, gcc with
+SQLite's header and library, and valgrind.
 
     DESK=crates/agv_app/out/agv_app python3 bench/statements.py [SIZE..]
 """
@@ -43,10 +46,15 @@ class Served:
 
     def __init__(self, name):
         begun = time.perf_counter()
-        self.desk = subprocess.Popen([DESK, 'serve', '--db', name, '--port', '0', '--connections', '1'], stdout=subprocess.PIPE)
+        self.desk = subprocess.Popen(
+            [DESK, 'serve', '--db', name, '--port', '0', '--connections', '1'],
+            stdout=subprocess.PIPE,
+        )
         line = self.desk.stdout.readline()
         self.opened = time.perf_counter() - begun
-        self.memory = int(re.search(r'VmHWM:\s+(\d+)', open('/proc/%d/status' % self.desk.pid).read()).group(1))
+        self.memory = int(
+            re.search(r'VmHWM:\s+(\d+)', open(f'/proc/{self.desk.pid}/status').read()).group(1)
+        )
         self.line = socket.create_connection(('127.0.0.1', int(line.rsplit(b':', 1)[1])))
         self.line.setsockopt(socket.IPPROTO_TCP, socket.TCP_NODELAY, 1)
 
@@ -56,7 +64,7 @@ class Served:
         answer = self.line.recv(131_072)
         spent = time.perf_counter() - begun
         if not answer.startswith((b'HTTP/1.1 200', b'HTTP/1.1 204')):
-            raise SystemExit('%s: %r' % (what, answer))
+            raise SystemExit(f'{what}: {answer!r}')
         return spent
 
     def close(self):
@@ -74,7 +82,11 @@ def times(name):
             if turn >= 5:
                 found.setdefault(what, []).append(spent)
     desk.close()
-    return {what: statistics.median(spent) for what, spent in found.items()}, desk.opened, desk.memory
+    return (
+        {what: statistics.median(spent) for what, spent in found.items()},
+        desk.opened,
+        desk.memory,
+    )
 
 
 def totals(folder, mark):
@@ -88,8 +100,9 @@ def totals(folder, mark):
 
 
 def instructions(name, folder):
-    """The instructions of each kind of call, the mean of a round's, behind four rounds: from the moment at which the desk looks which
-    call it is to that of the next one, each sent when the one before it was answered."""
+    """The instructions of each kind of call, the mean of a round's, behind four rounds: from the
+    moment at which the desk looks which call it is to that of the next one, each sent when the one
+    before it was answered."""
     out = os.path.join(folder, 'desk.callgrind')
     calls, asked = rounds.Rounds(), []
     for _ in range(5):
@@ -97,14 +110,29 @@ def instructions(name, folder):
         asked += calls.round()
     last = len(asked)
     asked += calls.round()
-    desk = subprocess.Popen(['valgrind', '-q', '--tool=callgrind', '--dump-before=agv_face::call::call_in*', '--callgrind-out-file=' + out, DESK,
-                             'replay', '--db', name, '--at', rounds.AT], stdin=subprocess.PIPE, stdout=subprocess.PIPE)
+    desk = subprocess.Popen(
+        [
+            'valgrind',
+            '-q',
+            '--tool=callgrind',
+            '--dump-before=agv_face::call::call_in*',
+            '--callgrind-out-file=' + out,
+            DESK,
+            'replay',
+            '--db',
+            name,
+            '--at',
+            rounds.AT,
+        ],
+        stdin=subprocess.PIPE,
+        stdout=subprocess.PIPE,
+    )
     for what, bytes_ in asked:
         desk.stdin.write(bytes_)
         desk.stdin.flush()
         answer = os.read(desk.stdout.fileno(), 131_072)
         if not answer.startswith((b'HTTP/1.1 200', b'HTTP/1.1 204')):
-            raise SystemExit('%s: %r' % (what, answer))
+            raise SystemExit(f'{what}: {answer!r}')
     desk.stdin.close()
     desk.wait()
     desk.stdout.close()
@@ -117,14 +145,32 @@ def instructions(name, folder):
 
 
 def plain_times(plain, name, statements=os.path.join(HERE, 'statements.txt'), turns=TURNS):
-    done = subprocess.run([plain, name, statements, str(turns)], capture_output=True, check=True, text=True)
-    return {what: float(spent) for what, spent in (line.rsplit(None, 1) for line in done.stdout.splitlines())}
+    done = subprocess.run(
+        [plain, name, statements, str(turns)], capture_output=True, check=True, text=True
+    )
+    return {
+        what: float(spent)
+        for what, spent in (line.rsplit(None, 1) for line in done.stdout.splitlines())
+    }
 
 
 def plain_instructions(plain, name, folder):
     out = os.path.join(folder, 'plain.callgrind')
-    done = subprocess.run(['valgrind', '-q', '--tool=callgrind', '--callgrind-out-file=' + out, plain, name,
-                           os.path.join(HERE, 'statements.txt'), '2'], capture_output=True, check=True, text=True)
+    done = subprocess.run(
+        [
+            'valgrind',
+            '-q',
+            '--tool=callgrind',
+            '--callgrind-out-file=' + out,
+            plain,
+            name,
+            os.path.join(HERE, 'statements.txt'),
+            '2',
+        ],
+        capture_output=True,
+        check=True,
+        text=True,
+    )
     kinds = [line.rsplit(None, 1)[0] for line in done.stdout.splitlines()]
     found = {}
     for path in glob.glob(out + '*'):
@@ -154,13 +200,41 @@ def main():
     sizes = [int(word) for word in sys.argv[1:]] or [1_000, 100_000, 999_000]
     with tempfile.TemporaryDirectory() as folder:
         plain = os.path.join(folder, 'plain')
-        subprocess.run(['gcc', '-O2', '-o', plain, os.path.join(HERE, 'plain_calls.c'), '-lsqlite3'], check=True)
+        subprocess.run(
+            ['gcc', '-O2', '-o', plain, os.path.join(HERE, 'plain_calls.c'), '-lsqlite3'],
+            check=True,
+        )
         start = os.path.join(folder, 'start.db')
-        subprocess.run([DESK, 'replay', '--db', start, '--at', rounds.AT], input=b''.join(rounds.START), stdout=subprocess.DEVNULL, check=True)
+        subprocess.run(
+            [DESK, 'replay', '--db', start, '--at', rounds.AT],
+            input=b''.join(rounds.START),
+            stdout=subprocess.DEVNULL,
+            check=True,
+        )
         tables = os.path.join(folder, 'tables.txt')
         with open(tables, 'w') as file:
-            file.write('= opening\n' + ''.join('SELECT * FROM %s\n' % name for name in (
-                'meta', 'node', 'edge', 'station', 'vehicle', 'trip', 'leg', 'load', 'job', 'hold', 'used', 'capacity', 'journey', 'act')))
+            file.write(
+                '= opening\n'
+                + ''.join(
+                    f'SELECT * FROM {name}\n'
+                    for name in (
+                        'meta',
+                        'node',
+                        'edge',
+                        'station',
+                        'vehicle',
+                        'trip',
+                        'leg',
+                        'load',
+                        'job',
+                        'hold',
+                        'used',
+                        'capacity',
+                        'journey',
+                        'act',
+                    )
+                )
+            )
         for size in sizes:
             rounds.fill(start, size)
             run = os.path.join(folder, 'run.db')
@@ -169,12 +243,27 @@ def main():
             read = plain_times(plain, copied(start, run), tables, 1)['opening']
             counts = instructions(copied(start, run), folder)
             plain_counts = plain_instructions(plain, copied(start, run), folder)
-            print('%d loads and ended jobs: opened in %.2f s, %d MB; SQLite reads the rows in %.2f s' % (size, opened, memory // 1024, read))
-            print('%-34s %10s %10s %6s %12s %12s' % ('', 'desk, us', 'SQLite, us', 'times', 'desk, instr.', 'SQLite'))
+            print(
+                f'{size} loads and ended jobs: opened in {opened:.2f} s, {memory // 1024} MB;'
+                f' SQLite reads the rows in {read:.2f} s'
+            )
+            print(
+                f'{""!s:<34} {"desk, us"!s:>10} {"SQLite, us"!s:>10} {"times"!s:>6} '
+                f'{"desk, instr."!s:>12} {"SQLite"!s:>12}'
+            )
             for what in ours:
-                print('%-34s %10.0f %10.0f %6s %12d %12d' % (what, ours[what] * 1e6, theirs[what] * 1e6,
-                                                            '%.2f' % (ours[what] / theirs[what]) if what in stated else '-',
-                                                            counts[what], plain_counts.get(what, 0)), flush=True)
+                print(
+                    '%-34s %10.0f %10.0f %6s %12d %12d'
+                    % (
+                        what,
+                        ours[what] * 1e6,
+                        theirs[what] * 1e6,
+                        f'{ours[what] / theirs[what]:.2f}' if what in stated else '-',
+                        counts[what],
+                        plain_counts.get(what, 0),
+                    ),
+                    flush=True,
+                )
             remove(run)
 
 

@@ -1,5 +1,5 @@
-"""Times streams of requests through the built program, and counts the instructions of one request. Python's standard library
-alone; valgrind for the counts.
+"""Times streams of requests through the built program, and counts the instructions of one request.
+Python's standard library alone; valgrind for the counts.
 
     DESK=crates/agv_app/out/agv_app python3 bench/streams.py
 """
@@ -13,18 +13,21 @@ import time
 import http.client
 
 HERE = os.path.dirname(os.path.abspath(__file__))
-sys.path.insert(0, os.path.join(HERE, '..', 'tests'))
+sys.path.insert(0, os.path.join(HERE, '..'))
 
-import calls  # noqa: E402
+from tests.support import calls  # noqa: E402
 
 DESK = os.path.abspath(os.environ.get('DESK', os.path.join(HERE, '..', 'build', 'desk')))
 PLAIN = os.path.join(HERE, 'plain_desk.py')
 AT = '1700000000000'
-LAYOUT = 'kind,id,from,to\nnode,N1,,\nnode,N2,,\nnode,N3,,\nedge,E12,N1,N2\nedge,E21,N2,N1\nedge,E23,N2,N3\nedge,E32,N3,N2\nstation,A,N1,999\nstation,B,N3,999\n'
+LAYOUT = (
+    'kind,id,from,to\nnode,N1,,\nnode,N2,,\nnode,N3,,\nedge,E12,N1,N2\nedge,E21,N2,N1\n'
+    'edge,E23,N2,N3\nedge,E32,N3,N2\nstation,A,N1,999\nstation,B,N3,999\n'
+)
 
 
 def load(number):
-    return calls.load('L%07d' % number).to_bytes()
+    return calls.load(f'L{number:07d}').to_bytes()
 
 
 def state(number):
@@ -57,13 +60,27 @@ def best(words, stdin, fresh=None, turns=3):
 
 
 def instructions(stdin, db):
-    done = subprocess.run(['valgrind', '--tool=callgrind', '--callgrind-out-file=/dev/null', DESK, 'replay', '--db', db, '--at', AT],
-                          input=stdin, capture_output=True)
+    done = subprocess.run(
+        [
+            'valgrind',
+            '--tool=callgrind',
+            '--callgrind-out-file=/dev/null',
+            DESK,
+            'replay',
+            '--db',
+            db,
+            '--at',
+            AT,
+        ],
+        input=stdin,
+        capture_output=True,
+    )
     return int(re.search(rb'Collected : (\d+)', done.stderr).group(1))
 
 
 def counted(name, before, requests, folder):
-    """The instructions of one request: of a hundred more of them, by a hundred; in memory and in a file."""
+    """The instructions of one request: of a hundred more of them, by a hundred; in memory and in a
+    file."""
     for db in ('memory', os.path.join(folder, 'counted.db')):
         figures = []
         for count in (100, 200):
@@ -72,17 +89,24 @@ def counted(name, before, requests, folder):
                     if os.path.exists(db + end):
                         os.remove(db + end)
             figures.append(instructions(before + b''.join(requests[:count]), db))
-        print('%-24s %-7s %9d instructions' % (name, 'memory' if db == 'memory' else 'file', (figures[1] - figures[0]) // 100), flush=True)
+        print(
+            (
+                f'{name!s:<24} {"memory" if db == "memory" else "file"!s:<7} '
+                f'{(figures[1] - figures[0]) // 100:9d} instructions'
+            ),
+            flush=True,
+        )
 
 
 def sockets(words, count):
-    """The seconds in which a desk answers so many registrations over one connection, the client's own time among them."""
+    """The seconds in which a desk answers so many registrations over one connection, the client's
+    own time among them."""
     desk = subprocess.Popen(words, stdout=subprocess.PIPE)
     port = int(desk.stdout.readline().split(b':')[1])
     connection = http.client.HTTPConnection('127.0.0.1', port)
     begun = time.perf_counter()
     for number in range(count):
-        connection.request('POST', '/loads', json.dumps({'load': 'L%07d' % number}))
+        connection.request('POST', '/loads', json.dumps({'load': f'L{number:07d}'}))
         connection.getresponse().read()
     spent = time.perf_counter() - begun
     connection.close()
@@ -91,20 +115,53 @@ def sockets(words, count):
     return spent
 
 
-
 with tempfile.TemporaryDirectory() as folder:
     file = os.path.join(folder, 'desk.db')
     plain = os.path.join(folder, 'plain.db')
     for count, where in ((20_000, 'memory'), (2_000, 'file')):
         stdin = mixed(count)
-        ours, out = best([DESK, 'replay', '--db', 'memory' if where == 'memory' else file, '--at', AT], START + stdin, file)
-        theirs, plain_out = best([sys.executable, PLAIN, ':memory:' if where == 'memory' else plain, AT], START + stdin, plain)
+        ours, out = best(
+            [DESK, 'replay', '--db', 'memory' if where == 'memory' else file, '--at', AT],
+            START + stdin,
+            file,
+        )
+        theirs, plain_out = best(
+            [sys.executable, PLAIN, ':memory:' if where == 'memory' else plain, AT],
+            START + stdin,
+            plain,
+        )
         if out.count(b'200 OK') - 2 != count or plain_out != out:
             sys.exit('not all requests were answered 200, and alike')
-        print('%6d mixed requests, %-6s  desk %7.3f s, plain desk %7.3f s' % (count, where, ours, theirs), flush=True)
-    ours = sockets([DESK, 'serve', '--db', os.path.join(folder, 'served.db'), '--port', '0', '--connections', '1'], 2_000)
-    theirs = sockets([sys.executable, PLAIN, os.path.join(folder, 'plain_served.db'), AT, '0'], 2_000)
-    print('%6d registrations over one connection, file: desk %d requests a second, plain desk %d' % (2_000, 2_000 / ours, 2_000 / theirs), flush=True)
+        print(
+            (
+                f'{count:6d} mixed requests, {where!s:<6}  desk {ours:7.3f} s, plain desk'
+                f' {theirs:7.3f} s'
+            ),
+            flush=True,
+        )
+    ours = sockets(
+        [
+            DESK,
+            'serve',
+            '--db',
+            os.path.join(folder, 'served.db'),
+            '--port',
+            '0',
+            '--connections',
+            '1',
+        ],
+        2_000,
+    )
+    theirs = sockets(
+        [sys.executable, PLAIN, os.path.join(folder, 'plain_served.db'), AT, '0'], 2_000
+    )
+    print(
+        (
+            f'{2_000:6d} registrations over one connection, file: desk {2_000 / ours:.0f} requests'
+            f' a second, plain desk {2_000 / theirs:.0f}'
+        ),
+        flush=True,
+    )
     counted('registration', START, [load(i) for i in range(200)], folder)
     counted('state', START, [state(i + 1) for i in range(200)], folder)
     begun = calls.load('L1', 'A'), calls.job('J1', 'L1', 'B'), calls.order('O1', 'J1', 1)

@@ -1,1 +1,2 @@
-"""A simulated plant: vehicles, gateways, people, and what is truly where. Python's standard library and `tools/nulvrader`."""
+"""A simulated plant: vehicles, gateways, people, and what is truly where. Python's standard library
+and `tools/nulvrader`."""

@@ -8,8 +8,8 @@ from collections.abc import Callable
 
 
 class Clock:
-    """What is to happen, by its moment. With a `pace` so many seconds of the plant go by in one of real time at most; without, it runs
-    as fast as it can."""
+    """What is to happen, by its moment. With a `pace` so many seconds of the plant go by in one of
+    real time at most; without, it runs as fast as it can."""
 
     def __init__(self, pace: float | None = None) -> None:
         self.now = 0.0

@@ -23,28 +23,42 @@ class Day:
     done: int = 0
     stopped: dict[str, str] = field(default_factory=dict)  # by job why
     stands: str | None = None  # where the plant stood for good: who waits for what
-    waited: dict[str, float] = field(default_factory=dict)  # by vehicle, with an order and nothing to do
+    waited: dict[str, float] = field(
+        default_factory=dict
+    )  # by vehicle, with an order and nothing to do
     ordered: dict[str, float] = field(default_factory=dict)  # by vehicle, with an order
     longest: float = 0.0
-    long: dict[tuple[str, float], tuple[float, str]] = field(default_factory=dict)  # by vehicle and beginning how long, and why at last
+    long: dict[tuple[str, float], tuple[float, str]] = field(
+        default_factory=dict
+    )  # by vehicle and beginning how long, and why at last
     circle: float = 0.0  # how long vehicles waited for each other at most
     counts: Counter[str] = field(default_factory=Counter)
-    cancels: list[str] = field(default_factory=list)  # the dispatcher's lines on orders that it cancels
-    shut: dict[tuple[str, float], tuple[float, str]] = field(default_factory=dict)  # by vehicle and beginning how long it was shut in, and why
+    cancels: list[str] = field(
+        default_factory=list
+    )  # the dispatcher's lines on orders that it cancels
+    shut: dict[tuple[str, float], tuple[float, str]] = field(
+        default_factory=dict
+    )  # by vehicle and beginning how long it was shut in, and why
 
     def made(self) -> list[str]:
-        """The vehicles that were shut in by the dispatcher itself, or nobody knows why, for longer than it takes the dispatcher to see that
-        it was a look that was too short; and the orders that it cancelled for that."""
+        """The vehicles that were shut in by the dispatcher itself, or nobody knows why, for longer
+        than it takes the dispatcher to see that it was a look that was too short; and the orders
+        that it cancelled for that."""
         by_itself = BEFORE, BY_ITSELF
-        found = self.longest_shut_in(lambda seconds, why: why in by_itself and seconds > SHUT_IN + 5)
+        found = self.longest_shut_in(
+            lambda seconds, why: why in by_itself and seconds > SHUT_IN + 5
+        )
         return [*found, *(line for line in self.cancels if line.endswith(by_itself))]
 
-    def longest_shut_in(self, which: Callable[[float, str], bool] = lambda seconds, why: True) -> list[str]:
+    def longest_shut_in(
+        self, which: Callable[[float, str], bool] = lambda seconds, why: True
+    ) -> list[str]:
         """The times that vehicles were shut in, in lines, the longest first."""
         rows = sorted(self.shut.items(), key=lambda row: -row[1][0])
         return [
-            '%s was shut in for %.0f s from %.0f s on, %s' % (vehicle, seconds, since, why)
-            for (vehicle, since), (seconds, why) in rows if which(seconds, why)
+            f'{vehicle} was shut in for {seconds:.0f} s from {since:.0f} s on, {why}'
+            for (vehicle, since), (seconds, why) in rows
+            if which(seconds, why)
         ]
 
     def stopped_for(self, why: str) -> int:
@@ -68,4 +82,7 @@ class Day:
         """The longest wait and why it was, in lines, and the next of those that were long."""
         rows = sorted(self.long.items(), key=lambda row: -row[1][0])[:count]
         rows = [row for row in rows if row[1][0] >= min(LONG, self.longest)]
-        return ['%s waited for %.0f s from %.0f s on: %s' % (vehicle, seconds, since, why) for (vehicle, since), (seconds, why) in rows]
+        return [
+            f'{vehicle} waited for {seconds:.0f} s from {since:.0f} s on: {why}'
+            for (vehicle, since), (seconds, why) in rows
+        ]

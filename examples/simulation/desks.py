@@ -1,5 +1,5 @@
-"""The desk of a plant: the real program over a file, under a supervisor that starts it again whenever it ends; and a client that is
-quick, since a day is some millions of requests."""
+"""The desk of a plant: the real program over a file, under a supervisor that starts it again
+whenever it ends; and a client that is quick, since a day is some millions of requests."""
 from __future__ import annotations
 
 import contextlib
@@ -12,24 +12,26 @@ import subprocess
 import threading
 from collections.abc import Iterator
 
-from nulvrader.client import Answer, Desk, NoAnswer
-from nulvrader.machine import free_port
+from nulvrader.desk.client import Answer, Desk, NoAnswer
+from nulvrader.file.machine import free_port
 
 from .truth import Wrong
 
 # How many seconds the desk of a plant has for an answer: a busy machine is no fault.
 PATIENCE = 120.0
 
-# A desk that was sent a signal ends with one of these. With any other status it has ended by itself.
+# A desk that was sent a signal ends with one of these. With any other status it has ended by
+# itself.
 SENT = -signal.SIGKILL, -signal.SIGTERM
 
 LENGTH = re.compile(rb'\r\nContent-Length: (\d+)')
 
 
 class Wire:
-    """One connection to a desk for all clients of a plant, since a desk serves one at a time; after a fault the next request makes a
-    new one. It reads no more of an answer's head than its status and length: all that the client of tools/ does for proxies would
-    take about as long as the desk takes for a request."""
+    """One connection to a desk for all clients of a plant, since a desk serves one at a time; after
+    a fault the next request makes a new one. It reads no more of an answer's head than its status
+    and length: all that the client of tools/ does for proxies would take about as long as the desk
+    takes for a request."""
 
     def __init__(self, port: int) -> None:
         self.port = port
@@ -37,14 +39,16 @@ class Wire:
         self._data = b''
 
     def ask(self, method: str, target: str, body: bytes | None) -> Answer:
-        length = 'Content-Length: %d\r\n' % len(body or b'') if method in ('PUT', 'POST') else ''
+        length = f'Content-Length: {len(body or b"")}\r\n' if method in ('PUT', 'POST') else ''
         sent = False
         try:
             if self._socket is None:
                 self._socket = socket.create_connection(('127.0.0.1', self.port), PATIENCE)
                 self._socket.setsockopt(socket.IPPROTO_TCP, socket.TCP_NODELAY, 1)
             sent = True
-            self._socket.sendall(('%s %s HTTP/1.1\r\n%s\r\n' % (method, target, length)).encode() + (body or b''))
+            self._socket.sendall(
+                (f'{method} {target} HTTP/1.1\r\n{length}\r\n').encode() + (body or b'')
+            )
             return self._answer()
         except OSError as fault:
             self.close()
@@ -78,7 +82,7 @@ class Wired(Desk):
     """A client over a wire."""
 
     def __init__(self, wire: Wire) -> None:
-        super().__init__('127.0.0.1:%d' % wire.port)
+        super().__init__(f'127.0.0.1:{wire.port}')
         self.wire = wire
 
     def ask(self, method: str, target: str, body: bytes | None = None) -> Answer:
@@ -101,16 +105,27 @@ class Served:
 
     @property
     def address(self) -> str:
-        return '127.0.0.1:%d' % self.port
+        return f'127.0.0.1:{self.port}'
 
     def start(self) -> None:
         """Starts it, and waits until it listens."""
-        words = [self.program, 'serve', '--db', self.db, '--port', str(self.port), '--connections', '4294967295']
-        self.process = subprocess.Popen(words, stdout=subprocess.PIPE, stderr=subprocess.PIPE, text=True)
+        words = [
+            self.program,
+            'serve',
+            '--db',
+            self.db,
+            '--port',
+            str(self.port),
+            '--connections',
+            '4294967295',
+        ]
+        self.process = subprocess.Popen(
+            words, stdout=subprocess.PIPE, stderr=subprocess.PIPE, text=True
+        )
         assert self.process.stdout is not None and self.process.stderr is not None
         line = self.process.stdout.readline()
         if not re.fullmatch(r'listening on 127\.0\.0\.1:\d+\n', line):
-            raise Wrong('the desk does not start: %s' % (line + self.process.stderr.read()).strip())
+            raise Wrong(f'the desk does not start: {(line + self.process.stderr.read()).strip()}')
         self.starts += 1
 
     def supervise(self) -> None:
@@ -120,7 +135,10 @@ class Served:
             return
         assert self.process.stderr is not None
         if status not in SENT:
-            raise Wrong('the desk ended by itself: status %d, and it said: %s' % (status, self.process.stderr.read().strip()))
+            raise Wrong(
+                f'the desk ended by itself: status {status}, and it said:'
+                f' {self.process.stderr.read().strip()}'
+            )
         self._close()
         self.start()
 
@@ -150,17 +168,23 @@ class Served:
             self._close()
 
     def _close(self) -> None:
-        assert self.process is not None and self.process.stdout is not None and self.process.stderr is not None
+        assert (
+            self.process is not None
+            and self.process.stdout is not None
+            and self.process.stderr is not None
+        )
         self.process.stdout.close()
         self.process.stderr.close()
         self.process = None
 
     def report(self, name: str) -> bytes:
-        """What the program reports of the file, once it is stopped. That it does shows that the file is lawful: the program reads
-        every row first, and ends where they break a rule."""
-        done = subprocess.run([self.program, 'report', '--db', self.db, name], capture_output=True, timeout=600)
+        """What the program reports of the file, once it is stopped. That it does shows that the
+        file is lawful: the program reads every row first, and ends where they break a rule."""
+        done = subprocess.run(
+            [self.program, 'report', '--db', self.db, name], capture_output=True, timeout=600
+        )
         if done.returncode:
-            raise Wrong('the file is not lawful: %s' % done.stderr.decode().strip())
+            raise Wrong(f'the file is not lawful: {done.stderr.decode().strip()}')
         return done.stdout
 
     def is_there(self) -> bool:

@@ -3,15 +3,15 @@ from __future__ import annotations
 
 from dataclasses import dataclass, field
 
-from nulvrader.layouts import Edge, Layout, Station, of_parts
+from nulvrader.common.layouts import Edge, Layout, Station, of_parts
 
 STREET, SIDING, TRACK = 8.0, 4.0, 10.0
 
 
 @dataclass
 class Floor:
-    """A layout under construction. `bays` are the nodes with a station at the end of a siding of their own, where a vehicle stands in
-    nobody's way."""
+    """A layout under construction. `bays` are the nodes with a station at the end of a siding of
+    their own, where a vehicle stands in nobody's way."""
 
     nodes: list[str] = field(default_factory=list)
     edges: list[Edge] = field(default_factory=list)
@@ -23,7 +23,7 @@ class Floor:
         return of_parts(self.nodes, self.edges, self.stations)
 
     def one_way(self, start: str, finish: str, metres: float) -> None:
-        name = '%s.%s' % (start, finish)
+        name = f'{start}.{finish}'
         self.edges.append(Edge(name, start, finish))
         self.metres[name] = metres
 
@@ -32,8 +32,9 @@ class Floor:
         self.one_way(b, a, metres)
 
     def ring(self, front: str, size: int, room: int, bay_every: int) -> None:
-        """A street that is passed one way, `N00` to the last and back, and at every so many nodes a bay with a station."""
-        names = ['%s%02d' % (front, n) for n in range(size)]
+        """A street that is passed one way, `N00` to the last and back, and at every so many nodes a
+        bay with a station."""
+        names = [f'{front}{n:02d}' for n in range(size)]
         self.nodes += names
         for here, after in zip(names, names[1:] + names[:1]):
             self.one_way(here, after, STREET)
@@ -45,10 +46,11 @@ class Floor:
             self.bays.append(bay)
 
     def spur(self, at: str, length: int, room: int) -> None:
-        """A dead end of so many nodes in a row, with a station at each but the first: who is at its end comes out last."""
+        """A dead end of so many nodes in a row, with a station at each but the first: who is at its
+        end comes out last."""
         before = at
         for n in range(length):
-            node = '%sx%d' % (at, n)
+            node = f'{at}x{n}'
             self.nodes.append(node)
             self.two_way(before, node, SIDING)
             if n:
@@ -56,11 +58,11 @@ class Floor:
             before = node
 
     def single_track(self, front: str, a: str, b: str, length: int) -> None:
-        """A track between two nodes that is passed both ways, with a passing place in its middle: there the way to b is one node and
-        the way back another."""
+        """A track between two nodes that is passed both ways, with a passing place in its middle:
+        there the way to b is one node and the way back another."""
         half = length // 2
-        left = [a, *('%s%02d' % (front, n) for n in range(half))]
-        right = [*('%s%02d' % (front, n) for n in range(half, length)), b]
+        left = [a, *(f'{front}{n:02d}' for n in range(half))]
+        right = [*(f'{front}{n:02d}' for n in range(half, length)), b]
         there, back = front + 'there', front + 'back'
         self.nodes += [*left[1:], *right[:-1], there, back]
         for row in (left, right):
@@ -72,7 +74,8 @@ class Floor:
 
 
 def large() -> Floor:
-    """For twenty vehicles: three one-way rings, joined by single track with passing places, and dead ends on each."""
+    """For twenty vehicles: three one-way rings, joined by single track with passing places, and
+    dead ends on each."""
     floor = Floor()
     for front in 'NMS':
         floor.ring(front, 24, 12, 2)
@@ -86,7 +89,8 @@ def large() -> Floor:
 
 
 def small() -> Floor:
-    """For five vehicles: two one-way rings, joined by one single track with a passing place, and a dead end."""
+    """For five vehicles: two one-way rings, joined by one single track with a passing place, and a
+    dead end."""
     floor = Floor()
     floor.ring('N', 10, 6, 2)
     floor.ring('S', 8, 6, 2)

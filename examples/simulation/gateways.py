@@ -1,11 +1,12 @@
-"""The gateway of a simulated vehicle: it posts states and fetches messages, over a line that loses, repeats and delays some."""
+"""The gateway of a simulated vehicle: it posts states and fetches messages, over a line that loses,
+repeats and delays some."""
 from __future__ import annotations
 
 import random
 from collections.abc import Callable
 from typing import Any
 
-from nulvrader.client import Desk, NoAnswer, Refused
+from nulvrader.desk.client import Desk, NoAnswer, Refused
 
 from .clock import Clock
 from .plan import Line
@@ -20,13 +21,28 @@ class Gateway:
     """The gateway of one vehicle. `refused` takes what the desk refuses."""
 
     def __init__(
-        self, desk: Desk, clock: Clock, given: Given, line: Line, chance: random.Random, refused: Callable[[str], None]
+        self,
+        desk: Desk,
+        clock: Clock,
+        given: Given,
+        line: Line,
+        chance: random.Random,
+        refused: Callable[[str], None],
     ) -> None:
-        self.desk, self.clock, self.given, self.line, self.chance, self.refused = desk, clock, given, line, chance, refused
+        self.desk, self.clock, self.given, self.line, self.chance, self.refused = (
+            desk,
+            clock,
+            given,
+            line,
+            chance,
+            refused,
+        )
         self.vehicle: Vehicle | None = None
         self.up = True
         self.life = 0  # counts its restarts: what was under way before one is lost
-        self.handed: dict[tuple[str, int], float] = {}  # when a message was last handed to the vehicle
+        self.handed: dict[
+            tuple[str, int], float
+        ] = {}  # when a message was last handed to the vehicle
         self.posted = 0
 
     def serve(self, vehicle: Vehicle) -> None:
@@ -50,7 +66,9 @@ class Gateway:
             return
         life = self.life
         for _ in range(2 if self.chance.randrange(100) < self.line.twice else 1):
-            delay = self.chance.uniform(0, self.line.late if self.chance.randrange(50) == 0 else self.line.delay)
+            delay = self.chance.uniform(
+                0, self.line.late if self.chance.randrange(50) == 0 else self.line.delay
+            )
             self.clock.after(delay, lambda: what() if self.up and self.life == life else None)
 
     def tell(self) -> None:
@@ -67,13 +85,14 @@ class Gateway:
             if self.desk.post_state(self.vehicle.key, state) and life == self.vehicle.life:
                 self.vehicle.posted = state['headerId']
         except Refused as refusal:
-            self.refused('%s: %s: %s' % (self.vehicle.name, refusal.name, refusal))
+            self.refused(f'{self.vehicle.name}: {refusal.name}: {refusal}')
         except NoAnswer:
             pass
 
     def fetch(self, all_topics: bool) -> None:
-        """Fetches the order, and the instant action too where all topics are to be fetched, and hands over what the vehicle has not
-        named. One that has more to drive is not asked for in between."""
+        """Fetches the order, and the instant action too where all topics are to be fetched, and
+        hands over what the vehicle has not named. One that has more to drive is not asked for in
+        between."""
         if not self.up or self.vehicle is None or not (all_topics or self.vehicle.is_at_end()):
             return
         vehicle = self.vehicle
@@ -89,7 +108,9 @@ class Gateway:
         if instant is not None and instant['headerId'] > vehicle.instant_header:
             self.hand('instant', instant, vehicle.take_instant)
 
-    def hand(self, topic: str, message: dict[str, Any], take: Callable[[dict[str, Any]], None]) -> None:
+    def hand(
+        self, topic: str, message: dict[str, Any], take: Callable[[dict[str, Any]], None]
+    ) -> None:
         number = topic, int(message['headerId'])
         if self.clock.now - self.handed.get(number, -AGAIN) >= AGAIN:
             self.handed[number] = self.clock.now

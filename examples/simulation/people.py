@@ -1,6 +1,7 @@
-"""The people of a simulated plant. They add jobs, and now and then cancel an order, take a job back, count, and move a load by hand.
-They also put right what needs hands: a vehicle that left its order, a load on a vehicle without an order, a vehicle in the way. They
-drive a vehicle to where no order leads, as people look first."""
+"""The people of a simulated plant. They add jobs, and now and then cancel an order, take a job
+back, count, and move a load by hand. They also put right what needs hands: a vehicle that left its
+order, a load on a vehicle without an order, a vehicle in the way. They drive a vehicle to where no
+order leads, as people look first."""
 from __future__ import annotations
 
 import functools
@@ -9,9 +10,9 @@ import re
 from collections import Counter
 from collections.abc import Callable, Mapping
 
-from nulvrader.client import Desk, NoAnswer, Refused
-from nulvrader.layouts import Layout
-from nulvrader.reports import read_holds, read_stock
+from nulvrader.desk.client import Desk, NoAnswer, Refused
+from nulvrader.common.layouts import Layout
+from nulvrader.desk.reports import read_holds, read_stock
 
 from .clock import Clock
 from .plan import Habits
@@ -21,7 +22,8 @@ from .vehicles import Vehicle
 
 
 class People:
-    """All people together. `reasons` gets why jobs and orders end by them, and `say` what they do."""
+    """All people together. `reasons` gets why jobs and orders end by them, and `say` what they
+    do."""
 
     def __init__(
         self,
@@ -38,12 +40,32 @@ class People:
         reasons: Reasons,
         say: Callable[[str], None],
     ) -> None:
-        self.desk, self.clock, self.layout, self.goods, self.track, self.vehicles = desk, clock, layout, goods, track, vehicles
-        self.chance, self.habits, self.wanted, self.waits, self.reasons, self.say = chance, habits, jobs, waits, reasons, say
+        self.desk, self.clock, self.layout, self.goods, self.track, self.vehicles = (
+            desk,
+            clock,
+            layout,
+            goods,
+            track,
+            vehicles,
+        )
+        self.chance, self.habits, self.wanted, self.waits, self.reasons, self.say = (
+            chance,
+            habits,
+            jobs,
+            waits,
+            reasons,
+            say,
+        )
         self.added: dict[str, tuple[str, str]] = {}  # by job its load and target
-        self.trying: tuple[str, str, str] | None = None  # the job that is being added: where no answer came it is asked again
+        self.trying: tuple[
+            str, str, str
+        ] | None = None  # the job that is being added: where no answer came it is asked again
         self.counts: Counter[str] = Counter()
-        self.carried: set[str] = set()  # the loads whose correction may have been made, and which are still where they were
+        self.carried: set[
+            str
+        ] = (
+            set()
+        )  # the loads whose correction may have been made, and which are still where they were
         self.number = self.jobs_named = 0
         self.blocked: dict[str, float] = {}  # since when a vehicle stands in the way
 
@@ -55,7 +77,7 @@ class People:
 
     def reference(self) -> str:
         self.number += 1
-        return 'person-%d' % self.number
+        return f'person-{self.number}'
 
     # Jobs.
 
@@ -84,18 +106,35 @@ class People:
     def new_job(self) -> tuple[str, str, str] | None:
         if len(self.added) >= self.wanted:
             return None
-        places = {load: place for load, place in self.goods.places().items() if place.startswith('station ')}
+        places = {
+            load: place
+            for load, place in self.goods.places().items()
+            if place.startswith('station ')
+        }
         load = self.chance.choice(sorted(places))
         others = [name for name in self.layout.stations if 'station ' + name != places[load]]
         near = [name for name in others if name[0] == places[load].removeprefix('station ')[0]]
-        to = self.chance.choice(near if near and self.chance.random() < self.habits.near else others)
+        to = self.chance.choice(
+            near if near and self.chance.random() < self.habits.near else others
+        )
         self.jobs_named += 1
-        return 'job-%d' % self.jobs_named, load, to
+        return f'job-{self.jobs_named}', load, to
 
     # What they do by chance.
 
     def act_by_chance(self) -> None:
-        act = self.chance.choice((self.cancel, self.cancel, self.take_back, self.count, self.count, self.carry, self.drive_by_hand, self.pause))
+        act = self.chance.choice(
+            (
+                self.cancel,
+                self.cancel,
+                self.take_back,
+                self.count,
+                self.count,
+                self.carry,
+                self.drive_by_hand,
+                self.pause,
+            )
+        )
         try:
             act()
         except NoAnswer:
@@ -115,7 +154,7 @@ class People:
             with self.reasons.noted(self.reasons.orders, order, BY_PERSON):
                 self.desk.cancel(vehicle.key)
             self.counts['orders cancelled'] += 1
-            self.say('a person cancels order %s of %s' % (order, vehicle.name))
+            self.say(f'a person cancels order {order} of {vehicle.name}')
 
     def pause(self) -> None:
         vehicle = self.some_vehicle(True)
@@ -144,32 +183,43 @@ class People:
                 with self.reasons.noted(self.reasons.jobs, job, TAKEN_BACK):
                     self.desk.stop_job(job)
                 self.counts['jobs taken back'] += 1
-                self.say('a person takes %s back' % job)
+                self.say(f'a person takes {job} back')
                 return
 
     def count(self) -> None:
         """Counts some stations, as they truly are."""
         rows = ['station,load']
         for station in self.chance.sample(sorted(self.layout.stations), 3):
-            rows += ['%s,%s' % (station, load) for load in self.goods.at('station ' + station)] or ['%s,' % station]
+            rows += [f'{station},{load}' for load in self.goods.at('station ' + station)] or [
+                f'{station},'
+            ]
         self.desk.stocktake(self.reference(), ''.join(row + '\n' for row in rows).encode())
         self.counts['stocktakes'] += 1
 
     def carry(self) -> None:
-        """Carries a load without a job by hand to another station, and says so: the desk first, since it may refuse."""
-        loads = [load for load, place in self.goods.places().items() if place.startswith(('station ', 'checking'))]
+        """Carries a load without a job by hand to another station, and says so: the desk first,
+        since it may refuse."""
+        loads = [
+            load
+            for load, place in self.goods.places().items()
+            if place.startswith(('station ', 'checking'))
+        ]
         load = self.chance.choice(sorted(loads))
         self.put_at(load, self.goods.places()[load])
 
     def put_at(self, load: str, place: str) -> None:
         stock = read_stock(self.desk.stock_report())
-        room = [one.name for one in stock.stations.values() if len(one.loads) + one.reserved < one.capacity]
+        room = [
+            one.name
+            for one in stock.stations.values()
+            if len(one.loads) + one.reserved < one.capacity
+        ]
         station = self.chance.choice([name for name in room if 'station ' + name != place])
         self.correct(load, place, station, self.reference())
 
     def correct(self, load: str, place: str, station: str, ref: str, again: bool = False) -> None:
-        """Tells the desk that a load is carried to a station, and carries it once the desk has taken that. Where no answer came it is
-        asked again by the same reference."""
+        """Tells the desk that a load is carried to a station, and carries it once the desk has
+        taken that. Where no answer came it is asked again by the same reference."""
         self.carried.add(load)
         try:
             self.desk.correct_load(load, ref, station)
@@ -228,8 +278,8 @@ class People:
                 self.blocked.pop(vehicle.name, None)
 
     def bring_back(self, vehicle: Vehicle, restarted: float) -> None:
-        """A vehicle that was restarted is resynced and placed where it stands, as docs/OPERATE.md says; not before its older states
-        have come."""
+        """A vehicle that was restarted is resynced and placed where it stands, as docs/OPERATE.md
+        says; not before its older states have come."""
         if self.clock.now - restarted < 15:
             return
         self.desk.resync(vehicle.key)
@@ -242,25 +292,30 @@ class People:
         """Whether the dispatcher says so; where nobody hears it, whether nothing moves."""
         waits = self.waits()
         if waits is None:
-            return self.clock.now - max(one.last_moved for one in self.vehicles.values()) > self.habits.patience
-        return any(re.search(r'%s (stands )?at' % vehicle.name, why) for why in waits.values())
+            return (
+                self.clock.now - max(one.last_moved for one in self.vehicles.values())
+                > self.habits.patience
+            )
+        return any(re.search(fr'{vehicle.name} (stands )?at', why) for why in waits.values())
 
     def unload(self, vehicle: Vehicle, load: str) -> None:
-        """Takes a load off a vehicle whose order has ended, once the desk has it there and in no job."""
+        """Takes a load off a vehicle whose order has ended, once the desk has it there and in no
+        job."""
         told = self.desk.load(load)
         if told.job is None and told.place == 'vehicle ' + vehicle.name:
             self.put_at(load, told.place)
             self.counts['loads taken off vehicles'] += 1
 
     def take_over(self, vehicle: Vehicle, elsewhere: bool) -> None:
-        """Takes a vehicle into a person's hands, and places it, where it stands or at a free node where no order leads."""
+        """Takes a vehicle into a person's hands, and places it, where it stands or at a free node
+        where no order leads."""
         vehicle.by_hand = True
         vehicle.tell()
         self.clock.after(12, lambda: self.place(vehicle, elsewhere, self.reference()))
 
     def place(self, vehicle: Vehicle, elsewhere: bool, ref: str) -> None:
-        """Places it once the desk knows that it is not ready and what it has picked and put down, and it stands. It is lifted off the
-        floor until the desk has answered."""
+        """Places it once the desk knows that it is not ready and what it has picked and put down,
+        and it stands. It is lifted off the floor until the desk has answered."""
         try:
             row = self.desk.vehicle(vehicle.key)
             is_told = all(vehicle.has_told(load) for load in vehicle.moved)
@@ -281,9 +336,11 @@ class People:
         self.track.take_off(vehicle.name)
         self.put_down(vehicle, node, ref, row.order)
 
-    def put_down(self, vehicle: Vehicle, node: str, ref: str, order: str | None, again: bool = False) -> None:
-        """Tells the desk where the vehicle will stand, and sets it there. Where no answer came it is asked again by the same
-        reference."""
+    def put_down(
+        self, vehicle: Vehicle, node: str, ref: str, order: str | None, again: bool = False
+    ) -> None:
+        """Tells the desk where the vehicle will stand, and sets it there. Where no answer came it
+        is asked again by the same reference."""
         try:
             with self.reasons.noted(self.reasons.orders, order, PLACED):
                 self.desk.place(vehicle.key, ref, node)
@@ -300,16 +357,21 @@ class People:
         vehicle.clear()
         vehicle.node = node
         self.track.put(vehicle.name, node)
-        self.say('a person places %s at %s' % (vehicle.name, node))
+        self.say(f'a person places {vehicle.name} at {node}')
         self.clock.after(15, lambda: self.give_back(vehicle))
 
     def free_node(self) -> str | None:
-        """The node of a station which nobody holds, where no vehicle is, and where no order leads, as people look first. Only if there
-        is no such node it is one where an order leads."""
+        """The node of a station which nobody holds, where no vehicle is, and where no order leads,
+        as people look first. Only if there is no such node it is one where an order leads."""
         held = read_holds(self.desk.hold_report()).nodes
         nodes = {station.node for station in self.layout.stations.values()}
         free = sorted(node for node in nodes if node not in held and node not in self.track.nodes)
-        ahead = {node['nodeId'] for one in self.vehicles.values() if not one.is_done() for node in one.nodes.values()}
+        ahead = {
+            node['nodeId']
+            for one in self.vehicles.values()
+            if not one.is_done()
+            for node in one.nodes.values()
+        }
         best = [node for node in free if node not in ahead] or free
         return self.chance.choice(best) if best else None
 

@@ -1,4 +1,5 @@
-"""The plan of a plant: what it is, how its vehicles, lines and people are, and what goes wrong in it."""
+"""The plan of a plant: what it is, how its vehicles, lines and people are, and what goes wrong in
+it."""
 from __future__ import annotations
 
 from dataclasses import dataclass, replace
@@ -6,8 +7,10 @@ from dataclasses import dataclass, replace
 
 @dataclass(frozen=True)
 class Nature:
-    """How vehicles are: metres a second, how long an action takes (seconds, from .. to), how many of a thousand picks and drops fail,
-    and how many metres a battery lasts, behind which the vehicle is out of service for `service` seconds until it has another one."""
+    """How vehicles are: metres a second, how long an action takes (seconds, from .. to), how many
+    of a thousand picks and drops fail, and how many metres a battery lasts, behind which the
+    vehicle is out of service for `service` seconds until it has another one.
+    """
 
     speed: float = 1.6
     action: tuple[float, float] = (6.0, 14.0)
@@ -18,8 +21,10 @@ class Nature:
 
 @dataclass(frozen=True)
 class Habits:
-    """Seconds between two jobs that are added, two acts by chance and two looks at what needs hands; how many jobs wait at most; which part
-    of the jobs, from 0 to 1, stays on the ring of its load; and how long a vehicle stands in the way before somebody drives it away."""
+    """Seconds between two jobs that are added, two acts by chance and two looks at what needs
+    hands; how many jobs wait at most; which part of the jobs, from 0 to 1, stays on the ring of its
+    load; and how long a vehicle stands in the way before somebody drives it away.
+    """
 
     jobs: float = 2.0
     chance: float = 60.0
@@ -31,8 +36,10 @@ class Habits:
 
 @dataclass(frozen=True)
 class Trouble:
-    """Seconds between two kills of the desk, of the dispatcher and of a gateway, and two restarts of a vehicle. None: never. `people`:
-    whether people cancel, count and carry by chance. `away`: how long a gateway is away (seconds, from .. to)."""
+    """Seconds between two kills of the desk, of the dispatcher and of a gateway, and two restarts
+    of a vehicle. None: never. `people`: whether people cancel, count and carry by chance. `away`:
+    how long a gateway is away (seconds, from .. to).
+    """
 
     desk: float | None = 240.0
     dispatcher: float | None = 300.0
@@ -44,8 +51,9 @@ class Trouble:
 
 @dataclass(frozen=True)
 class Line:
-    """How a line is: of a hundred messages so many are lost, so many come twice, and each is late by so many seconds at most, some by
-    `late`. A vehicle posts a state at least every `beat` seconds."""
+    """How a line is: of a hundred messages so many are lost, so many come twice, and each is late
+    by so many seconds at most, some by `late`. A vehicle posts a state at least every `beat`
+    seconds."""
 
     lost: int = 3
     twice: int = 3
@@ -72,11 +80,15 @@ class Plan:
     habits: Habits = Habits()
     every: float = 1.0  # seconds between two turns of the dispatcher
     audit: float = 5.0  # seconds between two looks at what the desk holds
-    stands: float = 1800.0  # where no vehicle has moved for so many seconds although there are jobs, the plant stands for good
+    # where no vehicle has moved for so many seconds although there are jobs, the plant stands for
+    # good
+    stands: float = 1800.0
     circle: float = 120.0  # where vehicles have waited for each other for longer, it is wrong
     limit: float = 200_000.0  # seconds until the plant is given up
     pace: float | None = None
 
     def calm(self) -> Plan:
         """The same plant, in which nothing fails and nothing is killed."""
-        return replace(self, trouble=CALM, line=Line(lost=0, twice=0, late=0.4), nature=Nature(failing=0))
+        return replace(
+            self, trouble=CALM, line=Line(lost=0, twice=0, late=0.4), nature=Nature(failing=0)
+        )

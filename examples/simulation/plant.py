@@ -1,5 +1,5 @@
-"""A whole plant: a desk over a file, vehicles with their gateways, people, a dispatcher, and the truth. It ends once all jobs are done
-or stopped, or where something is `Wrong`."""
+"""A whole plant: a desk over a file, vehicles with their gateways, people, a dispatcher, and the
+truth. It ends once all jobs are done or stopped, or where something is `Wrong`."""
 from __future__ import annotations
 
 import random
@@ -10,11 +10,12 @@ from collections import Counter
 from collections.abc import Callable, Mapping
 from typing import Protocol
 
-from nulvrader.client import Desk, NoAnswer
+from nulvrader.desk.client import Desk, NoAnswer
 from nulvrader.dispatch.shut_in import BEFORE
-from nulvrader.names import VehicleKey
-from nulvrader.questions import who_waits
-from nulvrader.reports import Stock, read_holds, read_loads, read_stock
+from nulvrader.common.names import VehicleKey
+from nulvrader.desk.questions import who_waits
+from nulvrader.desk.exports import read_loads
+from nulvrader.desk.reports import Stock, read_holds, read_stock
 
 from .clock import Clock
 from .day import TIME_OVER, Day
@@ -32,22 +33,26 @@ from .watch import Circles
 class Dispatching(Protocol):
     """A dispatcher, as the plant has it: a turn each second."""
 
-    def turn(self) -> bool: ...
+    def turn(self) -> bool:
+        ...
 
-    def waits(self) -> Mapping[str, str]: ...
+    def waits(self) -> Mapping[str, str]:
+        ...
 
-    def shut_in(self) -> Mapping[str, tuple[float, str]]: ...
+    def shut_in(self) -> Mapping[str, tuple[float, str]]:
+        ...
 
 
 class Plant:
-    """A plant over a desk's program and a file that is not there yet. `dispatcher` makes a dispatcher over a client, which takes its
-    lines and the clock; `say` takes all lines."""
+    """A plant over a desk's program and a file that is not there yet. `dispatcher` makes a
+    dispatcher over a client, which takes its lines and the clock; `say` takes all lines."""
 
     def __init__(
         self,
         plan: Plan,
         served: Served,
-        dispatcher: Callable[[Desk, Callable[[str], None], Callable[[], float]], Dispatching] | None,
+        dispatcher: Callable[[Desk, Callable[[str], None], Callable[[], float]], Dispatching]
+        | None,
         say: Callable[[str], None] = lambda line: None,
     ) -> None:
         self.plan, self.served, self.make = plan, served, dispatcher
@@ -57,7 +62,9 @@ class Plant:
         self.floor = FLOORS[plan.floor]()
         self.layout = self.floor.layout()
         # where others ask too, each call has a connection
-        self.desk = Desk(served.address, timeout=PATIENCE) if dispatcher is None else Wired(served.wire)
+        self.desk = (
+            Desk(served.address, timeout=PATIENCE) if dispatcher is None else Wired(served.wire)
+        )
         self.track, self.goods, self.given = Track(self.layout.edges), Goods(), Given()
         self.goods.alone = dispatcher is not None
         self.vehicles: dict[str, Vehicle] = {}
@@ -73,12 +80,22 @@ class Plant:
         self.over, self.fetches = False, 0
         self.reasons = Reasons()
         self.people = People(
-            self.desk, self.clock, self.layout, self.goods, self.track, self.vehicles, self.chance, plan.habits, plan.jobs,
-            self.waits, self.reasons, self.say,
+            self.desk,
+            self.clock,
+            self.layout,
+            self.goods,
+            self.track,
+            self.vehicles,
+            self.chance,
+            plan.habits,
+            plan.jobs,
+            self.waits,
+            self.reasons,
+            self.say,
         )
 
     def say(self, line: str) -> None:
-        self._say('%8.1f  %s' % (self.clock.now, line))
+        self._say(f'{self.clock.now:8.1f}  {line}')
 
     # The beginning.
 
@@ -88,21 +105,24 @@ class Plant:
         with self.desk.kept():
             self.desk.set_layout(self.layout.csv())
             for n, node in enumerate(self.chance.sample(self.floor.bays, self.plan.vehicles), 1):
-                key = VehicleKey('KIT', '%04d' % n)
+                key = VehicleKey('KIT', f'{n:04d}')
                 self.desk.register_vehicle(key, node, 1 + n % 2)
                 self.goods.room['vehicle %s' % key] = 1 + n % 2
                 self.add_vehicle(key, node)
             stations = list(self.layout.stations.values())
             room = {station.name: station.capacity - 2 for station in stations}
-            self.goods.room.update({'station ' + station.name: station.capacity for station in stations})
+            self.goods.room.update(
+                {'station ' + station.name: station.capacity for station in stations}
+            )
             for n in range(self.plan.loads):
                 station = self.chance.choice([name for name, left in room.items() if left > 0])
                 room[station] -= 1
-                self.desk.register_load('load-%d' % n, station)
-                self.goods.add('load-%d' % n, 'station ' + station)
+                self.desk.register_load(f'load-{n}', station)
+                self.goods.add(f'load-{n}', 'station ' + station)
 
     def waits(self) -> Mapping[str, str] | None:
-        """Why vehicles and jobs wait, as the dispatcher says. None where it is not the plant's own."""
+        """Why vehicles and jobs wait, as the dispatcher says. None where it is not the plant's
+        own."""
         if self.make is None:
             return None
         return self.dispatcher.waits() if self.dispatcher else {}
@@ -111,7 +131,16 @@ class Plant:
         chance = random.Random(self.chance.random())
         gateway = Gateway(self.desk, self.clock, self.given, self.plan.line, chance, self.refused)
         vehicle = Vehicle(
-            key, node, self.clock, self.track, self.goods, self.given, self.reasons.failed, self.floor.metres, self.plan.nature, chance,
+            key,
+            node,
+            self.clock,
+            self.track,
+            self.goods,
+            self.given,
+            self.reasons.failed,
+            self.floor.metres,
+            self.plan.nature,
+            chance,
             gateway.tell,
         )
         self.vehicles[str(key)], self.gateways[str(key)] = vehicle, gateway
@@ -123,7 +152,8 @@ class Plant:
     # What goes on.
 
     def run(self, ready: Callable[[], None] = lambda: None) -> Day:
-        """The whole run, to its end. `ready` is called once the desk has its layout, vehicles and loads."""
+        """The whole run, to its end. `ready` is called once the desk has its layout, vehicles and
+        loads."""
         begun = time.monotonic()
         try:
             self.set_up()
@@ -184,7 +214,9 @@ class Plant:
         if about:
             self.heard[about.group(1)] = about.group(2)
             if about.group(2).startswith('cancels order '):
-                self.day.cancels.append(line.replace(BEFORE, self.shut_by.get(about.group(1), BEFORE)))
+                self.day.cancels.append(
+                    line.replace(BEFORE, self.shut_by.get(about.group(1), BEFORE))
+                )
         self.say(line)
 
     def kill_dispatcher(self) -> None:
@@ -196,7 +228,9 @@ class Plant:
         self.day.counts['kills of the desk'] += 1
 
     def kill_gateway(self) -> None:
-        self.gateways[self.chance.choice(sorted(self.gateways))].restart(self.chance.uniform(*self.plan.trouble.away))
+        self.gateways[self.chance.choice(sorted(self.gateways))].restart(
+            self.chance.uniform(*self.plan.trouble.away)
+        )
         self.day.counts['restarts of gateways'] += 1
 
     def restart_vehicle(self) -> None:
@@ -207,7 +241,7 @@ class Plant:
             if vehicle is not None and self.desk.vehicle(vehicle.key).confirmed is not None:
                 vehicle.restart()
                 self.day.counts['restarts of vehicles'] += 1
-                self.say('%s is restarted, and has lost its order' % vehicle.name)
+                self.say(f'{vehicle.name} is restarted, and has lost its order')
         except NoAnswer:
             pass
 
@@ -222,13 +256,20 @@ class Plant:
             pass
 
     def measure(self) -> None:
-        """Who has an order and waits, and the last reason that the dispatcher had for it, or else its last line about the vehicle."""
+        """Who has an order and waits, and the last reason that the dispatcher had for it, or else
+        its last line about the vehicle."""
         told = self.waits() or {}
         for name, vehicle in self.vehicles.items():
             has_order = not vehicle.is_done() and not vehicle.by_hand
             if has_order:
                 self.day.ordered[name] = self.day.ordered.get(name, 0.0) + 1
-            if not has_order or vehicle.node_is_left() or vehicle.is_acting() or vehicle.in_service or vehicle.paused:
+            if (
+                not has_order
+                or vehicle.node_is_left()
+                or vehicle.is_acting()
+                or vehicle.in_service
+                or vehicle.paused
+            ):
                 self.since.pop(name, None)
                 self.reason.pop(name, None)
                 continue
@@ -236,16 +277,26 @@ class Plant:
             since = self.since.setdefault(name, self.clock.now)
             if name in told:
                 self.reason[name] = told[name]
-            self.day.has_waited(name, since, self.clock.now, self.reason.get(name, self.heard.get(name, 'nobody says why')))
+            self.day.has_waited(
+                name,
+                since,
+                self.clock.now,
+                self.reason.get(name, self.heard.get(name, 'nobody says why')),
+            )
 
     def note_shut_in(self, told: Mapping[str, tuple[float, str]]) -> None:
-        """Who is shut in, and why: of those that were so before the dispatcher was started anew the one before has said it."""
-        self.shut_by = {name: self.shut_by.get(name, why) if why == BEFORE else why for name, (_, why) in told.items()}
+        """Who is shut in, and why: of those that were so before the dispatcher was started anew the
+        one before has said it."""
+        self.shut_by = {
+            name: self.shut_by.get(name, why) if why == BEFORE else why
+            for name, (_, why) in told.items()
+        }
         for name, (since, _) in told.items():
             self.day.shut[name, since] = self.clock.now - since, self.shut_by[name]
 
     def audit(self) -> None:
-        """Each vehicle is on what the desk holds for it, and each load is in one place, where the desk has it, and in one order."""
+        """Each vehicle is on what the desk holds for it, and each load is in one place, where the
+        desk has it, and in one order."""
         self.look_for_shared_loads()
         try:
             holds = read_holds(self.desk.hold_report())
@@ -254,11 +305,16 @@ class Plant:
             return
         for name, node in self.track.at.items():
             if str(holds.nodes.get(node)) != name:
-                raise Wrong('%s is on the node %s, which the desk holds for %s' % (name, node, holds.nodes.get(node)))
+                raise Wrong(
+                    f'{name} is on the node {node}, which the desk holds for'
+                    f' {holds.nodes.get(node)}'
+                )
         for name, edge in self.track.on.items():
             ahead = self.layout.edges[edge].finish
             if str(holds.edges.get(edge)) != name or str(holds.nodes.get(ahead)) != name:
-                raise Wrong('%s drives along %s, and the desk does not hold it and %s for it' % (name, edge, ahead))
+                raise Wrong(
+                    f'{name} drives along {edge}, and the desk does not hold it and {ahead} for it'
+                )
         self.day.counts['audits'] += 1
 
     def look_for_shared_loads(self) -> None:
@@ -267,26 +323,36 @@ class Plant:
         for name, vehicle in self.vehicles.items():
             for load in vehicle.open_loads() if not vehicle.by_hand else ():
                 if load in found:
-                    raise Wrong('%s is in an order of %s and in one of %s' % (load, found[load], name))
+                    raise Wrong(f'{load} is in an order of {found[load]} and in one of {name}')
                 found[load] = name
 
     def compare_places(self, stock: Stock) -> None:
-        """The desk has each load once, and where it is, but for those whose last move it has not been told."""
+        """The desk has each load once, and where it is, but for those whose last move it has not
+        been told."""
         told, true, count = stock.places(), self.goods.places(), Counter(stock.loads())
         twice = sorted(load for load, times in count.items() if times > 1)
         if twice:
-            raise Wrong('the desk has %s in more than one place' % ', '.join(twice))
+            raise Wrong(f'the desk has {", ".join(twice)} in more than one place')
         strange = sorted(told.keys() - true.keys())
         if strange and self.goods.alone:
-            raise Wrong('the desk has %s, which is nowhere' % ', '.join(strange))
+            raise Wrong(f'the desk has {", ".join(strange)}, which is nowhere')
         for load, place in true.items():
-            is_told = self.goods.alone and load not in self.people.carried and all(vehicle.has_told(load) for vehicle in self.vehicles.values())
+            is_told = (
+                self.goods.alone
+                and load not in self.people.carried
+                and all(vehicle.has_told(load) for vehicle in self.vehicles.values())
+            )
             if is_told and told.get(load) != place:
-                raise Wrong('%s is at %s, and the desk has it at %s' % (load, place, told.get(load)))
+                raise Wrong(f'{load} is at {place}, and the desk has it at {told.get(load)}')
 
     def look_for_circles(self) -> None:
-        """No vehicles wait for each other for long. One that is paused, not ready or silent goes on for no other."""
-        excused = {name for name, one in self.vehicles.items() if not one.goes_on() or not self.gateways[name].up}
+        """No vehicles wait for each other for long. One that is paused, not ready or silent goes on
+        for no other."""
+        excused = {
+            name
+            for name, one in self.vehicles.items()
+            if not one.goes_on() or not self.gateways[name].up
+        }
         try:
             waits = who_waits(self.desk)
         except NoAnswer:
@@ -306,52 +372,79 @@ class Plant:
             self.over = True
         elif self.clock.now - last > self.plan.stands:
             self.over = True
-            waits = self.waits() or {}
-            self.day.stands = '%d jobs are live, and nothing moves: %s' % (
-                live, '; '.join('%s %s' % one for one in sorted(waits.items()) if not one[0].startswith('job ')) or 'nobody says why')
+            waits = sorted((self.waits() or {}).items())
+            said = [f'{name} {why}' for name, why in waits if not name.startswith('job ')]
+            self.day.stands = (
+                f'{live} jobs are live, and nothing moves:'
+                f' {"; ".join(said) or "nobody says why"}'
+            )
 
     # The end.
 
     def settle(self) -> None:
-        """Once nothing moves any more and all states have come, the desk has each load and vehicle where it is."""
+        """Once nothing moves any more and all states have come, the desk has each load and vehicle
+        where it is."""
         for gateway in self.gateways.values():
             gateway.up = True
             assert gateway.vehicle is not None
             if self.desk.vehicle(gateway.vehicle.key).order is None and not gateway.vehicle.by_hand:
                 gateway.post(gateway.vehicle.state(), gateway.vehicle.life)
-        told = {load: place for load, place in read_loads(self.desk.loads_export()).items() if place != 'left'}
+        told = {
+            load: place
+            for load, place in read_loads(self.desk.loads_export()).items()
+            if place != 'left'
+        }
         true = self.goods.places()
         if told != true:
-            differ = sorted(load for load in told.keys() | true.keys() if told.get(load) != true.get(load))
-            raise Wrong('; '.join('%s is at %s, and the desk has it at %s' % (load, true.get(load), told.get(load)) for load in differ[:5]))
+            differ = sorted(
+                load for load in told.keys() | true.keys() if told.get(load) != true.get(load)
+            )
+            raise Wrong(
+                '; '.join(
+                    f'{load} is at {true.get(load)}, and the desk has it at {told.get(load)}'
+                    for load in differ[:5]
+                )
+            )
         self.compare_places(read_stock(self.desk.stock_report()))
         for name, vehicle in self.vehicles.items():
             if name in self.track.at and self.desk.vehicle(vehicle.key).node != vehicle.node:
-                raise Wrong('%s is at %s, and the desk has it at %s' % (name, vehicle.node, self.desk.vehicle(vehicle.key).node))
+                raise Wrong(
+                    f'{name} is at {vehicle.node}, and the desk has it at'
+                    f' {self.desk.vehicle(vehicle.key).node}'
+                )
 
     def close(self) -> None:
         """The file is lawful; each job of it was added, and is done or was stopped for a reason."""
         self.served.report('stock')
         base = sqlite3.connect(self.served.db)
-        jobs = {name: (load, target, phase) for name, load, target, phase in base.execute('SELECT id, load, target, phase FROM job')}
+        jobs = {
+            name: (load, target, phase)
+            for name, load, target, phase in base.execute('SELECT id, load, target, phase FROM job')
+        }
         base.close()
         if set(self.people.added) - set(jobs):
-            raise Wrong('jobs are lost: %s' % sorted(set(self.people.added) - set(jobs)))
+            raise Wrong(f'jobs are lost: {sorted(set(self.people.added) - set(jobs))}')
         self.day.done = sum(1 for _, _, phase in jobs.values() if phase == 'done')
         if self.make is None:
-            self.reasons.by_messages(self.given.drops, {job: (load, target) for job, (load, target, _) in jobs.items()})
+            self.reasons.by_messages(
+                self.given.drops, {job: (load, target) for job, (load, target, _) in jobs.items()}
+            )
         for job, (load, target, phase) in jobs.items():
             if phase == 'stopped':
                 self.day.stopped[job] = self.reasons.why_stopped(job)
             elif phase == 'done':
                 self.reasons.check_done(job, load, target, self.goods)
             elif self.day.stands is None:
-                raise Wrong('all jobs had ended, and %s is %s' % (job, phase))
+                raise Wrong(f'all jobs had ended, and {job} is {phase}')
         self.day.circle = self.circles.longest
         self.day.counts.update(self.people.counts)
         self.day.counts['starts of the desk'] = self.served.starts
         self.day.counts['states posted'] = sum(gateway.posted for gateway in self.gateways.values())
-        self.day.counts['metres driven'] = int(sum(vehicle.driven for vehicle in self.vehicles.values()))
+        self.day.counts['metres driven'] = int(
+            sum(vehicle.driven for vehicle in self.vehicles.values())
+        )
         self.day.counts['actions failed'] = len(self.reasons.failed)
-        self.day.counts['empty batteries'] = sum(vehicle.services for vehicle in self.vehicles.values())
+        self.day.counts['empty batteries'] = sum(
+            vehicle.services for vehicle in self.vehicles.values()
+        )
         self.day.counts['orders cancelled by the dispatcher'] = self.reasons.count()[BY_DISPATCHER]

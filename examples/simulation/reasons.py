@@ -1,12 +1,13 @@
-"""Why jobs are stopped: which order had which jobs, and what was done to orders and jobs, or may have been done."""
+"""Why jobs are stopped: which order had which jobs, and what was done to orders and jobs, or may
+have been done."""
 from __future__ import annotations
 
 import contextlib
 from collections import Counter
 from collections.abc import Iterator, Mapping, Sequence
 
-from nulvrader.client import Answer, NoAnswer, Refused, Stop
-from nulvrader.names import VehicleKey
+from nulvrader.desk.client import Answer, NoAnswer, Refused, Stop
+from nulvrader.common.names import VehicleKey
 
 from .desks import Wire, Wired
 from .truth import Goods, Wrong
@@ -19,10 +20,13 @@ FAILED = 'an action of it failed'
 
 
 class Reasons:
-    """What explains that a job is stopped or done. Act n of the order O is `O.n`; it is of the job of the stop of this number."""
+    """What explains that a job is stopped or done. Act n of the order O is `O.n`; it is of the job
+    of the stop of this number."""
 
     def __init__(self) -> None:
-        self.acts: dict[str, list[tuple[str, str]]] = {}  # by job its acts in orders: `pick` or `drop`, and the act
+        self.acts: dict[
+            str, list[tuple[str, str]]
+        ] = {}  # by job its acts in orders: `pick` or `drop`, and the act
         self.orders: dict[str, str] = {}  # by order why it has ended early
         self.jobs: dict[str, str] = {}  # by job why a person has stopped it
         self.failed: set[str] = set()  # the acts that have failed
@@ -31,12 +35,12 @@ class Reasons:
     def give(self, order: str, stops: Sequence[Stop]) -> None:
         """An order with these stops is given, or may be."""
         for n, stop in enumerate(stops):
-            self.acts.setdefault(stop.job, []).append((stop.action, '%s.%d' % (order, n)))
+            self.acts.setdefault(stop.job, []).append((stop.action, f'{order}.{n}'))
 
     @contextlib.contextmanager
     def noted(self, kept: dict[str, str], name: str | None, why: str) -> Iterator[None]:
-        """Keeps the reason of an order or a job before the call that is made within, and drops it where that was surely not carried
-        out: a call whose answer is lost may have been."""
+        """Keeps the reason of an order or a job before the call that is made within, and drops it
+        where that was surely not carried out: a call whose answer is lost may have been."""
         if name is None:
             yield
             return
@@ -58,26 +62,35 @@ class Reasons:
         acts = [act for _, act in self.acts.get(job, ())]
         if not self.failed.isdisjoint(acts):
             return FAILED
-        told = [self.orders[order] for order in (act.rpartition('.')[0] for act in acts) if order in self.orders]
+        told = [
+            self.orders[order]
+            for order in (act.rpartition('.')[0] for act in acts)
+            if order in self.orders
+        ]
         if not told and self.others is None:
-            raise Wrong('%s is stopped, and nobody has a reason' % job)
+            raise Wrong(f'{job} is stopped, and nobody has a reason')
         return told[-1] if told else self.others or ''
 
     def check_done(self, job: str, load: str, target: str, goods: Goods) -> None:
         """A job that is done had its load put down at its target by its own drop."""
         drops = [act for kind, act in self.acts.get(job, ()) if kind == 'drop']
         if not any(goods.drops.get(act) == (load, target) for act in drops):
-            raise Wrong('%s is done, and no vehicle has put %s down at %s for it' % (job, load, target))
+            raise Wrong(f'{job} is done, and no vehicle has put {load} down at {target} for it')
 
     def count(self) -> Counter[str]:
         return Counter(self.orders.values())
 
-    def by_messages(self, drops: Mapping[str, tuple[str, str]], jobs: Mapping[str, tuple[str, str]]) -> None:
-        """Finds the acts of jobs by the load and the target of the drops that were sent, where the dispatcher is another process and
-        people may be at the board. A pick that failed has a drop that fails."""
+    def by_messages(
+        self, drops: Mapping[str, tuple[str, str]], jobs: Mapping[str, tuple[str, str]]
+    ) -> None:
+        """Finds the acts of jobs by the load and the target of the drops that were sent, where the
+        dispatcher is another process and people may be at the board. A pick that failed has a drop
+        that fails."""
         self.others = 'somebody else stopped it'
         for job, wanted in jobs.items():
-            self.acts.setdefault(job, []).extend(('drop', act) for act, told in drops.items() if told == wanted)
+            self.acts.setdefault(job, []).extend(
+                ('drop', act) for act, told in drops.items() if told == wanted
+            )
 
 
 class Killed(Exception):
@@ -89,8 +102,8 @@ class Killed(Exception):
 
 
 class Mortal(Wired):
-    """The client of a dispatcher that may be killed: before a request is sent, or before its answer has come. What it does to orders is
-    noted."""
+    """The client of a dispatcher that may be killed: before a request is sent, or before its answer
+    has come. What it does to orders is noted."""
 
     def __init__(self, wire: Wire, reasons: Reasons) -> None:
         super().__init__(wire)
@@ -108,9 +121,17 @@ class Mortal(Wired):
         return told
 
     def start_order(
-        self, order: str, vehicle: VehicleKey, *, job: str | None = None, stops: Sequence[Stop] | None = None, edges: int
+        self,
+        order: str,
+        vehicle: VehicleKey,
+        *,
+        job: str | None = None,
+        stops: Sequence[Stop] | None = None,
+        edges: int,
     ) -> int:
-        self.reasons.give(order, [Stop('pick', job), Stop('drop', job)] if job is not None else stops or ())
+        self.reasons.give(
+            order, [Stop('pick', job), Stop('drop', job)] if job is not None else stops or ()
+        )
         return super().start_order(order, vehicle, job=job, stops=stops, edges=edges)
 
     def cancel(self, vehicle: VehicleKey) -> str:

@@ -1,11 +1,12 @@
-"""What is truly where: each vehicle on a node or an edge, each load at a place. What may not be is a `Wrong`, at the moment at which
-it is so; a load in two places is one when the places of all loads are asked for next."""
+"""What is truly where: each vehicle on a node or an edge, each load at a place. What may not be is
+a `Wrong`, at the moment at which it is so; a load in two places is one when the places of all loads
+are asked for next."""
 from __future__ import annotations
 
 from collections.abc import Mapping
 from typing import Any
 
-from nulvrader.layouts import Edge
+from nulvrader.common.layouts import Edge
 
 
 class Wrong(Exception):
@@ -13,8 +14,10 @@ class Wrong(Exception):
 
 
 class Track:
-    """Who is on which node and edge. A vehicle that drives is on its edge, and on the node behind it until it has arrived: nothing
-    else knows earlier that it has left. The edges of both directions between two nodes are one stretch of floor."""
+    """Who is on which node and edge. A vehicle that drives is on its edge, and on the node behind
+    it until it has arrived: nothing else knows earlier that it has left. The edges of both
+    directions between two nodes are one stretch of floor.
+    """
 
     def __init__(self, edges: Mapping[str, Edge]) -> None:
         self.edges = edges
@@ -40,10 +43,10 @@ class Track:
     def leave(self, vehicle: str, edge: str) -> None:
         """A vehicle begins to drive along an edge."""
         if self.edges[edge].start != self.at[vehicle] or vehicle in self.on:
-            raise Wrong('%s drives along %s, and is at %s' % (vehicle, edge, self.at[vehicle]))
+            raise Wrong(f'{vehicle} drives along {edge}, and is at {self.at[vehicle]}')
         other = self.stretches.get(self._stretch(edge))
         if other is not None:
-            raise Wrong('%s and %s are on the edge %s' % (other, vehicle, edge))
+            raise Wrong(f'{other} and {vehicle} are on the edge {edge}')
         self.stretches[self._stretch(edge)] = vehicle
         self.on[vehicle] = edge
 
@@ -60,7 +63,7 @@ class Track:
     def _enter(self, vehicle: str, node: str) -> None:
         other = self.nodes.get(node)
         if other is not None:
-            raise Wrong('%s and %s are on the node %s' % (other, vehicle, node))
+            raise Wrong(f'{other} and {vehicle} are on the node {node}')
         self.nodes[node] = vehicle
 
     def _stretch(self, edge: str) -> frozenset[str]:
@@ -68,20 +71,27 @@ class Track:
 
 
 class Goods:
-    """Where the loads are: by place, as the desk writes it: `station A`, `vehicle KIT/0001`, `checking`. `room` is how many a place has
-    room for. `alone`: nobody else tells the desk where loads are, so that each is where an order looks for it."""
+    """Where the loads are: by place, as the desk writes it: `station A`, `vehicle KIT/0001`,
+    `checking`. `room` is how many a place has room for. `alone`: nobody else tells the desk where
+    loads are, so that each is where an order looks for it.
+    """
 
     def __init__(self) -> None:
         self.alone = True
         self.here: dict[str, set[str]] = {}
         self.room: dict[str, int] = {}
-        self.drops: dict[str, tuple[str, str]] = {}  # by act of an order the load and the station where a vehicle has put it down
+        self.drops: dict[
+            str, tuple[str, str]
+        ] = {}  # by act of an order the load and the station where a vehicle has put it down
 
     def add(self, load: str, place: str) -> None:
         loads = self.here.setdefault(place, set())
         loads.add(load)
         if len(loads) > self.room.get(place, len(loads)):
-            raise Wrong('%s is put to %s, which has %d loads then and room for %d' % (load, place, len(loads), self.room[place]))
+            raise Wrong(
+                f'{load} is put to {place}, which has {len(loads)} loads then and room for'
+                f' {self.room[place]}'
+            )
 
     def at(self, place: str) -> list[str]:
         return sorted(self.here.get(place, ()))
@@ -92,7 +102,7 @@ class Goods:
     def move(self, load: str, start: str, finish: str) -> None:
         """Carries a load from where it is to another place."""
         if not self.has(load, start):
-            raise Wrong('%s is taken from %s, and is not there' % (load, start))
+            raise Wrong(f'{load} is taken from {start}, and is not there')
         self.here[start].remove(load)
         self.add(load, finish)
 
@@ -102,14 +112,14 @@ class Goods:
         for place, loads in self.here.items():
             for load in loads:
                 if load in found:
-                    raise Wrong('%s is at %s and at %s' % (load, found[load], place))
+                    raise Wrong(f'{load} is at {found[load]} and at {place}')
                 found[load] = place
         return found
 
 
 class Given:
-    """What the desk has given to each vehicle: of the order messages that it answered, by order the numbers of the released edges. What
-    was taken back is not given again."""
+    """What the desk has given to each vehicle: of the order messages that it answered, by order the
+    numbers of the released edges. What was taken back is not given again."""
 
     def __init__(self) -> None:
         self.released: dict[tuple[str, str], set[int]] = {}
@@ -125,7 +135,12 @@ class Given:
             self.edges[vehicle, order, edge['sequenceId']] = edge['edgeId']
             if edge['released']:
                 released.add(edge['sequenceId'])
-        for action in (action for node in message['nodes'] for action in node['actions'] if action['actionType'] == 'drop'):
+        for action in (
+            action
+            for node in message['nodes']
+            for action in node['actions']
+            if action['actionType'] == 'drop'
+        ):
             said = {pair['key']: pair['value'] for pair in action['actionParameters']}
             self.drops[action['actionId']] = said['loadId'], said['stationName']
 
@@ -136,5 +151,12 @@ class Given:
     def check(self, vehicle: str, order: str, number: int, edge: str) -> None:
         """Whether a vehicle may drive along this edge of its order."""
         of = vehicle, order
-        if of in self.over or number not in self.released.get(of, ()) or self.edges[vehicle, order, number] != edge:
-            raise Wrong('%s drives along %s, edge %d of the order %s, which was not given to it' % (vehicle, edge, number, order))
+        if (
+            of in self.over
+            or number not in self.released.get(of, ())
+            or self.edges[vehicle, order, number] != edge
+        ):
+            raise Wrong(
+                f'{vehicle} drives along {edge}, edge {number} of the order {order}, which was not'
+                ' given to it'
+            )

@@ -1,12 +1,12 @@
-"""A simulated vehicle: it takes order messages and instant actions, drives and acts in time, and tells its state. What it does is done
-to the truth of the plant."""
+"""A simulated vehicle: it takes order messages and instant actions, drives and acts in time, and
+tells its state. What it does is done to the truth of the plant."""
 from __future__ import annotations
 
 import random
 from collections.abc import Callable
 from typing import Any
 
-from nulvrader.names import VehicleKey
+from nulvrader.common.names import VehicleKey
 
 from .clock import Clock
 from .plan import Nature
@@ -16,8 +16,8 @@ OVER = ('FINISHED', 'FAILED')
 
 
 class Vehicle:
-    """A vehicle on a node. `tell` is called whenever its state has changed, so that its gateway posts it. `failed` gets the acts that
-    fail."""
+    """A vehicle on a node. `tell` is called whenever its state has changed, so that its gateway
+    posts it. `failed` gets the acts that fail."""
 
     def __init__(
         self,
@@ -34,7 +34,14 @@ class Vehicle:
         tell: Callable[[], None],
     ) -> None:
         self.key, self.name = key, str(key)
-        self.clock, self.track, self.goods, self.given, self.failed, self.metres = clock, track, goods, given, failed, metres
+        self.clock, self.track, self.goods, self.given, self.failed, self.metres = (
+            clock,
+            track,
+            goods,
+            given,
+            failed,
+            metres,
+        )
         self.nature, self.chance, self.tell = nature, chance, tell
         self.node, self.sequence = node, 0
         self.order, self.update = '', 0
@@ -46,7 +53,9 @@ class Vehicle:
         self.order_header = self.instant_header = -1  # of the last messages that it took
         self.header = 0
         self.paused = False
-        self.cancelling: str | None = None  # the id of a cancelOrder that it carries out once it stands
+        self.cancelling: str | None = (
+            None  # the id of a cancelOrder that it carries out once it stands
+        )
         self.in_service = False
         self.by_hand = False
         self.left = nature.battery * chance.uniform(0.3, 1.0)  # metres
@@ -57,20 +66,29 @@ class Vehicle:
         self.restarted: float | None = None  # when it was restarted, until a person has placed it
         self.services = 0  # how often its battery was empty
         self.posted = -1  # the number of the last state that the desk has accepted
-        self.moved: dict[str, int] = {}  # by load that it has picked or put down the number of the last state before that
-        self.dropped: set[str] = set()  # the orders that were cancelled or cleared: a late update of one is passed over
+        self.moved: dict[
+            str, int
+        ] = {}  # by load that it has picked or put down the number of the last state before that
+        self.dropped: set[
+            str
+        ] = set()  # the orders that were cancelled or cleared: a late update of one is passed over
         track.put(self.name, node)
 
     # Messages.
 
     def take_order(self, message: dict[str, Any]) -> None:
-        """An order message: a new order where it has none, or more of the one that it has. One that is older than another that it had
-        is passed over."""
+        """An order message: a new order where it has none, or more of the one that it has. One that
+        is older than another that it had is passed over."""
         is_known = message['headerId'] <= self.order_header or message['orderId'] in self.dropped
         if is_known or self.by_hand or self.restarted is not None:
             return
         if message['orderId'] != self.order:
-            if not self.is_done() or self.cancelling is not None or message['nodes'][0]['nodeId'] != self.node or self.node_is_left():
+            if (
+                not self.is_done()
+                or self.cancelling is not None
+                or message['nodes'][0]['nodeId'] != self.node
+                or self.node_is_left()
+            ):
                 return
             self.nodes, self.edges, self.statuses, self.missed, self.sequence = {}, {}, {}, set(), 0
         self.order_header = message['headerId']
@@ -128,10 +146,13 @@ class Vehicle:
 
     def is_done(self) -> bool:
         """Whether it has no order, or has carried it out."""
-        return all(at <= self.sequence for at in self.nodes) and all(status in OVER for status in self.statuses.values())
+        return all(at <= self.sequence for at in self.nodes) and all(
+            status in OVER for status in self.statuses.values()
+        )
 
     def goes_on(self) -> bool:
-        """Whether it is ready and is not paused; whether the desk hears its states is not looked at here."""
+        """Whether it is ready and is not paused; whether the desk hears its states is not looked at
+        here."""
         return not (self.paused or self.in_service or self.by_hand or self.restarted is not None)
 
     def is_acting(self) -> bool:
@@ -139,7 +160,12 @@ class Vehicle:
 
     def open_loads(self) -> set[str]:
         """The loads that it still has to pick or put down."""
-        actions = [action for node in self.nodes.values() for action in node['actions'] if self.statuses[action['actionId']] not in OVER]
+        actions = [
+            action
+            for node in self.nodes.values()
+            for action in node['actions']
+            if self.statuses[action['actionId']] not in OVER
+        ]
         return {_said(action)['loadId'] for action in actions}
 
     def has_told(self, load: str) -> bool:
@@ -164,7 +190,13 @@ class Vehicle:
 
     def go_on(self) -> None:
         """Begins what comes next: an action where it stands, or the next released edge."""
-        if self.paused or self.in_service or self.by_hand or self.node_is_left() or self.cancelling is not None:
+        if (
+            self.paused
+            or self.in_service
+            or self.by_hand
+            or self.node_is_left()
+            or self.cancelling is not None
+        ):
             return
         if self.is_done():
             self.given.take_back(self.name, self.order)
@@ -189,7 +221,9 @@ class Vehicle:
         self.track.leave(self.name, edge)
         self.last_moved = self.clock.now
         self.stop()
-        self.later(self.metres[edge] / self.nature.speed * self.chance.uniform(0.9, 1.2), self.arrive)
+        self.later(
+            self.metres[edge] / self.nature.speed * self.chance.uniform(0.9, 1.2), self.arrive
+        )
 
     def arrive(self) -> None:
         self.driven += self.metres[self.track.on[self.name]]
@@ -211,8 +245,10 @@ class Vehicle:
         self.later(self.chance.uniform(*self.nature.action), lambda: self.finish(action))
 
     def finish(self, action: dict[str, Any]) -> None:
-        """Ends a pick or a drop, each of which fails at times. A load that is not where it is to be picked is wrong. So is one that is to
-        be put down and is not on the vehicle, but where its pick in this order has failed: then the drop fails too."""
+        """Ends a pick or a drop, each of which fails at times. A load that is not where it is to be
+        picked is wrong. So is one that is to be put down and is not on the vehicle, but where its
+        pick in this order has failed: then the drop fails too.
+        """
         name, said = action['actionId'], _said(action)
         load, station = said['loadId'], said['stationName']
         places = ['station ' + station, 'vehicle ' + self.name]
@@ -220,7 +256,11 @@ class Vehicle:
         start, finish = places if is_pick else places[::-1]
         is_there = self.goods.has(load, start)
         if self.goods.alone and not is_there and (is_pick or load not in self.missed):
-            told = '%s is to pick %s at %s, which is not there' if is_pick else '%s is to put down %s at %s, and does not carry it'
+            told = (
+                '%s is to pick %s at %s, which is not there'
+                if is_pick
+                else '%s is to put down %s at %s, and does not carry it'
+            )
             raise Wrong(told % (self.name, load, station))
         if self.chance.randrange(1000) < self.nature.failing or not is_there:
             self.statuses[name] = 'FAILED'
@@ -259,8 +299,15 @@ class Vehicle:
         self.instant = None
 
     def may_restart(self) -> bool:
-        """Whether it has an order, stands, and the desk knows all that it has moved: nobody has to look for loads then."""
-        busy = self.by_hand or self.in_service or self.node_is_left() or self.is_acting() or self.cancelling is not None
+        """Whether it has an order, stands, and the desk knows all that it has moved: nobody has to
+        look for loads then."""
+        busy = (
+            self.by_hand
+            or self.in_service
+            or self.node_is_left()
+            or self.is_acting()
+            or self.cancelling is not None
+        )
         return not busy and not self.is_done() and all(self.has_told(load) for load in self.moved)
 
     def restart(self) -> None:
@@ -276,14 +323,16 @@ class Vehicle:
     def state(self) -> dict[str, Any]:
         """The next state message."""
         self.header += 1
-        actions = [{'actionId': name, 'actionStatus': status} for name, status in self.statuses.items()]
+        actions = [
+            {'actionId': name, 'actionStatus': status} for name, status in self.statuses.items()
+        ]
         if self.instant:
             actions.append({'actionId': self.instant[0], 'actionStatus': self.instant[1]})
-        seconds = int(self.clock.now)
+        days, seconds = divmod(int(self.clock.now), 86400)
+        clock = f'{seconds // 3600:02d}:{seconds // 60 % 60:02d}:{seconds % 60:02d}'
         return {
             'headerId': self.header,
-            'timestamp': '2026-01-%02dT%02d:%02d:%02d.00Z'
-            % (1 + seconds // 86400, seconds // 3600 % 24, seconds // 60 % 60, seconds % 60),
+            'timestamp': f'2026-01-{1 + days:02d}T{clock}.00Z',
             'version': '2.0.0',
             'manufacturer': self.key.manufacturer,
             'serialNumber': self.key.serial,
@@ -300,7 +349,10 @@ class Vehicle:
             ],
             'edgeStates': [],
             'actionStates': actions,
-            'batteryState': {'batteryCharge': max(0, int(100 * self.left / self.nature.battery)), 'charging': False},
+            'batteryState': {
+                'batteryCharge': max(0, int(100 * self.left / self.nature.battery)),
+                'charging': False,
+            },
             'operatingMode': 'SERVICE' if self.in_service or self.by_hand else 'AUTOMATIC',
             'errors': [],
             'safetyState': {'eStop': 'NONE', 'fieldViolation': False},

@@ -1,4 +1,5 @@
-"""What a run of a plant is told as: its plans by name, the dispatchers that it can have, and its figures in lines."""
+"""What a run of a plant is told as: its plans by name, the dispatchers that it can have, and its
+figures in lines."""
 from __future__ import annotations
 
 import os
@@ -7,10 +8,10 @@ import tempfile
 from collections import Counter
 from collections.abc import Callable
 
-from nulvrader.client import Desk
+from nulvrader.desk.client import Desk
 from nulvrader.dispatch.dispatcher import Dispatcher, Settings
 from nulvrader.dispatch.traffic import Judge
-from nulvrader.layouts import Layout
+from nulvrader.common.layouts import Layout
 
 from .day import Day
 from .desks import Served
@@ -29,14 +30,14 @@ SILENT = 60.0
 Maker = Callable[[Desk, Callable[[str], None], Callable[[], float]], Dispatching]
 
 
-def maker(kind: str, layout: Layout, notes: str) -> Maker:
-    """Makes dispatchers of a kind. `notes` is a file for what one leaves to the next."""
+def maker(kind: str, layout: Layout) -> Maker:
+    """Makes dispatchers of a kind."""
 
     def make(desk: Desk, say: Callable[[str], None], clock: Callable[[], float]) -> Dispatching:
         if kind == 'whole':
             return FirstCome(desk, layout, say=say, clock=clock)
         judge = NoLook() if kind == 'free' else Judge()
-        return Dispatcher(desk, layout, Settings(silent=SILENT), judge=judge, notes=notes, say=say, clock=clock)
+        return Dispatcher(desk, layout, Settings(silent=SILENT), judge=judge, say=say, clock=clock)
 
     return make
 
@@ -50,7 +51,7 @@ def run(program: str, plan: Plan, kind: str, say: Callable[[str], None] = lambda
     """A run over the program and a new file, which is removed at its end."""
     with tempfile.TemporaryDirectory(dir=folder()) as place:
         served = Served(program, os.path.join(place, 'plant.db'))
-        return Plant(plan, served, maker(kind, FLOORS[plan.floor]().layout(), os.path.join(place, 'notes')), say).run()
+        return Plant(plan, served, maker(kind, FLOORS[plan.floor]().layout()), say).run()
 
 
 def end_by_signal() -> None:
@@ -67,14 +68,21 @@ def told(day: Day) -> list[str]:
     """The figures of a run, in lines."""
     reasons = Counter(day.stopped.values())
     lines = [
-        '%d jobs done and %d stopped, in %.0f minutes of the plant and %.0f s of real time' % (
-            day.done, len(day.stopped), day.seconds / 60, day.real),
-        '%.0f jobs an hour; vehicles with an order waited for %.0f %% of that time, the longest wait was %.0f s' % (
-            day.per_hour(), 100 * day.waiting(), day.longest),
+        (
+            f'{day.done} jobs done and {len(day.stopped)} stopped, in'
+            f' {day.seconds / 60:.0f} minutes of the plant and {day.real:.0f} s of real time'
+        ),
+        (
+            f'{day.per_hour():.0f} jobs an hour; vehicles with an order waited for'
+            f' {100 * day.waiting():.0f} % of that time, the longest wait was {day.longest:.0f} s'
+        ),
     ]
-    lines += ['vehicles waited for each other for %.0f s at most' % day.circle, *day.longest_waits()]
-    lines += ['stopped: %d because %s' % (count, why) for why, count in sorted(reasons.items())]
-    lines += ['vehicles were shut in %d times' % len(day.shut), *day.longest_shut_in()[:5]]
-    lines += ['the dispatcher: %s' % line for line in day.cancels]
+    lines += [
+        f'vehicles waited for each other for {day.circle:.0f} s at most',
+        *day.longest_waits(),
+    ]
+    lines += [f'stopped: {count} because {why}' for why, count in sorted(reasons.items())]
+    lines += [f'vehicles were shut in {len(day.shut)} times', *day.longest_shut_in()[:5]]
+    lines += [f'the dispatcher: {line}' for line in day.cancels]
     lines += ['%s: %d' % one for one in sorted(day.counts.items())]
-    return lines if day.stands is None else [*lines, 'it stands: %s' % day.stands]
+    return lines if day.stands is None else [*lines, f'it stands: {day.stands}']

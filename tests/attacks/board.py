@@ -22,13 +22,23 @@ from collections.abc import Callable, Iterator
 from typing import Any
 from unittest import mock
 
-import browser
-from board_run import LAYOUT, ONE, PROGRAM, TOOLS, Plant, Process, Watching, has_loopback, until
-from browser import Browser
+from tests.support import browser
+from tests.support.board_run import (
+    LAYOUT,
+    ONE,
+    PROGRAM,
+    TOOLS,
+    Plant,
+    Process,
+    Watching,
+    has_loopback,
+    until,
+)
+from tests.support.browser import Browser
 
-from nulvrader.board import shown as shown_module
-from nulvrader.board.shown import Shown
-from nulvrader.client import Desk
+from nulvrader.board import page_state as shown_module
+from nulvrader.board.page_state import Shown
+from nulvrader.desk.client import Desk
 
 STATUS = re.compile(rb'HTTP/1\.1 ([0-9]{3}) ')
 
@@ -200,7 +210,7 @@ window.attack = async (board, token) => {
   const host = board.split('/')[2];
   const leave = JSON.stringify({ command: 'leave', values: { load: 'L1', ref: 'R1' } });
   for (const origin of [board, location.origin + '/']) {
-    for (const path of ['', 'data', 'layout', 'commands', 'history?load=L1']) {
+    for (const path of ['', 'data', 'commands', 'history?load=L1']) {
       await tried(`${origin} ${path}`, () => text(fetch(origin + path)));
       const opaque = { mode: 'no-cors' };
       await tried(`${origin} ${path} opaque`, () => text(fetch(origin + path, opaque)));
@@ -351,6 +361,7 @@ class Crowd(unittest.TestCase):
     """Many connections of one program."""
 
     LOADS = 300
+    RATE = 200  # the most answers that the board gives in a second, on average
 
     def setUp(self) -> None:
         self.plant = Plant()
@@ -447,8 +458,12 @@ class Crowd(unittest.TestCase):
 
     def test_40_pollers(self) -> None:
         """Forty clients ask for all that there is, again and again: a load that moves is seen by a
-        page still, the board takes at most half a processor for them, and starts no thread for a
-        client."""
+        page still, the board takes at most half a processor for them, or twice what its answers
+        take on a slower machine, and starts no thread for a client."""
+        before = self.seconds()
+        for _ in range(100):
+            self.board.ask('GET', '/data?since=0')
+        cost = (self.seconds() - before) / 100
         polls = subprocess.Popen(
             [sys.executable, '-c', POLLS, str(self.board.port), '40'], stdin=subprocess.PIPE
         )
@@ -463,7 +478,8 @@ class Crowd(unittest.TestCase):
                 'it is seen',
             )
         time.sleep(5)
-        self.assertLess(self.seconds() - before, (time.monotonic() - begun) / 2)
+        took, passed = self.seconds() - before, time.monotonic() - begun
+        self.assertLess(took, passed * max(0.5, 2 * cost * self.RATE))
         with open(f'/proc/{self.board.process.pid}/status') as file:
             threads = re.search('Threads:\t([0-9]+)', file.read())
         assert threads is not None
@@ -555,24 +571,26 @@ class NoDesk(Watching):
         self,
         answer: Callable[[str, str], bytes | None],
         words: str = 'What answers there is no desk: ',
+        but: str = '',
     ) -> None:
-        """The board says these words, keeps what it has, and follows the desk again once that is
-        back."""
-        before = self.kept()
+        """The board says these words, keeps what it has, but for one table, and follows the desk
+        again once that is back."""
+        before = self.kept(but)
         made = self.fake(answer)
         until(lambda: words in str(self.board.get('desk').get('fault')), words)
         self.assertEqual(self.board.get('desk')['up'], False)
-        self.assertEqual(self.kept(), before)
+        self.assertEqual(self.kept(but), before)
         self.assertIsNone(self.board.process.poll())
         made.close()
         self.plant.start_desk()
         self.wait('desk', '', up=True)
-        self.assertEqual(self.kept(), before)
+        self.assertEqual(self.kept(but), before)
 
-    def kept(self) -> list[list[tuple[Any, ...]]]:
-        """What the record says of loads, vehicles and holds."""
-        tables = 'load_moves', 'loads', 'vehicles', 'holds', 'jobs', 'hold_changes', 'stations'
-        return [self.board.rows(f'SELECT * FROM {table} ORDER BY 1') for table in tables]
+    def kept(self, but: str = '') -> list[list[tuple[Any, ...]]]:
+        """What the record says of loads, vehicles and holds, but for one table."""
+        tables = ['load_moves', 'loads', 'vehicles', 'holds', 'jobs', 'hold_changes', 'stations']
+        question = 'SELECT * FROM {} ORDER BY 1'
+        return [self.board.rows(question.format(table)) for table in tables if table != but]
 
     def by_path(self, path: str, answer: bytes) -> Callable[[str, str], bytes]:
         """As the desk answers, but for one path."""
@@ -581,9 +599,9 @@ class NoDesk(Watching):
             '/report/stock',
             '/report/holds',
             '/export/loads',
-            '/vehicles/KIT/0001',
-            '/loads/L1',
-            '/loads/L2',
+            '/export/jobs',
+            '/export/vehicles',
+            '/export/layout',
         ):
             answers[target] = ok(self.desk.ask('GET', target).body)
 
@@ -607,37 +625,40 @@ class NoDesk(Watching):
         )
         self.check(self.by_path('/report/holds', ok(b'node N1 KIT/0001\n')))
 
-    def test_answers_that_are_no_json(self) -> None:
-        """Of a vehicle: no JSON, no object, no members, members of other types, numbers of 5,000
-        digits, and many brackets."""
-        whole = self.desk.ask('GET', '/vehicles/KIT/0001').body
-        for body in (
-            b'{',
-            b'[]',
-            b'{}',
-            b'\xff\xfe',
-            whole.replace(b'"N1"', b'{"a":1}'),
-            whole.replace(b'"capacity":1', b'"capacity":%s' % (b'9' * 5000)),
-            b'[' * 100_000,
+    def test_exports_that_are_none(self) -> None:
+        """Of the vehicles: nothing, another header, a row that is cut, values that no desk
+        writes, a number of 5,000 digits, and many commas. Of the jobs: bytes that are no row."""
+        whole = self.desk.ask('GET', '/export/vehicles').body
+        for path, body in (
+            ('/export/vehicles', b''),
+            ('/export/vehicles', b'vehicle' + whole),
+            ('/export/vehicles', whole[:-1]),
+            ('/export/vehicles', whole.replace(b',true,', b',yes,')),
+            ('/export/vehicles', whole.replace(b'N1', b'\xff\xfe')),
+            ('/export/vehicles', whole.replace(b',N1,1', b',N1,' + b'9' * 5000)),
+            ('/export/vehicles', whole.partition(b'\n')[0] + b'\n' + b',' * 100_000),
+            ('/export/jobs', b'job,load,from,to,phase,manufacturer,serialNumber,order\nJ1\n'),
         ):
-            with self.subTest(body[:30]):
-                self.check(self.by_path('/vehicles/', ok(body)))
+            with self.subTest(path, body=body[-30:]):
+                self.check(self.by_path(path, ok(body)))
 
     def test_order_messages_that_are_none(self) -> None:
-        """A vehicle that had no order has one, by the desk's answer, but its message is no way."""
-        idle = self.desk.ask('GET', '/vehicles/KIT/0001').body
-        busy = idle.replace(b'"order":null', b'"order":"O1"').replace(b'"sent":null', b'"sent":0')
+        """A vehicle that had no order has one, by the desk's export, but its message is no way.
+        What the export says of the vehicle is kept."""
+        idle = self.desk.ask('GET', '/export/vehicles').body
+        busy = idle.replace(b',,,,,,,,,', b',,O1,0,,0,2,0,,')
+        self.assertNotEqual(busy, idle)
         for body in (
             b'{}',
             b'{"nodes":[],"edges":[]}',
             b'{"orderId":{"a":1},"orderUpdateId":0,"nodes":[{}],"edges":[]}',
         ):
-            rest = self.by_path('/vehicles/', ok(busy))
-            self.check(
-                lambda method, target: ok(body)
-                if target.endswith('/order')
-                else rest(method, target)
-            )
+            rest = self.by_path('/export/vehicles', ok(busy))
+
+            def told(method: str, target: str, body: bytes = body) -> bytes:
+                return ok(body) if target.endswith('/order') else rest(method, target)
+
+            self.check(told, but='vehicles')
 
     def test_no_http(self) -> None:
         """Bytes that are no answer of HTTP, and an answer that says no length."""
@@ -793,6 +814,7 @@ class OtherDesk(Watching):
         self.plant.start_desk()
         self.desk.register_load('L3', 'A')
         self.wait('load', 'L3', place='station A')
+        self.rows("SELECT place FROM loads WHERE load = 'L3'", [('station A',)])
         self.plant.served.stop()
         for end in ('', '-wal', '-shm'):
             with contextlib.suppress(FileNotFoundError):
@@ -996,10 +1018,8 @@ class OtherUser(unittest.TestCase):
             os.path.join(TOOLS, 'board'),
             '--desk',
             f'127.0.0.1:{self.plant.port}',
-            '--layout',
         ]
         line += [
-            self.plant.layout,
             '--db',
             self.plant.path('board.db'),
             '--socket',

@@ -18,14 +18,15 @@ import unittest
 from collections.abc import Callable, Iterator
 from typing import Any, Union
 
-from dispatching import LAYOUT, Told
-from programs import PATIENCE, ROOT, TOOLS, module, until, within
-from test_program import Serving, over_sockets
+from tests.support.dispatching import LAYOUT, Told
+from tests.support.programs import PATIENCE, ROOT, TOOLS, module, until, within
+from tests.support.desks import Serving, over_sockets
 
-from nulvrader import client, names, reports
+from nulvrader.common import names
+from nulvrader.desk import client, exports, reports
 from nulvrader.dispatch.dispatcher import Dispatcher
-from nulvrader.layouts import read_layout
-from nulvrader.names import VehicleKey
+from nulvrader.common.layouts import read_layout
+from nulvrader.common.names import VehicleKey
 
 KIT = VehicleKey('KIT', '0001')
 SECONDS = PATIENCE  # within which a program has to end that was given one or a few
@@ -166,6 +167,16 @@ STOCK = (
 )
 HOLDS = b'node N1 KIT/0001\nedge E12 KIT/0001\nheld 2 of 7\n'
 EXPORT = b'load,place,at\nL1,station,A\nL2,vehicle,KIT/0001\nL3,checking,\nL4,left,\n'
+JOBS = b'job,load,from,to,phase,manufacturer,serialNumber,order\nJ1,L1,A,B,waiting,,,\n'
+JOBS += b'J2,L2,A,B,riding,KIT,0001,O1\nJ3,L3,B,A,riding,KIT,0001,O1\n'
+VEHICLES = (
+    b'manufacturer,serialNumber,node,capacity,ready,paused,astray,headerId,pending,order,sent,'
+)
+VEHICLES += b'confirmed,released,edges,seen,restEdge,restNode\n'
+VEHICLES += b'KIT,0001,N1,2,true,false,false,2,startPause,O1,1,0,2,3,1,,\n'
+VEHICLES += (
+    b'KIT,0002,N3,1,true,true,true,3,,,,,,,,E32,N2\nKIT,0003,N4,1,false,false,false,,,,,,,,,,\n'
+)
 VEHICLE: dict[str, Any] = {
     'astray': False,
     'capacity': 1,
@@ -210,6 +221,9 @@ TRUE: dict[str, bytes] = {
     'GET /report/stock': STOCK,
     'GET /report/holds': HOLDS,
     'GET /export/loads': EXPORT,
+    'GET /export/jobs': JOBS,
+    'GET /export/vehicles': VEHICLES,
+    'GET /export/layout': read_layout(LAYOUT).csv(),
     'GET /vehicles/KIT/0001': json.dumps(VEHICLE).encode(),
     'GET /loads/L1': b'{"job":"J1","load":"L1","place":"station A"}',
     'GET /uagv/v2/KIT/0001/order': json.dumps(ORDER).encode(),
@@ -220,11 +234,52 @@ TRUE: dict[str, bytes] = {
     'POST /uagv/v2/KIT/0001/state': b'{"accepted":true}',
     'POST /stocktakes/R1': b'{"moved":1,"unknown":["L9"]}',
 }
+# What of these exports may not stand there, each with what is in its place.
+WRONG_JOBS = (
+    (b'J2', b'J1'),
+    (b'J3', b'J0'),
+    (b'L2', b'L1'),
+    (b'L1,A', b'L1,B'),
+    (b'B,waiting', b'B,done'),
+    (b'waiting,,,', b'waiting,KIT,0001,O1'),
+    (b'riding,KIT,0001,O1\nJ3', b'riding,,,\nJ3'),
+    (b'0001,O1\nJ3', b'0001,O2\nJ3'),
+    (b'0001,O1\nJ3', b'0002,O1\nJ3'),
+    (b'0001,O1', b'0001'),
+)
+WRONG_VEHICLES = (
+    (b'0002', b'0001'),
+    (b'0002', b'0000'),
+    (b'N3', b'N1'),
+    (b'N3,1', b'N3,5'),
+    (b'N1,2', b'N1,0'),
+    (b'O1,1,0', b'O1,0,1'),
+    (b'2,3,1', b'4,3,1'),
+    (b'2,3,1', b'2,3,3'),
+    (b'2,3,1', b'2,201,1'),
+    (b'2,3,1', b'2,03,1'),
+    (b'E32,N2', b','),
+    (b'E32,N2', b'E32,'),
+    (b'true,true,true', b'true,true,false'),
+    (b'startPause', b'startpause'),
+    (b'2,startPause', b'4294967296,startPause'),
+    (b'true,3,,,,,,,,E32', b'true,3,,O2,0,,0,1,0,E32'),
+    (b'false,,,,,,,,,,', b'false,1,,O1,0,,0,1,0,,'),
+)
+WRONG_LAYOUTS = (
+    (b'node,ab', b'node,zz'),
+    (b'id', b'name'),
+    (b'station,A', b'station,"A"'),
+    (b'\nedge', b'\r\nedge'),
+)
 # A call of each method of the client, by the request that it makes.
 CALLS: dict[str, Callable[[client.Desk], object]] = {
     'GET /report/stock': lambda desk: reports.read_stock(desk.stock_report()),
     'GET /report/holds': lambda desk: reports.read_holds(desk.hold_report()),
-    'GET /export/loads': lambda desk: reports.read_loads(desk.loads_export()),
+    'GET /export/loads': lambda desk: exports.read_loads(desk.loads_export()),
+    'GET /export/jobs': lambda desk: desk.jobs(),
+    'GET /export/vehicles': lambda desk: desk.vehicles(),
+    'GET /export/layout': lambda desk: desk.layout(),
     'GET /vehicles/KIT/0001': lambda desk: desk.vehicle(KIT),
     'GET /loads/L1': lambda desk: desk.load('L1'),
     'GET /uagv/v2/KIT/0001/order': lambda desk: desk.order_message(KIT),
@@ -280,7 +335,9 @@ STRANGE: dict[str, bytes] = {
     'two lengths': http(b'{"a":0}', more=b'Content-Length: 7\r\n'),
     'a negative length': b'HTTP/1.1 200 OK\r\nContent-Length: -1\r\n\r\n{}',
     'a length of 5,000 digits': b'HTTP/1.1 200 OK\r\nContent-Length: ' + DIGITS + b'\r\n\r\n{}',
-    'a negative chunk': b'HTTP/1.1 200 OK\r\nTransfer-Encoding: chunked\r\n\r\n-1\r\n{}\r\n0\r\n\r\n',
+    'a negative chunk': (
+        b'HTTP/1.1 200 OK\r\nTransfer-Encoding: chunked\r\n\r\n-1\r\n{}\r\n0\r\n\r\n'
+    ),
     'a cut chunk': b'HTTP/1.1 200 OK\r\nTransfer-Encoding: chunked\r\n\r\n9\r\n{}',
     'a length and chunks': http(b'2\r\n{}\r\n0\r\n\r\n', more=b'Transfer-Encoding: chunked\r\n'),
 }
@@ -355,15 +412,15 @@ class BytesThatDrip(Attack):
 
         def slow(_: int, target: str) -> Said:
             time.sleep(0.6)
-            many = ''.join(f'vehicle KIT/{n:04d}: 0\n' for n in range(90))
-            row = {**VEHICLE, 'serialNumber': target[-4:]}
-            is_report = 'report' in target
-            report = f'checking: 0\n{many}left: 0\n'
-            return http((report if is_report else json.dumps(row)).encode())
+            if target != '/export/vehicles':
+                return http(json.dumps({**ORDER, 'serialNumber': target.split('/')[4]}).encode())
+            open_order = 'true,false,false,1,,O%d,0,,0,1,0,,'
+            rows = (f'KIT,{n:04d},N{n},1,{open_order % n}\n' for n in range(90))
+            return http(VEHICLES.partition(b'\n')[0] + b'\n' + ''.join(rows).encode())
 
         with Server(slow) as server:
-            done = asks('--timeout', '2', 'vehicles', address=server.address)
-        self.check_no_answer(done, 'vehicles')
+            done = asks('--timeout', '2', 'orders', address=server.address)
+        self.check_no_answer(done, 'orders')
         self.assertLess(server.asked, 20)
 
     def test_the_dispatcher(self) -> None:
@@ -431,7 +488,17 @@ class AnotherServer(Attack):
 
     def test_an_empty_warehouse_by_an_empty_200(self) -> None:
         """An empty answer is no report without loads."""
-        for command in ('stock-report', 'hold-report', 'loads-export', 'loads', 'jobs', 'held'):
+        commands = (
+            'stock-report',
+            'hold-report',
+            'loads-export',
+            'loads',
+            'jobs',
+            'vehicles',
+            'layout',
+            'held',
+        )
+        for command in commands:
             with self.subTest(command), Server(http(b'')) as server:
                 self.check_no_answer(asks(command, address=server.address), command)
 
@@ -448,10 +515,17 @@ class AnotherServer(Attack):
             for end in range(len(text)):
                 with self.assertRaises(client.NotADesk, msg=text[:end]):
                     read(text[:end])
-        for end in range(len(EXPORT)):
-            if not EXPORT[:end].endswith(b'\n'):
-                with self.assertRaises(client.NotADesk, msg=EXPORT[:end]):
-                    reports.read_loads(EXPORT[:end])
+        for read, text in (
+            (exports.read_loads, EXPORT),
+            (exports.read_jobs, JOBS),
+            (exports.read_vehicles, VEHICLES),
+            (exports.read_layout, TRUE['GET /export/layout']),
+        ):
+            read(text)
+            for end in range(len(text)):
+                if not text[:end].endswith(b'\n'):
+                    with self.assertRaises(client.NotADesk, msg=text[:end]):
+                        read(text[:end])
 
     def test_reports_that_contradict_themselves(self) -> None:
         for read, text, wrong in (
@@ -469,10 +543,13 @@ class AnotherServer(Attack):
             ),
             (reports.read_holds, HOLDS, ((b'E12', b'E\x1b12'), (b'node N1', b'edge E12'))),
             (
-                reports.read_loads,
+                exports.read_loads,
                 EXPORT,
                 ((b'L2', b'L1'), (b'station,A', b'station,'), (b'left', b'gone')),
             ),
+            (exports.read_jobs, JOBS, WRONG_JOBS),
+            (exports.read_vehicles, VEHICLES, WRONG_VEHICLES),
+            (exports.read_layout, TRUE['GET /export/layout'], WRONG_LAYOUTS),
         ):
             read(text)
             for before, after in wrong:
@@ -743,8 +820,7 @@ class TerminalEscapes(Attack):
             ('ask', '--password-file', name, 'vehicles'),
             ('ask', name),
             ('check-layout', name),
-            ('dispatch', '--layout', name),
-            ('dispatch', '--desk', name, '--layout', os.path.join(ROOT, 'README.md')),
+            ('dispatch', '--desk', name),
         ):
             with self.subTest(words):
                 line = [sys.executable, os.path.join(TOOLS, words[0]), *words[1:]]
@@ -775,20 +851,16 @@ class TerminalEscapes(Attack):
 
 @contextlib.contextmanager
 def dispatching(address: str) -> Iterator[subprocess.Popen[str]]:
-    """The dispatcher as a process, over the layout of tests/dispatching.py. What it prints goes to
-    the attributes `out` and `err`, which are read as they come."""
-    with tempfile.TemporaryDirectory() as folder:
-        layout = os.path.join(folder, 'layout.csv')
-        with open(layout, 'wb') as file:
-            file.write(LAYOUT)
-        words = ['--desk', address, '--layout', layout, '--every', '0.05', '--timeout', '20']
-        line = [sys.executable, os.path.join(TOOLS, 'dispatch'), *words]
-        pipe = subprocess.PIPE
-        with subprocess.Popen(line, stdout=pipe, stderr=pipe, text=True) as program:
-            try:
-                yield program
-            finally:
-                program.kill()
+    """The dispatcher as a process. What it prints goes to the attributes `out` and `err`, which are
+    read as they come."""
+    words = ['--desk', address, '--every', '0.05', '--timeout', '20']
+    line = [sys.executable, os.path.join(TOOLS, 'dispatch'), *words]
+    pipe = subprocess.PIPE
+    with subprocess.Popen(line, stdout=pipe, stderr=pipe, text=True) as program:
+        try:
+            yield program
+        finally:
+            program.kill()
 
 
 class Lines:
@@ -848,17 +920,21 @@ class AnotherServerForTheDispatcher(Attack):
         self.assertTrue(is_plain(out.text + err.text))
 
     def test_another_warehouse(self) -> None:
-        """A desk with another layout, or none, is an alarm, and not the end."""
+        """A desk without a layout is waited for; once another one takes the port, that is an alarm,
+        and not the end."""
         with tempfile.TemporaryDirectory() as folder:
             with Serving(os.path.join(folder, 'empty.db'), 10**6) as empty:
                 self.server.desk = empty.port
                 with dispatching(self.server.address) as program:
                     out, err = Lines(program.stdout), Lines(program.stderr)
-                    until(lambda: err.text or program.poll() is not None, 'an alarm')
-                    self.assertIsNone(program.poll(), err.text)
+                    until(lambda: out.text or program.poll() is not None, 'a line')
+                    self.assertIn('waits for the desk: it has no layout yet', out.text)
                     self.server.desk = self.serving.port
                     until(lambda: 'gives orders at' in out.text, 'the desk')
-        self.assertIn('is not the layout of the desk', err.text)
+                    self.server.desk = empty.port
+                    until(lambda: err.text or program.poll() is not None, 'an alarm')
+                    self.assertIsNone(program.poll(), err.text)
+        self.assertIn('it has another layout: station A', err.text)
 
     def test_any_answer(self) -> None:
         """Turns over answers of the desk of which some were changed at random: none raises."""
@@ -917,7 +993,7 @@ class OverAUnixSocket(unittest.TestCase):
     @unittest.skipUnless(os.geteuid() == 0, 'only root becomes another user')
     def test_another_user(self) -> None:
         """A user who is not of the group gets no connection, and is told so."""
-        code = 'import os, sys\nfrom nulvrader.client import Desk\n'
+        code = 'import os, sys\nfrom nulvrader.desk.client import Desk\n'
         code += 'os.setgroups([]); os.setgid(65534); os.setuid(65534)\n'
         code += (
             'try:\n    Desk(sys.argv[1]).load("L1")\nexcept Exception as fault:\n    print(fault)'

@@ -4,6 +4,7 @@ from __future__ import annotations
 
 import concurrent.futures
 import contextlib
+import glob
 import http.server
 import itertools
 import json
@@ -22,12 +23,12 @@ import time
 import unittest
 from collections.abc import Sequence
 
-import browser
-import proxies
-from board_run import FOLDER, ONE, PROGRAM, Plant, has_loopback, until
-from browser import Browser
-from programs import ROOT, free_port
-from proxies import Proxy, Told
+from tests.support import browser
+from tests.support import proxies
+from tests.support.board_run import FOLDER, ONE, PROGRAM, Plant, has_loopback, until
+from tests.support.browser import Browser
+from tests.support.programs import ROOT, free_port
+from tests.support.proxies import Proxy, Told
 
 PLACE = '/vehicles/KIT/0001/place'
 # The field of a form without a coding: a "=" and the value behind it, it is JSON.
@@ -416,6 +417,28 @@ class Passwords(ThroughNginx):
         return self.proxy.errors().count('user "anna": password mismatch')
 
 
+def client_hello() -> bytes:
+    """What a client of TLS sends first."""
+    sent = ssl.MemoryBIO()
+    context = ssl.create_default_context()
+    with contextlib.suppress(ssl.SSLWantReadError):
+        context.wrap_bio(ssl.MemoryBIO(), sent, server_hostname='desk.example').do_handshake()
+    return sent.read()
+
+
+def asking(proxy: Proxy, address: str, request: str, user: str) -> socket.socket:
+    """A connection from one of the addresses of this machine, on which a user has sent a request.
+    It takes little of an answer that it doesn't read."""
+    line = socket.socket()
+    line.settimeout(300)
+    line.setsockopt(socket.SOL_SOCKET, socket.SO_RCVBUF, 4096)
+    line.bind((address, 0))
+    line.connect(('127.0.0.1', proxy.port))
+    head = [f'{request} HTTP/1.1', f'Host: {proxy.host(False)}', proxies.basic(user, f'{user}!')]
+    line.sendall('\r\n'.join([*head, 'Connection: close', '', '']).encode())
+    return line
+
+
 # Sends requests for so many seconds, and at least 100, 14 at a time, and waits for no answer.
 GUESS = """
 import asyncio, sys, time
@@ -482,6 +505,60 @@ class Record(ThroughNginx):
         """The bytes of what nginx has written to files."""
         return sum(os.path.getsize(self.proxy.path(name)) for name in ('desk.log', 'error.log'))
 
+    def test_by_tls_that_is_none(self) -> None:
+        """Without a password it sends beginnings of TLS with one wrong byte, of which nginx would
+        log many; nothing of that must be kept in a file, nor be told to the journal."""
+        before, told = self.size(), len(self.proxy.errors())
+        good = client_hello()
+        for at in (9, *range(100, len(good), 13)):
+            hello = bytearray(good)
+            hello[at] = 2 if at == 9 else hello[at] ^ 0xFF
+            with socket.create_connection(('127.0.0.1', self.proxy.tls_port), timeout=60) as line:
+                line.sendall(hello)
+                line.shutdown(socket.SHUT_WR)
+                with contextlib.suppress(ConnectionResetError):
+                    while line.recv(65536):
+                        pass
+        self.assertEqual(self.proxy.ask(f'POST {PLACE}', user='anna', body=BODY).status, 200)
+        self.recorded((PLACE, 'anna', '200'))
+        self.assertLess(self.size() - before, 1000)
+        self.assertEqual(self.proxy.errors()[told:], '')
+
+    def test_by_long_methods(self) -> None:
+        """A reader sends requests with methods of 7,900 letters, and with others that no call has;
+        none must be in the record."""
+        before = self.size()
+        for method in ('M' * 7900, 'PATCH', 'OPTIONS', 'HEAD'):
+            self.assertEqual(self.statuses(f'{method} /', user='otto'), [405, 405], method[:9])
+        self.assertEqual(self.proxy.ask(f'POST {PLACE}', user='anna', body=BODY).status, 200)
+        self.recorded((PLACE, 'anna', '200'))
+        self.assertEqual(len(self.proxy.records()), 1)
+        self.assertLess(self.size() - before, 1000)
+
+    def test_by_long_names(self) -> None:
+        """Without a password it claims a name that is too long to be counted; it must be refused
+        unlooked, and nothing be told to the journal."""
+        told = len(self.proxy.errors())
+        self.assertEqual(self.statuses('GET /report/stock', user='n' * 300 + ':x'), [400, 400])
+        self.assertEqual(self.proxy.errors()[told:], '')
+
+    def test_from_many_addresses(self) -> None:
+        """A reader sends commands from three addresses without a pause; the record must grow by at
+        most 10 lines a second, and one more."""
+        begun = time.monotonic()
+        with concurrent.futures.ThreadPoolExecutor(12) as pool:
+            asked = [
+                pool.submit(self.ask_from, f'127.0.0.{1 + number % 3}', f'POST {PLACE}')
+                for number in range(36)
+            ]
+        self.assertEqual({one.result().status for one in asked}, {403})
+        self.assertGreater(time.monotonic() - begun, 3.4)
+
+    def ask_from(self, address: str, request: str, user: str = 'otto') -> Told:
+        """A request of a reader from one of the addresses of this machine."""
+        with asking(self.proxy, address, request, user) as line:
+            return proxies.answered(line)
+
     def test_by_a_user(self) -> None:
         """A reader sends commands and long targets without a pause; the record must have 300
         characters of each target, and grow by at most 10 lines a second."""
@@ -493,6 +570,102 @@ class Record(ThroughNginx):
         took = time.monotonic() - begun
         self.assertGreater(took, 2.5)
         self.recorded((target[:300], 'otto', '403'))
+
+
+LARGE = 10_000_000  # bytes of a report: more than waits in memory, and in the kernel
+
+
+class LargeDesk:
+    """In the desk's place: answers each request with a report of LARGE bytes, one after another."""
+
+    def __init__(self) -> None:
+        self.listener = socket.create_server(('127.0.0.1', 0), backlog=100)
+        self.port = self.listener.getsockname()[1]
+        threading.Thread(target=self._serve, daemon=True).start()
+
+    def _serve(self) -> None:
+        head = f'HTTP/1.1 200 OK\r\nContent-Length: {LARGE}\r\nConnection: close\r\n\r\n'
+        with contextlib.suppress(OSError):
+            while True:
+                line, _ = self.listener.accept()
+                with line, contextlib.suppress(OSError):
+                    line.recv(65536)
+                    line.sendall(head.encode() + bytes(LARGE))
+
+    def close(self) -> None:
+        """Ends it."""
+        with contextlib.suppress(OSError):
+            self.listener.shutdown(socket.SHUT_RDWR)
+        self.listener.close()
+
+
+@unittest.skipUnless(has_loopback(), 'no sockets on 127.0.0.1 here')
+@unittest.skipIf(proxies.MISSING, proxies.WHY)
+class UnreadReports(unittest.TestCase):
+    """Readers ask for reports and don't read them, so that nginx keeps them in files."""
+
+    def setUp(self) -> None:
+        self.desk = LargeDesk()
+        self.addCleanup(self.desk.close)
+        self.proxy = Proxy(self.desk.port, 1)
+        self.addCleanup(self.proxy.close)
+
+    def waits(self, address: str, user: str) -> int:
+        """Asks for the export, and reads only the status. The connection stays."""
+        line = asking(self.proxy, address, 'GET /export/loads', user)
+        self.addCleanup(line.close)
+        kept = b''
+        while len(kept) < 12:
+            kept += line.recv(12 - len(kept))
+        return int(kept.split()[1])
+
+    def kept(self, count: int) -> None:
+        """So many whole reports wait in files."""
+        until(lambda: self.bytes_kept() >= count * LARGE / 2, f'{count} reports in files')
+
+    def bytes_kept(self) -> int:
+        """The bytes of the files that nginx has open and that have no name."""
+        found = 0
+        for folder in glob.glob('/proc/[0-9]*'):
+            with contextlib.suppress(OSError):
+                with open(os.path.join(folder, 'stat'), encoding='utf-8') as file:
+                    if int(file.read().rpartition(')')[2].split()[1]) != self.proxy.process.pid:
+                        continue
+                for name in glob.glob(os.path.join(folder, 'fd', '*')):
+                    with contextlib.suppress(OSError):
+                        if os.readlink(name).startswith(self.proxy.path('proxied')):
+                            found += os.stat(name).st_size
+        return found
+
+    def test_of_a_reader(self) -> None:
+        """It asks at 3 addresses; 2 reports must wait, and another reader have its own."""
+        for number in range(2):
+            self.assertEqual(self.waits(f'127.0.0.{1 + number}', 'otto'), 200)
+            self.kept(number + 1)
+        for number in range(6):
+            self.assertEqual(self.waits(f'127.0.0.{1 + number % 3}', 'otto'), 429)
+        told = self.proxy.ask('GET /export/loads', user='ANNA')
+        self.assertEqual((told.status, len(told.body)), (200, LARGE))
+        self.assertLessEqual(self.bytes_kept(), 2 * LARGE)
+
+    def test_of_many_readers(self) -> None:
+        """Nine of them ask for two reports each; 16 must wait, and a dispatcher have its own."""
+        for reader in range(9):
+            self.proxy.add_user(f'reader{reader}', '')
+        for number in range(16):
+            self.assertEqual(self.waits('127.0.0.1', f'reader{number // 2}'), 200)
+            self.kept(number + 1)
+        self.assertEqual(self.waits('127.0.0.2', 'reader8'), 429)
+        told = self.proxy.ask('GET /export/loads', user='anna')
+        self.assertEqual((told.status, len(told.body)), (200, LARGE))
+
+    def test_by_a_claimed_name(self) -> None:
+        """Without a password somebody asks for reports in the name of a reader, on 60 connections;
+        the reader must have its own."""
+        for _ in range(60):
+            self.addCleanup(asking(self.proxy, '127.0.0.2', 'GET /export/loads', 'otto:x').close)
+        told = self.proxy.ask('GET /export/loads', user='otto')
+        self.assertEqual((told.status, len(told.body)), (200, LARGE))
 
 
 class SilentConnections(ThroughNginx):
@@ -689,13 +862,13 @@ class AnotherUserOfTheMachine(OwnNetwork):
     def setUp(self) -> None:
         super().setUp()
         self.socket = os.path.join(self.folder, 'desk.sock')
-        forwarder, _ = said('desk-proxy.service', 'ExecStart').split()
-        self.assertEqual(said('desk-proxy.socket', 'ListenStream'), '/run/nulvrader/desk.sock')
+        forwarder, _ = said('nulvrader-proxy.service', 'ExecStart').split()
+        self.assertEqual(said('nulvrader-proxy.socket', 'ListenStream'), '/run/nulvrader/desk.sock')
         listen = ['systemd-socket-activate', f'--listen={self.socket}', forwarder]
         self.start(self.inside(*listen, f'127.0.0.1:{self.port}'))
         until(lambda: os.path.exists(self.socket), 'the socket')
         os.chown(self.socket, 0, GROUP)
-        os.chmod(self.socket, int(said('desk-proxy.socket', 'SocketMode'), 8))
+        os.chmod(self.socket, int(said('nulvrader-proxy.socket', 'SocketMode'), 8))
 
     def through(self, user: int, groups: str = '') -> bool:
         """Whether a user reaches the desk by the socket."""
@@ -784,13 +957,16 @@ class AnotherUserWithoutSystemd(OwnNetwork):
         self.assertFalse(self.among(NOBODY, f'{MEMBER},{GROUP}'))
 
 
-# Listens on ports, and keeps each connection.
+# Listens on ports, over IPv6 too where there is one, and keeps each connection.
 KEEPS = """
-import selectors, socket, sys
+import contextlib, selectors, socket, sys
 
 kept, waits = [], selectors.DefaultSelector()
 for port in sys.argv[1:]:
     waits.register(socket.create_server(('0.0.0.0', int(port)), backlog=500), 1)
+    with contextlib.suppress(OSError):
+        other = socket.create_server(('::', int(port)), family=socket.AF_INET6, backlog=500)
+        waits.register(other, 1)
 print('begun', flush=True)
 while True:
     for key, _ in waits.select():
@@ -810,8 +986,25 @@ for _ in range(int(count)):
 print(len(kept), flush=True)
 time.sleep(600)
 """
+# Opens so many connections from an address to an address and a port, each once the last one is
+# reset, and says how many were made, and in how many seconds.
+TRIES = """
+import socket, struct, sys, time
+
+count, source, target, port = sys.argv[1:]
+made, begun = 0, time.monotonic()
+for _ in range(int(count)):
+    try:
+        with socket.create_connection((target, int(port)), 60, (source, 0)) as one:
+            one.setsockopt(socket.SOL_SOCKET, socket.SO_LINGER, struct.pack('ii', 1, 0))
+        made += 1
+    except ConnectionRefusedError:
+        pass
+print(made, time.monotonic() - begun, flush=True)
+"""
 ONE_ADDRESS, OTHER_ADDRESS, SERVER = '10.77.0.2', '10.77.0.3', '10.77.0.1'
-MOST = 128  # examples/nftables/connections.nft
+ONE_ADDRESS_6, OTHER_ADDRESS_6, SERVER_6 = 'fd77::2', 'fd77::3', 'fd77::1'
+MOST, AT_FIRST, A_SECOND = 128, 200, 5  # examples/nftables/connections.nft
 
 
 @unittest.skipIf(without_networks('nft', 'ip'), without_networks('nft', 'ip'))
@@ -835,6 +1028,14 @@ class ConnectionsOfAnAddress(unittest.TestCase):
         ):
             self.run_in(process, 'ip', 'addr', 'add', f'{address}/24', 'dev', name)
             self.run_in(process, 'ip', 'link', 'set', name, 'up')
+        self.has_ipv6 = os.path.exists('/proc/sys/net/ipv6/conf/all')
+        for process, name, address in (
+            (self.server, 'veth0', SERVER_6),
+            (self.other, 'veth1', ONE_ADDRESS_6),
+            (self.other, 'veth1', OTHER_ADDRESS_6),
+        ):
+            if self.has_ipv6:
+                self.run_in(process, 'ip', 'addr', 'add', f'{address}/64', 'dev', name, 'nodad')
         rules = os.path.join(ROOT, 'examples', 'nftables', 'connections.nft')
         for _ in range(2):
             self.run_in(self.server, 'nft', '-f', rules)
@@ -866,7 +1067,8 @@ class ConnectionsOfAnAddress(unittest.TestCase):
 
     def opened(self, count: int, source: str, port: int) -> tuple[int, subprocess.Popen[bytes]]:
         """How many connections of an address are made to a port, and who keeps them."""
-        words = (f'{count}', source, SERVER, f'{port}')
+        server = SERVER_6 if ':' in source else SERVER
+        words = (f'{count}', source, server, f'{port}')
         process = self.start(*self.inside(self.other), sys.executable, '-c', OPENS, *words)
         return int(self.line(process)), process
 
@@ -882,6 +1084,24 @@ class ConnectionsOfAnAddress(unittest.TestCase):
         for process in (first, second):
             process.kill()
         until(lambda: self.opened(1, ONE_ADDRESS, 443)[0] == 1, 'the address is served again')
+
+    def test_over_ipv6(self) -> None:
+        """It opens 300 connections over IPv6; 128 must be made, and another machine of its network
+        be served."""
+        if not self.has_ipv6:
+            self.skipTest('no IPv6 here')
+        self.assertEqual(self.opened(300, ONE_ADDRESS_6, 8883)[0], MOST)
+        self.assertEqual(self.opened(20, OTHER_ADDRESS_6, 8883)[0], 20)
+
+    def test_many_passwords(self) -> None:
+        """It connects to the broker 600 times, for a password each; 200 must be made, 5 more in a
+        second, and another address be served."""
+        words = ('600', ONE_ADDRESS, SERVER, '8883')
+        told = self.line(self.start(*self.inside(self.other), sys.executable, '-c', TRIES, *words))
+        made, seconds = told.split()
+        self.assertGreaterEqual(int(made), AT_FIRST)
+        self.assertLessEqual(int(made), AT_FIRST + A_SECOND * (float(seconds) + 1))
+        self.assertEqual(self.opened(20, OTHER_ADDRESS, 8883)[0], 20)
 
     def test_by_a_user_of_this_machine(self) -> None:
         """A program of the machine opens 300 connections; 128 must be made, and another user be
@@ -901,7 +1121,7 @@ class Units(unittest.TestCase):
         """It uses what its unit leaves open; `systemd-analyze security` must give each unit at most
         2.0."""
         names = sorted(name for name in os.listdir(SYSTEMD) if name.endswith('.service'))
-        self.assertIn('backup.service', names)
+        self.assertIn('nulvrader-backup.service', names)
         for name in names:
             line = [
                 'systemd-analyze',
@@ -918,7 +1138,7 @@ class Units(unittest.TestCase):
     def test_users(self) -> None:
         """It uses what another service of its user may do; no two units must share a user, and none
         be root's."""
-        dynamic = ('desk-network.service', 'desk-proxy.service')
+        dynamic = ('nulvrader-network.service', 'nulvrader-proxy.service')
         users = [
             said(name, 'User')
             for name in os.listdir(SYSTEMD)

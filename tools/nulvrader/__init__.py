@@ -1,2 +1,4 @@
-"""What the programs of `tools/` share: the client of a desk, its refusals in words, its reports, layouts, the drawing
-of a warehouse, and the questions that a desk has no single call for. Python 3.11's standard library alone."""
+"""The programs beside a desk, and its client for those who write more. Python 3.11's standard
+library alone, but for the gateway, which takes paho-mqtt for MQTT."""
+
+__version__ = '0.1.0'

@@ -7,20 +7,20 @@ from collections.abc import Callable, Mapping
 from dataclasses import dataclass
 from typing import Any, Protocol
 
-from ..client import Desk, NoAnswer, Refused, Stop
-from ..layouts import Layout
-from ..names import BadName, BadValue, VehicleKey, checked
-from ..tables import BODY
-from ..text import shown as printable
-from . import looks, order_looks
-from .asker import now
-from .given import Command, Given, Outcome
-from .looks import Look
+from ..desk.client import Desk, NoAnswer, Refused, Stop
+from ..common.names import BadName, BadValue, VehicleKey, checked
+from ..common.tables import BODY
+from ..common.text import shown as printable
+from . import previews, order_previews
+from .floor import Floor
+from .poller import now
+from .command_log import Command, Given, Outcome
+from .previews import Look
 from .record import NoRecord
 from .scene import Scene
-from .shown import Shown
+from .page_state import Shown
 from .stocktakes import stocktake
-from .tell import advice, count, ended
+from .sentences import advice, count, ended
 
 Values = Mapping[str, str]
 TEXT = 20_000  # characters of what was answered
@@ -48,11 +48,8 @@ class NotSent(Exception):
 class Hurried(Protocol):
     """Who asks the desk anew after a command."""
 
-    def hurry(self, vehicle: VehicleKey | None, load: str | None) -> None:
-        """What a command was about may have changed."""
-
-    def look_at(self, vehicle: str) -> None:
-        """A command to a vehicle is looked at."""
+    def hurry(self) -> None:
+        """Something may have changed."""
 
 
 @dataclass(frozen=True)
@@ -94,68 +91,69 @@ def _key(said: Values) -> VehicleKey:
 
 def _register(desk: Desk, said: Values) -> str:
     desk.register_load(said['load'], said.get('station') or None)
-    return '%s is registered.' % said['load']
+    return f'{said["load"]} is registered.'
 
 
 def _correct(desk: Desk, said: Values) -> str:
     desk.correct_load(said['load'], said['ref'], said.get('station') or None)
-    return 'The place of %s is corrected.' % said['load']
+    return f'The place of {said["load"]} is corrected.'
 
 
 def _leave(desk: Desk, said: Values) -> str:
     desk.leave_load(said['load'], said['ref'])
-    return '%s has left.' % said['load']
+    return f'{said["load"]} has left.'
 
 
 def _add_job(desk: Desk, said: Values) -> str:
     desk.add_job(said['job'], said['load'], said['to'])
-    return 'Job %s waits.' % said['job']
+    return f'Job {said["job"]} waits.'
 
 
 def _stop_job(desk: Desk, said: Values) -> str:
     desk.stop_job(said['job'])
-    return 'Job %s is stopped.' % said['job']
+    return f'Job {said["job"]} is stopped.'
 
 
 def _start(desk: Desk, said: Values) -> str:
     stops = [
-        Stop(stop.action, checked(stop.job, 'job')) for stop in order_looks.stops_of(said['stops'])
+        Stop(stop.action, checked(stop.job, 'job'))
+        for stop in order_previews.stops_of(said['stops'])
     ]
     desk.start_order(said['order'], _key(said), stops=stops, edges=int(said['edges']))
-    return '%s has the order %s.' % (said['vehicle'], said['order'])
+    return f'{said["vehicle"]} has the order {said["order"]}.'
 
 
 def _advance(desk: Desk, said: Values) -> str:
     update = desk.advance(_key(said), said['order'], int(said['update']), int(said['edges']))
-    return 'Update %d of order %s is sent.' % (update, said['order'])
+    return f'Update {update} of order {said["order"]} is sent.'
 
 
 def _cancel(desk: Desk, said: Values) -> str:
-    return '%s is told to cancel its order (%s).' % (said['vehicle'], desk.cancel(_key(said)))
+    return f'{said["vehicle"]} is told to cancel its order ({desk.cancel(_key(said))}).'
 
 
 def _pause(desk: Desk, said: Values) -> str:
-    return '%s is told to pause (%s).' % (said['vehicle'], desk.pause(_key(said)))
+    return f'{said["vehicle"]} is told to pause ({desk.pause(_key(said))}).'
 
 
 def _resume(desk: Desk, said: Values) -> str:
-    return '%s is told to go on (%s).' % (said['vehicle'], desk.resume(_key(said)))
+    return f'{said["vehicle"]} is told to go on ({desk.resume(_key(said))}).'
 
 
 def _place(desk: Desk, said: Values) -> str:
     desk.place(_key(said), said['ref'], said['node'])
-    return '%s stands at %s.' % (said['vehicle'], said['node'])
+    return f'{said["vehicle"]} stands at {said["node"]}.'
 
 
 def _resync(desk: Desk, said: Values) -> str:
     desk.resync(_key(said))
-    return 'The next state of %s is taken, whatever its number.' % said['vehicle']
+    return f'The next state of {said["vehicle"]} is taken, whatever its number.'
 
 
 def _stocktake(desk: Desk, said: Values) -> str:
     told = desk.stocktake(said['ref'], said['file'].encode())
-    unknown = ' Unknown names: %s.' % ', '.join(told.unknown) if told.unknown else ''
-    return '%s moved.%s' % (count(told.moved, 'load'), unknown)
+    unknown = f' Unknown names: {", ".join(told.unknown)}.' if told.unknown else ''
+    return f'{count(told.moved, "load")} moved.{unknown}'
 
 
 STATION = Field('station', 'Station, empty for the checking place', 'station', optional=True)
@@ -166,44 +164,46 @@ COMMANDS: dict[str, Kind] = {
             VEHICLE,
             Field('stops', 'Job, or stops as: pick J1, pick J2, drop J1, drop J2', 'stops'),
             Field('edges', 'Edges released at once', 'number', given=lambda: '1'),
-            Field('order', 'Name of the order', 'name', given=lambda: order_looks.new_name('O')),
+            Field('order', 'Name of the order', 'name', given=lambda: order_previews.new_name('O')),
         ),
-        order_looks.start_order,
+        order_previews.start_order,
         _start,
     ),
     'advance': Kind(
         'Release more',
         (VEHICLE, Field('edges', 'Edges more', 'number', given=lambda: '1')),
-        order_looks.advance,
+        order_previews.advance,
         _advance,
         OPEN_ORDER,
     ),
-    'cancel': Kind('Cancel the order', (VEHICLE,), looks.cancel, _cancel),
-    'pause': Kind('Pause', (VEHICLE,), looks.pause, _pause),
-    'resume': Kind('Go on', (VEHICLE,), looks.resume, _resume),
+    'cancel': Kind('Cancel the order', (VEHICLE,), previews.cancel, _cancel),
+    'pause': Kind('Pause', (VEHICLE,), previews.pause, _pause),
+    'resume': Kind('Go on', (VEHICLE,), previews.resume, _resume),
     'place': Kind(
-        'Place', (VEHICLE, Field('node', 'Node', 'node')), looks.place, _place, (REFERENCE,)
+        'Place', (VEHICLE, Field('node', 'Node', 'node')), previews.place, _place, (REFERENCE,)
     ),
-    'resync': Kind('Accept its states again', (VEHICLE,), looks.resync, _resync),
+    'resync': Kind('Accept its states again', (VEHICLE,), previews.resync, _resync),
     'register': Kind(
         'Register a load',
         (Field('load', 'Name of the load', 'name'), STATION),
-        looks.register_load,
+        previews.register_load,
         _register,
     ),
-    'correct': Kind('Correct a place', (LOAD, STATION), looks.correct_load, _correct, (REFERENCE,)),
-    'leave': Kind('A load leaves', (LOAD,), looks.leave_load, _leave, (REFERENCE,)),
+    'correct': Kind(
+        'Correct a place', (LOAD, STATION), previews.correct_load, _correct, (REFERENCE,)
+    ),
+    'leave': Kind('A load leaves', (LOAD,), previews.leave_load, _leave, (REFERENCE,)),
     'job': Kind(
         'Add a job',
         (
             LOAD,
             Field('to', 'To station', 'station'),
-            Field('job', 'Name of the job', 'name', given=lambda: order_looks.new_name('J')),
+            Field('job', 'Name of the job', 'name', given=lambda: order_previews.new_name('J')),
         ),
-        looks.add_job,
+        previews.add_job,
         _add_job,
     ),
-    'stop': Kind('Stop a job', (Field('job', 'Job', 'job'),), looks.stop_job, _stop_job),
+    'stop': Kind('Stop a job', (Field('job', 'Job', 'job'),), previews.stop_job, _stop_job),
     'stocktake': Kind(
         'Stocktake',
         (Field('file', 'File of the count (first line: station,load)', 'file'),),
@@ -218,14 +218,9 @@ class Commands:
     """Looks at commands and carries them out, each over a connection of its own. Threads may call
     it at a time."""
 
-    def __init__(self, desk: Desk, layout: Layout, shown: Shown, given: Given, asker: Hurried):
-        self.desk, self.layout, self.shown, self.given, self.asker = (
-            desk,
-            layout,
-            shown,
-            given,
-            asker,
-        )
+    def __init__(self, desk: Desk, floor: Floor, shown: Shown, given: Given, asker: Hurried):
+        self.desk, self.floor, self.shown = desk, floor, shown
+        self.given, self.asker = given, asker
 
     def listed(self) -> list[dict[str, Any]]:
         """The commands, as the page makes its forms of them."""
@@ -251,8 +246,7 @@ class Commands:
         """What a command will do, with the values for `do`."""
         name, values = self._read(said)
         self._check_adds(name, values)
-        self.asker.look_at(values.get('vehicle', ''))
-        look = COMMANDS[name].look(Scene(self.layout, self.shown), values)
+        look = COMMANDS[name].look(Scene(self.floor.layout, self.shown), values)
         desk = self.shown.get('desk', '')
         down = [
             'The desk does not answer: nothing can be done now, and what the board knows is old.'
@@ -287,8 +281,7 @@ class Commands:
         except NoRecord as fault:
             told['text'] += f' The answer could not be written to board.db: {fault}.'
         if told['done']:
-            vehicle = VehicleKey.parse(values['vehicle']) if 'vehicle' in values else None
-            self.asker.hurry(vehicle, values.get('load'))
+            self.asker.hurry()
         return told
 
     def _sent(self, name: str, values: Values) -> dict[str, Any]:
@@ -363,14 +356,14 @@ class Commands:
     def _check(self, field: Field, text: str) -> None:
         try:
             self._check_name(field, text)
-        except (BadName, order_looks.BadStops) as fault:
+        except (BadName, order_previews.BadStops) as fault:
             raise NoCommand(ended(str(fault))) from fault
         most = {'number': 999, 'update': UPDATES}.get(field.kind)
         if most is not None and not (re.fullmatch('[0-9]{1,10}', text) and int(text) <= most):
             raise NoCommand(f'{field.label}: {text[:40]!a} is no number from 0 to {most}.')
-        if field.kind == 'station' and text not in self.layout.stations:
+        if field.kind == 'station' and text not in self.floor.layout.stations:
             raise NoCommand(f'There is no station {printable(text, NAME)}.')
-        if field.kind == 'node' and text not in self.layout.nodes:
+        if field.kind == 'node' and text not in self.floor.layout.nodes:
             raise NoCommand(f'There is no node {printable(text, NAME)}.')
         if field.kind == 'file':
             self._check_file(text)
@@ -389,5 +382,5 @@ class Commands:
         elif field.kind in ('name', 'load', 'job'):
             checked(text, field.name)
         elif field.kind == 'stops':
-            for stop in order_looks.stops_of(text):
+            for stop in order_previews.stops_of(text):
                 checked(stop.job, 'job')

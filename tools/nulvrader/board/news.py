@@ -1,13 +1,14 @@
-"""Where the followers write: to the page and to the record, at the moment of the answer that they take."""
+"""Where the followers write: to the page and to the record, at the moment of the answer that they
+take."""
 from __future__ import annotations
 
 from .record import Record
-from .shown import EVENTS, Shown
+from .page_state import EVENTS, Shown
 
 
 class News:
-    """The page's values and the record. `at` is the moment of the last answer of the desk, in milliseconds since
-    1970."""
+    """The page's values and the record. `at` is the moment of the last answer of the desk, in
+    milliseconds since 1970."""
 
     def __init__(self, shown: Shown, record: Record):
         self.shown, self.record = shown, record

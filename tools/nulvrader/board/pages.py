@@ -1,5 +1,4 @@
-"""What is answered: the page itself, the layout as it is drawn, what is newer than a page has, and
-commands."""
+"""What is answered: the page itself, what is newer than a page has, and commands."""
 from __future__ import annotations
 
 import functools
@@ -10,19 +9,16 @@ import urllib.parse
 from dataclasses import dataclass
 from typing import Any
 
-from ..layouts import Layout
-from ..names import natural
-from ..positions import Point
-from ..text import shown
-from .asker import Asker, now
+from ..common.text import shown
+from .poller import Asker, now
 from .commands import Commands, NoCommand, NotSent
 from .guard import Guard
 from .record import Record
 from .request import Head
-from .shown import Shown
+from .page_state import Shown
 from .workers import Busy, Workers
 
-FOLDER = os.path.join(os.path.dirname(__file__), '..', '..', 'board_page')
+FOLDER = os.path.join(os.path.dirname(__file__), 'page')
 JSON = 'application/json'
 TYPES = {
     '.html': 'text/html; charset=utf-8',
@@ -53,20 +49,8 @@ class Board:
     record: Record
     asker: Asker
     guard: Guard
-    layout: dict[str, Any]
     commands: Commands | None
     user_header: str | None
-
-
-def drawn(layout: Layout, places: dict[str, Point]) -> dict[str, Any]:
-    """The layout as the page draws it, each kind in the order of the names."""
-    stations = [layout.stations[name] for name in sorted(layout.stations, key=natural)]
-    nodes = sorted(layout.nodes, key=natural)
-    return {
-        'nodes': [[node, round(places[node][0], 1), round(places[node][1], 1)] for node in nodes],
-        'edges': [[edge.name, edge.start, edge.finish] for edge in layout.edges.values()],
-        'stations': [[station.name, station.node, station.capacity] for station in stations],
-    }
 
 
 def told(what: Any, status: int = 200) -> Answer:
@@ -86,7 +70,6 @@ class Pages:
     def __init__(self, board: Board):
         self.board = board
         self.looks, self.commands = Workers(LOOKS), Workers(COMMANDS)
-        self.layout = told(board.layout)
         names = sorted(name for name in os.listdir(FOLDER) if os.path.splitext(name)[1] in TYPES)
         self.files = {f'/{name}': self._file(name) for name in names}
         page = self.files.pop('/index.html')
@@ -137,15 +120,12 @@ class Pages:
     def _page(self, path: str, asked: dict[str, str]) -> Answer:
         if path == '/data':
             return self._data(asked)
-        if path == '/layout':
-            return self.layout
         if path == '/commands':
             return told(self.board.commands.listed() if self.board.commands else [])
         return self.files.get(path) or refused(404, f'There is nothing at {path[:80]}.')
 
     def _data(self, asked: dict[str, str]) -> Answer:
         board, since = self.board, asked.get('since', '')
-        board.asker.look_at(asked.get('vehicle', ''))
         version = int(since) if re.fullmatch('[0-9]{1,15}', since) else 0
         newer = board.shown.newer(asked.get('run', ''), version)
         asking = json.dumps(board.asker.asking)

@@ -14,37 +14,52 @@ import time
 from collections.abc import Mapping, Sequence
 from typing import Any
 
-from ..text import shown
+from ..common.text import shown
 
 VERSION = 2
 SCHEMA = """
 CREATE TABLE IF NOT EXISTS meta (name TEXT NOT NULL PRIMARY KEY, value TEXT NOT NULL) STRICT;
-CREATE TABLE IF NOT EXISTS stations (station TEXT NOT NULL PRIMARY KEY, node TEXT NOT NULL, capacity INT NOT NULL,
+CREATE TABLE IF NOT EXISTS stations (station TEXT NOT NULL PRIMARY KEY, node TEXT NOT NULL,
+  capacity INT NOT NULL,
   taken INT NOT NULL, reserved INT NOT NULL) STRICT;
-CREATE TABLE IF NOT EXISTS loads (load TEXT NOT NULL PRIMARY KEY, place TEXT NOT NULL, since TEXT) STRICT;
-CREATE TABLE IF NOT EXISTS vehicles (vehicle TEXT NOT NULL PRIMARY KEY, node TEXT NOT NULL, order_name TEXT, seen INT,
-  base INT, edges INT, sent INT, confirmed INT, pending TEXT, ready INT NOT NULL, paused INT NOT NULL, astray INT NOT
+CREATE TABLE IF NOT EXISTS loads (load TEXT NOT NULL PRIMARY KEY, place TEXT NOT NULL,
+  since TEXT) STRICT;
+CREATE TABLE IF NOT EXISTS vehicles (vehicle TEXT NOT NULL PRIMARY KEY, node TEXT NOT NULL,
+  order_name TEXT, seen INT,
+  base INT, edges INT, sent INT, confirmed INT, pending TEXT, ready INT NOT NULL,
+  paused INT NOT NULL, astray INT NOT
   NULL, capacity INT NOT NULL, heard TEXT, since TEXT NOT NULL) STRICT;
-CREATE TABLE IF NOT EXISTS holds (kind TEXT NOT NULL, name TEXT NOT NULL, vehicle TEXT NOT NULL, since TEXT NOT NULL,
+CREATE TABLE IF NOT EXISTS holds (kind TEXT NOT NULL, name TEXT NOT NULL, vehicle TEXT NOT NULL,
+  since TEXT NOT NULL,
   PRIMARY KEY (kind, name)) STRICT;
-CREATE TABLE IF NOT EXISTS jobs (job TEXT NOT NULL PRIMARY KEY, load TEXT NOT NULL, origin TEXT, target TEXT, phase TEXT
+CREATE TABLE IF NOT EXISTS jobs (job TEXT NOT NULL PRIMARY KEY, load TEXT NOT NULL, origin TEXT,
+  target TEXT, phase TEXT
   NOT NULL, order_name TEXT, vehicle TEXT, added TEXT, began TEXT, ended TEXT) STRICT;
-CREATE TABLE IF NOT EXISTS load_moves (n INTEGER PRIMARY KEY, at TEXT NOT NULL, load TEXT NOT NULL, from_place TEXT,
+CREATE TABLE IF NOT EXISTS load_moves (n INTEGER PRIMARY KEY, at TEXT NOT NULL,
+  load TEXT NOT NULL, from_place TEXT,
   to_place TEXT NOT NULL) STRICT;
-CREATE TABLE IF NOT EXISTS vehicle_states (n INTEGER PRIMARY KEY, at TEXT NOT NULL, vehicle TEXT NOT NULL, node TEXT NOT
-  NULL, order_name TEXT, seen INT, base INT, edges INT, sent INT, confirmed INT, pending TEXT, ready INT NOT NULL,
+CREATE TABLE IF NOT EXISTS vehicle_states (n INTEGER PRIMARY KEY, at TEXT NOT NULL,
+  vehicle TEXT NOT NULL, node TEXT NOT
+  NULL, order_name TEXT, seen INT, base INT, edges INT, sent INT, confirmed INT, pending TEXT,
+  ready INT NOT NULL,
   paused INT NOT NULL, astray INT NOT NULL) STRICT;
-CREATE TABLE IF NOT EXISTS hold_changes (n INTEGER PRIMARY KEY, at TEXT NOT NULL, kind TEXT NOT NULL, name TEXT NOT
+CREATE TABLE IF NOT EXISTS hold_changes (n INTEGER PRIMARY KEY, at TEXT NOT NULL,
+  kind TEXT NOT NULL, name TEXT NOT
   NULL, vehicle TEXT) STRICT;
-CREATE TABLE IF NOT EXISTS waits (n INTEGER PRIMARY KEY, vehicle TEXT NOT NULL, kind TEXT NOT NULL, name TEXT NOT NULL,
+CREATE TABLE IF NOT EXISTS waits (n INTEGER PRIMARY KEY, vehicle TEXT NOT NULL,
+  kind TEXT NOT NULL, name TEXT NOT NULL,
   holder TEXT NOT NULL, began TEXT NOT NULL, ended TEXT) STRICT;
-CREATE TABLE IF NOT EXISTS desk_times (n INTEGER PRIMARY KEY, at TEXT NOT NULL, answers INT NOT NULL, fault TEXT)
+CREATE TABLE IF NOT EXISTS desk_times (n INTEGER PRIMARY KEY, at TEXT NOT NULL,
+  answers INT NOT NULL, fault TEXT)
   STRICT;
-CREATE TABLE IF NOT EXISTS commands (n INTEGER PRIMARY KEY, at TEXT NOT NULL, who TEXT NOT NULL, command TEXT NOT NULL,
+CREATE TABLE IF NOT EXISTS commands (n INTEGER PRIMARY KEY, at TEXT NOT NULL, who TEXT NOT NULL,
+  command TEXT NOT NULL,
   said TEXT NOT NULL, done INT, answer TEXT) STRICT;
-CREATE TABLE IF NOT EXISTS events (n INTEGER PRIMARY KEY, at TEXT NOT NULL, kind TEXT NOT NULL, words TEXT NOT NULL,
+CREATE TABLE IF NOT EXISTS events (n INTEGER PRIMARY KEY, at TEXT NOT NULL, kind TEXT NOT NULL,
+  words TEXT NOT NULL,
   vehicle TEXT, load TEXT) STRICT;
-CREATE TABLE IF NOT EXISTS drawing (node TEXT NOT NULL PRIMARY KEY, x REAL NOT NULL, y REAL NOT NULL) STRICT;
+CREATE TABLE IF NOT EXISTS drawing (node TEXT NOT NULL PRIMARY KEY, x REAL NOT NULL,
+  y REAL NOT NULL) STRICT;
 CREATE INDEX IF NOT EXISTS load_moves_load ON load_moves (load, at);
 CREATE INDEX IF NOT EXISTS load_moves_at ON load_moves (at);
 CREATE INDEX IF NOT EXISTS vehicle_states_vehicle ON vehicle_states (vehicle, at);
@@ -57,7 +72,8 @@ CREATE INDEX IF NOT EXISTS jobs_ended ON jobs (ended);
 # Moves a file of version 1, where a command stood once it was answered.
 MOVE = """
 ALTER TABLE commands RENAME TO commands_1;
-CREATE TABLE commands (n INTEGER PRIMARY KEY, at TEXT NOT NULL, who TEXT NOT NULL, command TEXT NOT NULL, said TEXT NOT
+CREATE TABLE commands (n INTEGER PRIMARY KEY, at TEXT NOT NULL, who TEXT NOT NULL,
+  command TEXT NOT NULL, said TEXT NOT
   NULL, done INT, answer TEXT) STRICT;
 INSERT INTO commands SELECT n, at, who, command, said, done, answer FROM commands_1;
 DROP TABLE commands_1;
@@ -83,7 +99,7 @@ class NoRecord(Exception):
 def text_of(at: int) -> str:
     """A moment, in milliseconds since 1970, as the tables have it."""
     moment = datetime.datetime.fromtimestamp(at // 1000, datetime.timezone.utc)
-    return '%s.%03dZ' % (moment.strftime('%Y-%m-%dT%H:%M:%S'), at % 1000)
+    return f'{moment.strftime("%Y-%m-%dT%H:%M:%S")}.{at % 1000:03d}Z'
 
 
 def moment_of(text: str) -> int:
@@ -184,7 +200,7 @@ class Record:
         columns = ', '.join(values)
         marks = ', '.join('?' * len(values))
         self._put(
-            'INSERT OR REPLACE INTO %s (%s) VALUES (%s)' % (table, columns, marks),
+            f'INSERT OR REPLACE INTO {table} ({columns}) VALUES ({marks})',
             list(values.values()),
         )
 
@@ -281,24 +297,22 @@ class Record:
             found.append({'at': moment_of(at), 'kind': kind, 'text': words, **names})
         return found[::-1]
 
-    def drawing(self, layout: str) -> dict[str, tuple[float, float]]:
-        """Where the nodes of a layout are drawn, by its digest; empty where that isn't kept."""
-        if self.meta('drawing') != layout:
-            return {}
-        return {node: (x, y) for node, x, y in self.rows('SELECT node, x, y FROM drawing')}
+    def layout(self) -> tuple[str, dict[str, tuple[float, float]]] | None:
+        """The layout as a file, and where its nodes are drawn; None where none is kept."""
+        layout = self.meta('layout')
+        rows = self.rows('SELECT node, x, y FROM drawing')
+        return None if layout is None else (layout, {node: (x, y) for node, x, y in rows})
 
-    def keep_drawing(self, layout: str, places: Mapping[str, tuple[float, float]]) -> None:
-        """Keeps where the nodes of a layout are drawn."""
-        with self._lock:
-            self._put('DELETE FROM drawing')
-            for node, (x, y) in places.items():
-                self._row('drawing', {'node': node, 'x': x, 'y': y})
-            self.set_meta('drawing', layout)
-            self.commit()
+    def keep_layout(self, layout: str, places: Mapping[str, tuple[float, float]]) -> None:
+        """Keeps the layout, and where its nodes are drawn."""
+        self._put('DELETE FROM drawing')
+        for node, (x, y) in places.items():
+            self._row('drawing', {'node': node, 'x': x, 'y': y})
+        self.set_meta('layout', layout)
 
     def remove_old(self, before: int) -> None:
         """Removes what is older than a moment."""
         with self._lock:
             for table, rows in OLD.items():
-                self._put('DELETE FROM %s WHERE %s' % (table, rows), (text_of(before),))
+                self._put(f'DELETE FROM {table} WHERE {rows}', (text_of(before),))
             self.commit()

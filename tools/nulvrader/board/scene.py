@@ -4,8 +4,8 @@ from __future__ import annotations
 from dataclasses import dataclass
 from typing import Any
 
-from ..layouts import Layout
-from .shown import Shown
+from ..common.layouts import Layout
+from .page_state import Shown
 
 
 @dataclass(frozen=True)
@@ -37,11 +37,13 @@ class Scene:
 
     def job_of(self, load: str) -> str | None:
         """The live job of a load, where it is known."""
-        return next((name for name, job in self.shown.all('job').items() if job['load'] == load), None)
+        return next(
+            (name for name, job in self.shown.all('job').items() if job['load'] == load), None
+        )
 
     def holder(self, kind: str, name: str) -> str | None:
         """The vehicle that holds a node or an edge."""
-        holder: str | None = self.shown.get('hold', '%s %s' % (kind, name))
+        holder: str | None = self.shown.get('hold', f'{kind} {name}')
         return holder
 
     def room(self, station: str) -> int | None:
@@ -55,9 +57,7 @@ class Scene:
     def station_words(self, station: str) -> str:
         """How full a station is, in words."""
         row = self.shown.get('station', station) or {'taken': 0, 'reserved': 0}
-        return '%s (%d of %d taken, %d reserved)' % (
-            station,
-            row['taken'],
-            self.layout.stations[station].capacity,
-            row['reserved'],
+        return (
+            f'{station} ({row["taken"]} of {self.layout.stations[station].capacity} taken,'
+            f' {row["reserved"]} reserved)'
         )

@@ -12,7 +12,7 @@ import stat
 import threading
 
 from .guard import HEADERS
-from .log import log
+from .journal import log
 from .pages import Answer, Pages, refused
 from .request import HEAD, BadRequest, Head, read_head
 

@@ -1,15 +1,15 @@
-"""What a stocktake will do, looked at before as `tools/check-count` does: the faults of the file with their lines, and
-which loads will move."""
+"""What a stocktake will do, looked at before as `tools/check-count` does: the faults of the file
+with their lines, and which loads will move."""
 from __future__ import annotations
 
 import re
 from collections.abc import Mapping
 
-from ..counts import CountFile, Records
-from ..names import new_reference
-from .looks import Look
+from ..common.counts import CountFile, Records
+from ..common.names import new_reference
+from .previews import Look
 from .scene import Scene
-from .tell import count, place_words
+from .sentences import count, place_words
 
 MOST = 20  # lines of one kind that are told
 
@@ -20,24 +20,25 @@ def stocktake(scene: Scene, values: Mapping[str, str]) -> Look:
     file.check(records)
     moves = file.moves(records)
     look.says.append(
-        'Counted: %s. Found: %s.' % (count(len(file.stations()), 'station'), count(len(file.found()), 'load'))
+        f'Counted: {count(len(file.stations()), "station")}. Found:'
+        f' {count(len(file.found()), "load")}.'
     )
     if file.faults:
         look.says.append('The desk will refuse this file as a whole: no load moves.')
         look.warns += [sentence(str(fault)) for fault in file.faults[:MOST]]
         if len(file.faults) > MOST:
-            look.warns.append('And %d more.' % (len(file.faults) - MOST))
+            look.warns.append(f'And {len(file.faults) - MOST} more.')
         return look
-    look.says.append('Moved by it: %s.' % count(len(moves), 'load'))
+    look.says.append(f'Moved by it: {count(len(moves), "load")}.')
     for move in moves[:MOST]:
         look.says.append(
-            '%s, which is %s, is then %s.' % (move.load, place_words(move.before), place_words(move.after))
+            f'{move.load}, which is {place_words(move.before)}, is then {place_words(move.after)}.'
         )
     if len(moves) > MOST:
-        look.says.append('And %d more.' % (len(moves) - MOST))
+        look.says.append(f'And {len(moves) - MOST} more.')
     unknown = [str(row.load) for row in file.unknown(records)]
     if unknown:
-        look.says.append('Names that no load here has: %s.' % ', '.join(unknown[:MOST]))
+        look.says.append(f'Names that no load here has: {", ".join(unknown[:MOST])}.')
     return look
 
 
@@ -52,8 +53,9 @@ def records_of(scene: Scene) -> Records:
 
 
 def sentence(words: str) -> str:
-    """A fault of a file in words of the page: without the name of the refusal, and with what is to be done there."""
+    """A fault of a file in words of the page: without the name of the refusal, and with what is to
+    be done there."""
     words = re.sub('^((?:line [0-9]+: )?)[A-Z][A-Za-z]+: ', r'\1', words)
     words = re.sub('`tools/ask stop-job [^`]*`', 'stop it', words)
     words = re.sub('`tools/ask correct [^`]*`', 'correct its place', words)
-    return '%s%s.' % (words[:1].upper(), words[1:])
+    return f'{words[:1].upper()}{words[1:]}.'

@@ -4,18 +4,19 @@ from __future__ import annotations
 from collections.abc import Iterator, Sequence
 from dataclasses import dataclass
 
-from ..client import Stop
-from .jobs import Waiting
+from ..desk.client import Stop
+from .job_book import Waiting
 from .snapshot import Seen
 from .traffic import Judge, Traffic
-from .ways import Ways
+from .routes import Ways
 
 JOBS = 30
-"""So many of the oldest jobs are tried in a turn, and so many of the others, in each turn the next ones."""
+"""So many of the oldest jobs are tried in a turn, and so many of the others, in each turn the next
+ones."""
 
 LOOKS = 8
-"""So many pairs of a job and a vehicle get a look in one turn, if it takes one to see whether the vehicle may be started: those whose
-last look was longest ago, and of these the nearest."""
+"""So many pairs of a job and a vehicle get a look in one turn, if it takes one to see whether the
+vehicle may be started: those whose last look was longest ago, and of these the nearest."""
 
 KEPT = 20_000
 """Of so many pairs it is kept when they had their last look."""
@@ -29,14 +30,12 @@ AGE = 10.0
 
 @dataclass(frozen=True)
 class Proposal:
-    """An order: its vehicle, its stops, the way that it takes by node, and the jobs. Where the target of its one job is not known the
-    way leads to the pick alone, and `is_whole` is false."""
+    """An order: its vehicle, its stops, the way that it takes by node, and the jobs."""
 
     vehicle: str
     stops: tuple[Stop, ...]
     way: tuple[str, ...]
     jobs: tuple[Waiting, ...]
-    is_whole: bool = True
 
 
 @dataclass(frozen=True)
@@ -52,12 +51,15 @@ Try = tuple[Waiting, Seen, tuple[str, ...]]
 
 
 class Chooser:
-    """Chooses over one layout. `detour` is how many edges an order may become longer by each further job that it takes along."""
+    """Chooses over one layout. `detour` is how many edges an order may become longer by each
+    further job that it takes along."""
 
     def __init__(self, ways: Ways, judge: Judge, detour: int = 0) -> None:
         self.ways, self.judge, self.detour = ways, judge, detour
         self._turn, self._left = 0, LOOKS
-        self._looked: dict[tuple[str, ...], int] = {}  # the turn of the last look, by where the vehicle stands and where the job leads
+        self._looked: dict[
+            tuple[str, ...], int
+        ] = {}  # the turn of the last look, by where the vehicle stands and where the job leads
         self._put_off: set[str] = set()  # the jobs that were not looked at
 
     def begin_turn(self) -> None:
@@ -65,23 +67,29 @@ class Chooser:
         self._turn, self._left = self._turn + 1, LOOKS
 
     def is_put_off(self, one: Waiting) -> bool:
-        """Whether others come before this job: it is not one of the oldest, or a vehicle had no look for it yet."""
+        """Whether others come before this job: it is not one of the oldest, or a vehicle had no
+        look for it yet."""
         return one.job in self._put_off
 
-    def propose(self, idle: Sequence[Seen], waiting: Sequence[Waiting], traffic: Traffic) -> Proposal | None:
-        """The first order that may be started: for a vehicle that is in the way of others, else for a job and a vehicle that is near,
-        where the time counts that the job has waited. Jobs whose target is not known come last."""
+    def propose(
+        self, idle: Sequence[Seen], waiting: Sequence[Waiting], traffic: Traffic
+    ) -> Proposal | None:
+        """The first order that may be started: for a vehicle that is in the way of others, else for
+        a job and a vehicle that is near, where the time counts that the job has waited."""
         oldest, others = waiting[:JOBS], waiting[JOBS:]
-        jobs = [*oldest, *(others[(self._turn * JOBS + n) % len(others)] for n in range(min(JOBS, len(others))))]
+        jobs = [
+            *oldest,
+            *(others[(self._turn * JOBS + n) % len(others)] for n in range(min(JOBS, len(others)))),
+        ]
         self._put_off = {one.job for one in others}
-        known, unknown = [one for one in jobs if one.target is not None], [one for one in jobs if one.target is None]
         blocking = [seen for seen in idle if traffic.in_the_way(seen.name)]
-        found = self._first(blocking, known, traffic) or self._first(idle, known, traffic)
-        if found is not None:
-            one, seen, way = found
-            return self._with_more(Proposal(seen.name, _stops(one), way, (one,)), one, seen, waiting, traffic)
-        found = self._first(idle, unknown, traffic)
-        return None if found is None else Proposal(found[1].name, _stops(found[0]), found[2], (found[0],), False)
+        found = self._first(blocking, jobs, traffic) or self._first(idle, jobs, traffic)
+        if found is None:
+            return None
+        one, seen, way = found
+        return self._with_more(
+            Proposal(seen.name, _stops(one), way, (one,)), one, seen, waiting, traffic
+        )
 
     def _first(self, idle: Sequence[Seen], jobs: Sequence[Waiting], traffic: Traffic) -> Try | None:
         """The first of these that may be started, as far as looks are left."""
@@ -93,7 +101,10 @@ class Chooser:
                 (plain if told else nearer).append(tried)
             if told:
                 break
-        found = next((tried for tried in [*self._due(nearer), *plain] if self._may_start(tried, traffic)), None)
+        found = next(
+            (tried for tried in [*self._due(nearer), *plain] if self._may_start(tried, traffic)),
+            None,
+        )
         self._put_off |= {tried[0].job for tried in nearer if _key(tried) not in self._looked}
         return found
 
@@ -118,38 +129,59 @@ class Chooser:
         """Jobs, each with a vehicle and its way, the nearest first."""
         pairs = []
         for number, one in enumerate(jobs):
-            stops = [self.ways.node_of(name) for name in (one.origin, one.target) if name is not None]
+            stops = [self.ways.node_of(name) for name in (one.origin, one.target)]
             for seen in idle:
                 hops = self.ways.hops(seen.row.node, stops[0])
                 if hops is not None:
-                    pairs.append((hops + one.since / AGE, number, seen.name, seen, (seen.row.node, *stops)))
+                    pairs.append(
+                        (hops + one.since / AGE, number, seen.name, seen, (seen.row.node, *stops))
+                    )
         pairs.sort(key=lambda pair: pair[:3])
         tries = ((jobs[number], seen, self.ways.way(stops)) for _, number, _, seen, stops in pairs)
         return ((one, seen, way) for one, seen, way in tries if way is not None)
 
-    def _with_more(self, first: Proposal, one: Waiting, seen: Seen, waiting: Sequence[Waiting], traffic: Traffic) -> Proposal:
-        """The order with further jobs that lie on its way, the oldest first, as far as the vehicle can carry them."""
-        assert one.target is not None
-        stops = [At(first.stops[0], self.ways.node_of(one.origin)), At(first.stops[1], self.ways.node_of(one.target))]
+    def _with_more(
+        self,
+        first: Proposal,
+        one: Waiting,
+        seen: Seen,
+        waiting: Sequence[Waiting],
+        traffic: Traffic,
+    ) -> Proposal:
+        """The order with further jobs that lie on its way, the oldest first, as far as the vehicle
+        can carry them."""
+        stops = [
+            At(first.stops[0], self.ways.node_of(one.origin)),
+            At(first.stops[1], self.ways.node_of(one.target)),
+        ]
         found = first
         for other in waiting[:MORE]:
             if len(found.jobs) >= seen.free():
                 break
-            if other.target is None or other in found.jobs:
+            if other in found.jobs:
                 continue
             longer = self._inserted(seen.row.node, stops, other, found.way)
             if longer is None:
                 continue
             way = self.ways.way((seen.row.node, *(at.node for at in longer)))
-            if way is not None and (way == found.way or self._left and self._may_start((other, seen, way), traffic)):
+            if way is not None and (
+                way == found.way or self._left and self._may_start((other, seen, way), traffic)
+            ):
                 stops = longer
-                found = Proposal(seen.name, tuple(at.stop for at in stops), way, (*found.jobs, other))
+                found = Proposal(
+                    seen.name, tuple(at.stop for at in stops), way, (*found.jobs, other)
+                )
         return found
 
-    def _inserted(self, start: str, stops: list[At], other: Waiting, way: Sequence[str]) -> list[At] | None:
-        """The stops with those of another job among them where the way is shortest, if it is longer than this by the detour at most."""
-        assert other.target is not None
-        pick, drop = (At(stop, self.ways.node_of(name)) for stop, name in zip(_stops(other), (other.origin, other.target)))
+    def _inserted(
+        self, start: str, stops: list[At], other: Waiting, way: Sequence[str]
+    ) -> list[At] | None:
+        """The stops with those of another job among them where the way is shortest, if it is longer
+        than this by the detour at most."""
+        pick, drop = (
+            At(stop, self.ways.node_of(name))
+            for stop, name in zip(_stops(other), (other.origin, other.target))
+        )
         if not self.detour and (pick.node not in way or drop.node not in way):
             return None
         most = len(way) + self.detour
@@ -157,7 +189,10 @@ class Chooser:
         for i in range(len(stops) + 1):
             for j in range(i, len(stops) + 1):
                 tried = [*stops[:i], pick, *stops[i:j], drop, *stops[j:]]
-                legs = [self.ways.hops(a, b) for a, b in zip((start, *(at.node for at in tried)), (at.node for at in tried))]
+                legs = [
+                    self.ways.hops(a, b)
+                    for a, b in zip((start, *(at.node for at in tried)), (at.node for at in tried))
+                ]
                 length = 1 + sum(leg if leg is not None else most for leg in legs)
                 if length <= most and (best is None or length < best[0]):
                     best = length, tried
@@ -170,4 +205,4 @@ def _stops(one: Waiting) -> tuple[Stop, Stop]:
 
 def _key(tried: Try) -> tuple[str, ...]:
     one, seen, _ = tried
-    return seen.row.node, one.origin, one.target or ''
+    return seen.row.node, one.origin, one.target

@@ -1,7 +1,8 @@
-"""The dispatcher: in each turn it looks at the desk, releases what may be released, and gives orders for jobs that wait.
+"""The dispatcher: in each turn it looks at the desk, releases what may be released, and gives
+orders for jobs that wait.
 
-The desk tells it what it needs, but not which waiting job leads where, nor since when each waits: its notes do, and after a start without
-notes it may not know that. What it remembers of vehicles, as how long one has waited or when it was last heard, begins anew with a start."""
+The desk tells it what it needs. What it remembers besides, as how long a job or a vehicle has
+waited or when that was last heard, begins anew with a start."""
 from __future__ import annotations
 
 import re
@@ -9,26 +10,26 @@ import time
 from collections.abc import Callable, Mapping, Sequence
 from dataclasses import dataclass
 
-from ..client import BadValue, Desk, NoAnswer, NotADesk, Refused
-from ..layouts import Layout
-from ..names import natural, new_reference
+from ..desk.client import BadValue, Desk, NoAnswer, NotADesk, Refused
+from ..common.layouts import Layout
+from ..common.names import natural, new_reference
 from .choose import Chooser, Proposal
-from .jobs import JobBook, Waiting
+from .job_book import JobBook, Waiting
 from .lines import Lines
 from .memory import Memory
 from .shut_in import MOST_TIMES, ShutIn
 from .snapshot import Seen, Snapshot, check, take
 from .traffic import Judge, Still, Traffic
-from .ways import Ways
+from .routes import Ways
 
 NONE_FREE = 'no vehicle is free'
 
 
 @dataclass(frozen=True)
 class Settings:
-    """`ahead`: so many edges are held before a vehicle at most. `detour`: so many edges may an order become longer by a further job.
-    `silent`: a vehicle with an order that has sent no state for so many seconds is not counted on. `told`: a wait is told after so
-    many seconds."""
+    """`ahead`: so many edges are held before a vehicle at most. `detour`: so many edges may an
+    order become longer by a further job. `silent`: a vehicle with an order that has sent no state
+    for so many seconds is not counted on. `told`: a wait is told after so many seconds."""
 
     ahead: int = 2
     detour: int = 0
@@ -39,7 +40,7 @@ class Settings:
 class Dispatcher:
     """A dispatcher over a desk and its layout. `say` takes its lines, `alarm` those which say that
     what answers is no desk, or one with another layout, and `clock` tells seconds that only grow.
-    In the file `notes` it writes where jobs lead that wait, and since when they do."""
+    """
 
     def __init__(
         self,
@@ -48,26 +49,32 @@ class Dispatcher:
         settings: Settings = Settings(),
         *,
         judge: Judge | None = None,
-        notes: str | None = None,
         say: Callable[[str], None] = print,
         alarm: Callable[[str], None] | None = None,
         clock: Callable[[], float] = time.monotonic,
     ) -> None:
-        self.desk, self.layout, self.settings, self.say, self.clock = desk, layout, settings, say, clock
+        self.desk, self.layout, self.settings, self.say, self.clock = (
+            desk,
+            layout,
+            settings,
+            say,
+            clock,
+        )
         self.alarm = alarm or say
         self.lines = Lines(say, settings.told)
         self.ways = Ways(layout)
         self._out = {node: self.ways.way_out(node) for node in layout.nodes}
         self.judge = judge or Judge()
         self.chooser = Chooser(self.ways, self.judge, settings.detour)
-        self.book = JobBook(notes)
+        self.book = JobBook()
         self._waits: Mapping[str, str] = {}
         self._last: Snapshot | None = None
         self._memory: dict[str, Memory] = {}
         self._shut_in = ShutIn(self.judge, self._memory)
 
     def turn(self) -> bool:
-        """One look at the desk, and what follows. Whether the desk answered; where it did not, or has a fault, the next turn may."""
+        """One look at the desk, and what follows. Whether the desk answered; where it did not, or
+        has a fault, the next turn may."""
         try:
             self._turn()
         except (NoAnswer, Refused) as fault:
@@ -81,7 +88,8 @@ class Dispatcher:
         return True
 
     def waits(self) -> Mapping[str, str]:
-        """Why each vehicle and job waits that does, as of the last turn. A job is called `job J1`."""
+        """Why each vehicle and job waits that does, as of the last turn. A job is called `job
+        J1`."""
         return self._waits
 
     def shut_in(self) -> Mapping[str, tuple[float, str]]:
@@ -94,26 +102,29 @@ class Dispatcher:
             seen = take(self.desk, self._last)
             check(seen, self.layout)
             self._last = seen
-            self.book.look(self.desk, seen, now)
-            for vehicle in seen.vehicles.values():
-                self._remember(vehicle, seen, now)
+        self.book.look(seen.jobs, now)
+        for vehicle in seen.vehicles.values():
+            self._remember(vehicle, seen, now)
         traffic = self._traffic(seen, now)
-        held = {**{'node ' + node: str(key) for node, key in seen.holds.nodes.items()},
-                **{'edge ' + edge: str(key) for edge, key in seen.holds.edges.items()}}
+        held = {
+            **{'node ' + node: str(key) for node, key in seen.holds.nodes.items()},
+            **{'edge ' + edge: str(key) for edge, key in seen.holds.edges.items()},
+        }
         reasons: dict[str, str] = {}
         self.judge.begin_turn()
         self._shut_in.begin_turn(traffic)
         self.chooser.begin_turn()
         released, traffic = self._release(seen, traffic, held, reasons, now)
-        idle = {name: one for name, one in seen.vehicles.items() if one.order is None and self._out_of_use(one, now) is None}
+        idle = {
+            name: one
+            for name, one in seen.vehicles.items()
+            if one.order is None and self._out_of_use(one, now) is None
+        }
         started, traffic = self._start(idle, traffic, held, reasons)
         self._look_deeper(seen, traffic, bool(released or started))
         self._untangle(seen, traffic, now)
         self._tell_waits(reasons, now)
         self._tell_none_free(seen, idle, now)
-        self.book.note(reasons)
-        fault = self.book.fault
-        self.lines.once('notes', 'the notes are not written: %s' % fault if fault else None, over='the notes are written again')
 
     # What is remembered and told of the vehicles.
 
@@ -122,25 +133,17 @@ class Dispatcher:
         memory.hear(seen.row.header, now)
         if memory.order != seen.row.order:
             if memory.order is not None:
-                what = 'order %s has ended at %s' % (memory.order, seen.row.node)
-                self.say('%s: %s' % (seen.name, '; '.join([what, *memory.not_done(seen, all_seen.places)])))
+                what = f'order {memory.order} has ended at {seen.row.node}'
+                self.say(
+                    f'{seen.name}: {"; ".join([what, *memory.not_done(seen, all_seen.places)])}'
+                )
             memory.begin(None)
             if seen.row.order is not None:
-                memory.begin(seen.row.order, self._jobs_of(seen))
+                memory.begin(seen.row.order, _jobs_of(seen.row.order, all_seen))
                 told = ', '.join(one.job for one in memory.jobs) or 'jobs that are not known'
-                self.say('%s: has order %s, of %s' % (seen.name, seen.row.order, told))
+                self.say(f'{seen.name}: has order {seen.row.order}, of {told}')
         if seen.order is not None:
             memory.follow(seen, all_seen.places)
-
-    def _jobs_of(self, seen: Seen) -> tuple[Waiting, ...]:
-        """The jobs of an order that this dispatcher has not given, as far as its last message tells."""
-        assert seen.order is not None
-        found = []
-        for act in seen.order.acts():
-            told = self.desk.load(act.load)
-            if act.kind == 'drop' and told.job is not None and told.place != 'station ' + act.station:
-                found.append(Waiting(told.job, act.load, told.place, (act.station,)))
-        return tuple(found)
 
     def _why_still(self, seen: Seen, now: float) -> str | None:
         """Why a vehicle does not go on, or None."""
@@ -152,7 +155,7 @@ class Dispatcher:
         if not seen.row.ready:
             return 'is not ready: it is not in automatic mode, has an emergency stop or an error'
         if now - memory.heard > self.settings.silent:
-            return 'has sent no state for %g seconds' % self.settings.silent
+            return f'has sent no state for {self.settings.silent:g} seconds'
         if seen.row.paused:
             return 'is paused'
         return None
@@ -162,7 +165,7 @@ class Dispatcher:
         why = self._why_still(seen, now)
         if why is not None:
             return re.split('[:;]', why)[0]
-        return None if seen.free() > 0 else 'carries %s in no job' % ' '.join(seen.loads)
+        return None if seen.free() > 0 else f'carries {" ".join(seen.loads)} in no job'
 
     def _traffic(self, seen: Snapshot, now: float) -> Traffic:
         ways, still, parked = {}, {}, {}
@@ -175,24 +178,37 @@ class Dispatcher:
             else:
                 ways[name] = vehicle.rest()
             is_told = why is not None and (vehicle.order is not None or vehicle.row.astray)
-            self.lines.once(name, '%s: %s' % (name, why) if is_told else None, over='%s: goes on' % name)
+            self.lines.once(name, f'{name}: {why}' if is_told else None, over=f'{name}: goes on')
         return Traffic(ways, still, parked, self._out)
 
     # Releasing.
 
     def _release(
-        self, seen: Snapshot, traffic: Traffic, held: dict[str, str], reasons: dict[str, str], now: float
+        self,
+        seen: Snapshot,
+        traffic: Traffic,
+        held: dict[str, str],
+        reasons: dict[str, str],
+        now: float,
     ) -> tuple[int, Traffic]:
         """Releases edges, to the vehicle that has waited longest first."""
         count = 0
-        for vehicle in sorted(seen.vehicles.values(), key=lambda one: (self._waits_since(one, now), one.name)):
-            if vehicle.name not in traffic.ways or not vehicle.edges_left() or vehicle.edges >= self.settings.ahead:
+        for vehicle in sorted(
+            seen.vehicles.values(), key=lambda one: (self._waits_since(one, now), one.name)
+        ):
+            if (
+                vehicle.name not in traffic.ways
+                or not vehicle.edges_left()
+                or vehicle.edges >= self.settings.ahead
+            ):
                 continue
             if not vehicle.is_confirmed():
                 if vehicle.edges == 0:
                     reasons[vehicle.name] = 'has not confirmed its order'
                 continue
-            edges, why = self._edges_for(vehicle, traffic, held, self.settings.ahead - vehicle.edges)
+            edges, why = self._edges_for(
+                vehicle, traffic, held, self.settings.ahead - vehicle.edges
+            )
             if edges and self._advance(vehicle, edges, held):
                 traffic = traffic.released(vehicle.name, edges)
                 self._memory[vehicle.name].waits = None
@@ -210,37 +226,66 @@ class Dispatcher:
             memory.waits = now
         return now if memory.waits is None else memory.waits
 
-    def _edges_for(self, vehicle: Seen, traffic: Traffic, held: dict[str, str], most: int) -> tuple[int, str]:
+    def _edges_for(
+        self, vehicle: Seen, traffic: Traffic, held: dict[str, str], most: int
+    ) -> tuple[int, str]:
         """How many edges, up to so many, may be released to a vehicle, and why no more."""
         assert vehicle.order is not None
         ahead = [edge for edge in vehicle.order.edges if not edge.released]
         for count, edge in enumerate(ahead[:most]):
             for thing in ('edge ' + edge.name, 'node ' + edge.finish):
                 if held.get(thing, vehicle.name) != vehicle.name:
-                    return count, 'waits at %s for %s, which %s holds' % (ahead[0].start, thing, held[thing])
+                    return (
+                        count,
+                        f'waits at {ahead[0].start} for {thing}, which {held[thing]} holds',
+                    )
             if not self.judge.may_release(traffic, vehicle.name, count + 1):
                 if vehicle.name not in self.judge.finish_now(traffic):
-                    return count, 'waits at %s, since its way is blocked%s' % (ahead[0].start, self._by_whom(vehicle, traffic))
-                return count, 'waits at %s, since on %s it would block others, or be blocked' % (ahead[0].start, edge.name)
+                    return (
+                        count,
+                        (
+                            f'waits at {ahead[0].start}, since its way is'
+                            f' blocked{self._by_whom(vehicle, traffic)}'
+                        ),
+                    )
+                return (
+                    count,
+                    (
+                        f'waits at {ahead[0].start}, since on {edge.name} it would block others, or'
+                        ' be blocked'
+                    ),
+                )
         return min(most, len(ahead)), ''
 
     def _by_whom(self, vehicle: Seen, traffic: Traffic) -> str:
-        """Who stands in the way of a vehicle and does not go on, or goes to where it is in the way."""
+        """Who stands in the way of a vehicle and does not go on, or goes to where it is in the
+        way."""
         nodes = set(traffic.ways[vehicle.name][1:])
-        found = ['%s at %s' % (name, ' '.join(sorted(nodes & at, key=natural))) for name, at in traffic.standing().items() if nodes & at]
+        found = [
+            f'{name} at {" ".join(sorted(nodes & at, key=natural))}'
+            for name, at in traffic.standing().items()
+            if nodes & at
+        ]
         finish = self.judge.finish_now(traffic)
         for name, way in traffic.ways.items():
             if name != vehicle.name and (way[-1] if name in finish else way[0]) in nodes:
-                found.append('%s (with an order %s)' % (name, 'to ' + way[-1] if name in finish else 'at ' + way[0]))
+                found.append(
+                    f'{name} (with an order'
+                    f' {"to " + way[-1] if name in finish else "at " + way[0]})'
+                )
         return ' by ' + ', '.join(sorted(found, key=natural)) if found else ''
 
     def _advance(self, vehicle: Seen, edges: int, held: dict[str, str]) -> bool:
         assert vehicle.order is not None and vehicle.row.sent is not None
-        self._memory[vehicle.name].left -= edges  # also where no answer comes: the next message tells
+        self._memory[
+            vehicle.name
+        ].left -= edges  # also where no answer comes: the next message tells
         try:
             self.desk.advance(vehicle.row.key, vehicle.order.name, vehicle.row.sent + 1, edges)
         except Refused as refusal:
-            self._tell_refusal(vehicle, '%d edges of %s are refused' % (edges, vehicle.order.name), refusal)
+            self._tell_refusal(
+                vehicle, f'{edges} edges of {vehicle.order.name} are refused', refusal
+            )
             return False
         except BadValue as fault:
             self.lines.once('refusal ' + vehicle.name, f'{vehicle.name}: {fault}')
@@ -252,12 +297,16 @@ class Dispatcher:
 
     # Giving orders.
 
-    def _start(self, idle: dict[str, Seen], traffic: Traffic, held: dict[str, str], reasons: dict[str, str]) -> tuple[int, Traffic]:
-        """Gives orders for jobs that wait to these vehicles, as long as there is one that may be started, and takes away those that have
-        one then."""
+    def _start(
+        self, idle: dict[str, Seen], traffic: Traffic, held: dict[str, str], reasons: dict[str, str]
+    ) -> tuple[int, Traffic]:
+        """Gives orders for jobs that wait to these vehicles, as long as there is one that may be
+        started, and takes away those that have one then."""
         count = 0
         while idle and self.book.waiting:
-            found = self.chooser.propose(list(idle.values()), list(self.book.waiting.values()), traffic)
+            found = self.chooser.propose(
+                list(idle.values()), list(self.book.waiting.values()), traffic
+            )
             if found is None:
                 break
             vehicle = idle.pop(found.vehicle)
@@ -275,7 +324,7 @@ class Dispatcher:
         """How many edges are released with an order. An edge is free where both of its ends are."""
         after = traffic.started(found.vehicle, found.way)
         count = 0
-        while found.is_whole and count < min(self.settings.ahead, len(found.way) - 1):
+        while count < min(self.settings.ahead, len(found.way) - 1):
             free = held.get('node ' + found.way[count + 1], found.vehicle) == found.vehicle
             if not free or not self.judge.may_release(after, found.vehicle, count + 1):
                 break
@@ -284,30 +333,44 @@ class Dispatcher:
 
     def _give(self, found: Proposal, vehicle: Seen, edges: int) -> bool:
         order = new_reference()
-        self._memory[vehicle.name].asked = order, found.is_whole
+        self._memory[vehicle.name].asked = order
         try:
             self.desk.start_order(order, vehicle.row.key, stops=found.stops, edges=edges)
         except Refused as refusal:
-            self._tell_refusal(vehicle, 'no order for %s' % ', '.join(one.job for one in found.jobs), refusal)
+            self._tell_refusal(
+                vehicle, f'no order for {", ".join(one.job for one in found.jobs)}', refusal
+            )
             if refusal.name in ('JobState', 'NoJob'):
                 for one in found.jobs:
-                    self.book.is_taken(one.job)
+                    self.book.forget(one.job)
             return False
         self.lines.once('refusal ' + vehicle.name, None)
-        told = ', '.join('%s (%s from %s to %s)' % (one.job, one.load, one.origin, one.target or 'where the order says') for one in found.jobs)
-        self.say('%s: takes %s, %d edges from %s, by order %s' % (vehicle.name, told, len(found.way) - 1, vehicle.row.node, order))
-        left, end = len(found.way) - 1 - edges, found.way[-1] if found.is_whole else None
-        self._memory[vehicle.name].begin(order, found.jobs, left, end)
+        told = ', '.join(
+            '%s (%s from %s to %s)' % (one.job, one.load, one.origin, one.target)
+            for one in found.jobs
+        )
+        self.say(
+            '%s: takes %s, %d edges from %s, by order %s'
+            % (vehicle.name, told, len(found.way) - 1, vehicle.row.node, order)
+        )
+        self._memory[vehicle.name].begin(
+            order, found.jobs, len(found.way) - 1 - edges, found.way[-1]
+        )
         for one in found.jobs:
             self.book.forget(one.job)
         return True
 
     def _why_job_waits(self, one: Waiting, standing: Mapping[str, Sequence[str]]) -> str:
         """Why no free vehicle takes a job, where these stand at nodes."""
-        ends = {self.ways.node_of(one.origin): 'the pick'}
-        if one.target is not None:
-            ends[self.ways.node_of(one.target)] = 'the drop'
-        found = ['%s stands at %s, at %s' % (name, what, node) for node, what in ends.items() for name in standing.get(node, ())]
+        ends = {
+            self.ways.node_of(one.origin): 'the pick',
+            self.ways.node_of(one.target): 'the drop',
+        }
+        found = [
+            '%s stands at %s, at %s' % (name, what, node)
+            for node, what in ends.items()
+            for name in standing.get(node, ())
+        ]
         if found:
             return '; '.join(sorted(found, key=natural))
         if self.chooser.is_put_off(one):
@@ -317,31 +380,44 @@ class Dispatcher:
     # When nothing moves.
 
     def _look_deeper(self, seen: Snapshot, traffic: Traffic, moved: bool) -> None:
-        """Lets the look have more states where all vehicles wait, and fewer again once one moves."""
-        stand = not moved and all(vehicle.edges == 0 for vehicle in seen.vehicles.values() if vehicle.name in traffic.ways)
+        """Lets the look have more states where all vehicles wait, and fewer again once one
+        moves."""
+        stand = not moved and all(
+            vehicle.edges == 0 for vehicle in seen.vehicles.values() if vehicle.name in traffic.ways
+        )
         if stand:
             self.judge.times = min(self.judge.times * 4, MOST_TIMES)
         elif moved:
             self.judge.times = 1
 
     def _untangle(self, seen: Snapshot, traffic: Traffic, now: float) -> None:
-        """Where vehicles with orders shut one another in, cancels an order of these that has not left its first node: at once where
-        nothing moves, else where it has been so for a while. It comes to that by orders whose targets were not known when they were
-        given, and by people who place a vehicle in a dead end. Where there is no such order it says so."""
+        """Where vehicles with orders shut one another in, cancels an order of these that has not
+        left its first node: at once where nothing moves, else where it has been so for a while. It
+        comes to that by orders that people give, or where they place a vehicle in a dead end. Where
+        there is no such order it says so."""
         stay = [seen.vehicles[name] for name in self._shut_in.end_turn(traffic, now)]
         for vehicle in stay:
-            fresh = vehicle.row.sent == vehicle.row.confirmed == 0 and vehicle.edges == 0 and not vehicle.loads
+            fresh = (
+                vehicle.row.sent == vehicle.row.confirmed == 0
+                and vehicle.edges == 0
+                and not vehicle.loads
+            )
             if fresh and vehicle.row.pending is None and self._cancel(vehicle):
                 return
-        told = ['%s is shut in, %s' % (vehicle.name, self._memory[vehicle.name].shut_by) for vehicle in stay]
+        told = [
+            f'{vehicle.name} is shut in, {self._memory[vehicle.name].shut_by}' for vehicle in stay
+        ]
         if self.lines.lasts('shut in', '; '.join(told) or None, now):
-            self.say('%s: cancel the order of one' % '; '.join(told))
+            self.say(f'{"; ".join(told)}: cancel the order of one')
 
     def _cancel(self, vehicle: Seen) -> bool:
         """Cancels an order. The others may get free by it."""
         told = ', '.join(one.job for one in self._memory[vehicle.name].jobs)
         what = vehicle.row.order, told, self._memory[vehicle.name].shut_by
-        self.say('%s: cancels order %s, of %s: it and others block one another, %s' % (vehicle.name, *what))
+        self.say(
+            '%s: cancels order %s, of %s: it and others block one another, %s'
+            % (vehicle.name, *what)
+        )
         try:
             self.desk.cancel(vehicle.row.key)
         except Refused as refusal:
@@ -356,10 +432,11 @@ class Dispatcher:
     # Lines.
 
     def _tell_refusal(self, vehicle: Seen, what: str, refusal: Refused) -> None:
-        """Says that the desk refuses something, or raises the refusal again if it is a fault of the desk."""
+        """Says that the desk refuses something, or raises the refusal again if it is a fault of the
+        desk."""
         if refusal.is_fault():
             raise refusal
-        self.lines.once('refusal ' + vehicle.name, '%s: %s: %s' % (vehicle.name, what, refusal))
+        self.lines.once('refusal ' + vehicle.name, f'{vehicle.name}: {what}: {refusal}')
 
     def _tell_waits(self, reasons: dict[str, str], now: float) -> None:
         """Says why a vehicle or a job waits, once it has waited for a while for the same reason."""
@@ -368,25 +445,35 @@ class Dispatcher:
         self._waits = reasons
         for name, why in reasons.items():
             if self.lines.lasts(name, why, now) and why != NONE_FREE:
-                self.say('%s %s' % (name, why) if not name.startswith('job ') else '%s waits: %s' % (name, why))
+                self.say(f'{name} {why}' if not name.startswith('job ') else f'{name} waits: {why}')
 
     def _tell_none_free(self, seen: Snapshot, idle: Mapping[str, Seen], now: float) -> None:
-        """Says that jobs wait and no vehicle is free, and why not, once it has been so for a while: again where that changes, or where
-        no job has waited in between."""
+        """Says that jobs wait and no vehicle is free, and why not, once it has been so for a while:
+        again where that changes, or where no job has waited in between."""
         count = len(self.book.waiting)
         why = self._why_none_free(seen, now) if count and not idle else None
         if self.lines.lasts(NONE_FREE, why, now):
-            jobs = '1 job waits' if count == 1 else '%d jobs wait' % count
-            self.lines.once(NONE_FREE, why, '%s, %s: %s' % (jobs, NONE_FREE, why))
+            jobs = '1 job waits' if count == 1 else f'{count} jobs wait'
+            self.lines.once(NONE_FREE, why, f'{jobs}, {NONE_FREE}: {why}')
         elif count == 0:
             self.lines.once(NONE_FREE, None)
 
     def _why_none_free(self, seen: Snapshot, now: float) -> str:
         """Why each vehicle without an order is of no use."""
         vehicles = sorted(seen.vehicles.values(), key=lambda one: natural(one.name))
-        without = [one for one in vehicles if one.order is None and self._memory[one.name].order is None]
-        found = ['%s %s' % (one.name, self._out_of_use(one, now) or 'was refused its order') for one in without]
+        without = [
+            one for one in vehicles if one.order is None and self._memory[one.name].order is None
+        ]
+        found = [
+            f'{one.name} {self._out_of_use(one, now) or "was refused its order"}' for one in without
+        ]
         return '; '.join(found) or 'each has an order'
+
+
+def _jobs_of(order: str, seen: Snapshot) -> tuple[Waiting, ...]:
+    """The live jobs of an order that this dispatcher has not given."""
+    jobs = (job for job in seen.jobs.values() if job.order == order)
+    return tuple(Waiting(job.name, job.load, job.origin, job.target) for job in jobs)
 
 
 def _standing(traffic: Traffic) -> dict[str, list[str]]:

@@ -1,18 +1,20 @@
-"""Ways of vehicles as bits, one for each node, as the look of `look.py` has them."""
+"""Ways of vehicles as bits, one for each node, as the search of `deadlock.py` has them."""
 from __future__ import annotations
 
 from collections.abc import Iterable, Sequence
 
 Way = Sequence[str]
-"""The nodes of a vehicle: the one where it stands, or the last of those that it holds, and then all that it still has to pass."""
+"""The nodes of a vehicle: the one where it stands, or the last of those that it holds, and then all
+that it still has to pass."""
 
 KEPT = 5_000
 """So many ways are kept as bits."""
 
 
 class Lane:
-    """A way as bits: `bits` has that of each node, `rest` of each index those of the nodes behind it, and `all` those of the whole way.
-    `lefts` has of each node how many nodes are behind it on the way, each number as a bit."""
+    """A way as bits: `bits` has that of each node, `rest` of each index those of the nodes behind
+    it, and `all` those of the whole way. `lefts` has of each node how many nodes are behind it on
+    the way, each number as a bit."""
 
     __slots__ = ('bits', 'rest', 'all', 'end', 'lefts')
 
@@ -26,19 +28,22 @@ class Lane:
         self.all = self.rest[0] | bits[0]
 
     def passes(self, other: Lane) -> list[int]:
-        """From where a vehicle on this way and one on the other both finish, were they alone: of each number of nodes that are left to
-        this one the numbers that may be left to the other, as bits."""
+        """Returns from where this vehicle and one on another way can both finish, if there are no
+        others. The item at `n` is for `n` nodes left on this way: bit `m` is set where both finish
+        with `m` nodes left on the other."""
         rows, whole, before = [], (2 << other.end) - 1, 1
         for bit in reversed(self.bits):
             free = whole & ~other.lefts.get(bit, 0)
             begun = before & free
-            before = (free + begun ^ free | begun) & free  # and so on from each of these, as long as it is free
+            # (and so on from each of these, as long as it is free)
+            before = (free + begun ^ free | begun) & free
             rows.append(before)
         return rows
 
 
 class Ground:
-    """Which bit each node has, and the ways as bits that were asked for. One of it may serve for many looks."""
+    """Which bit each node has, and the ways as bits that were asked for. One of it may serve for
+    many looks."""
 
     def __init__(self) -> None:
         self._bits: dict[str, int] = {}

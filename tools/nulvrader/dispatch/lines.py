@@ -31,7 +31,8 @@ class Lines:
             (say or self.say)(line or what)
 
     def lasts(self, name: str, why: str | None, now: float) -> bool:
-        """Whether a name has waited for a while for the same reason: true one time for each. Without a reason it does not wait."""
+        """Whether a name has waited for a while for the same reason: true one time for each.
+        Without a reason it does not wait."""
         if why is None:
             self._since.pop(name, None)
             return False

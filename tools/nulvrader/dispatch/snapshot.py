@@ -1,20 +1,22 @@
-"""What a dispatcher sees of a desk at one moment: all vehicles with their orders and what they hold, and the loads."""
+"""What a dispatcher sees of a desk at one moment: all vehicles with their orders and what they
+hold, the live jobs, and the loads."""
 from __future__ import annotations
 
 from collections.abc import Iterable
 from dataclasses import dataclass
 
-from ..client import Desk, NotADesk, Vehicle
-from ..layouts import Layout
-from ..messages import Act, Order
-from ..names import VehicleKey
-from ..questions import held, open_orders, stock
-from ..reports import Holds, Stock
+from ..desk.client import Desk, Job, NotADesk, Vehicle
+from ..common.layouts import Layout
+from ..desk.messages import Order
+from ..common.names import VehicleKey
+from ..desk.questions import held, open_orders, stock
+from ..desk.reports import Holds, Stock
 
 
 @dataclass(frozen=True)
 class Seen:
-    """A vehicle: its row, the loads that are recorded on it, its open order, the nodes that it holds, and how many edges."""
+    """A vehicle: its row, the loads that are recorded on it, its open order, the nodes that it
+    holds, and how many edges."""
 
     row: Vehicle
     loads: tuple[str, ...]
@@ -29,7 +31,10 @@ class Seen:
     def rest(self) -> tuple[str, ...]:
         """Of the order's way the last node that is released, and all that are not."""
         assert self.order is not None
-        return (self.order.base_end(), *(node.name for node in self.order.nodes if not node.released))
+        return (
+            self.order.base_end(),
+            *(node.name for node in self.order.nodes if not node.released),
+        )
 
     def edges_left(self) -> int:
         """How many edges of the order are not released."""
@@ -48,6 +53,7 @@ class Snapshot:
     """All of one moment. `places` has the place of each load that has not left, as `station A`."""
 
     vehicles: dict[str, Seen]
+    jobs: dict[str, Job]
     stock: Stock
     holds: Holds
     places: dict[str, str]
@@ -57,36 +63,26 @@ class Snapshot:
         found = {}
         for row in rows:
             seen = self.vehicles.get(str(row.key))
-            if seen is not None and seen.order is not None and (seen.order.name, seen.order.update) == (row.order, row.sent):
+            if (
+                seen is not None
+                and seen.order is not None
+                and (seen.order.name, seen.order.update) == (row.order, row.sent)
+            ):
                 found[row.key] = seen.order
         return found
 
-    def riding(self) -> dict[str, tuple[str, Act]]:
-        """By load the order that has a live job of it, and the drop of that job: one that is still to be made, since what was put
-        down stands at its station. An order lists no act that it has passed; so a job whose acts both failed on the way is not
-        here, though it rides on to the order's end."""
-        return {
-            act.load: (seen.order.name, act)
-            for seen in self.vehicles.values()
-            if seen.order is not None
-            for act in seen.order.acts()
-            if act.kind == 'drop' and self.places.get(act.load) != 'station ' + act.station
-        }
-
 
 def take(desk: Desk, before: Snapshot | None = None) -> Snapshot:
-    """Asks all of it, on one connection. 2 + 2 V requests for V vehicles, fewer where some have no order, or the last message of it
-    that an earlier snapshot has."""
+    """Asks all of it, on one connection. Four requests, and one for each open order of which an
+    earlier snapshot does not have the last message."""
     with desk.kept():
-        loads = stock(desk)
-        holds = held(desk)
-        rows = {key: desk.vehicle(key) for key in loads.vehicles}
+        loads, holds, jobs, rows = stock(desk), held(desk), desk.jobs(), desk.vehicles()
         orders = {} if before is None else before.orders_of(rows.values())
-        wanted = [key for key, row in rows.items() if row.order is not None and key not in orders]
+        wanted = [row for key, row in rows.items() if key not in orders]
         orders |= {order.vehicle: order for order in open_orders(desk, wanted)}
     nodes: dict[VehicleKey, set[str]] = {key: set() for key in rows}
     edges: dict[VehicleKey, int] = dict.fromkeys(rows, 0)
-    strange = {*holds.nodes.values(), *holds.edges.values()} - rows.keys()
+    strange = {*holds.nodes.values(), *holds.edges.values(), *loads.vehicles} - rows.keys()
     if strange:
         raise NotADesk(f'its reports contradict each other: {min(strange)} is in one of them')
     for node, key in holds.nodes.items():
@@ -94,10 +90,16 @@ def take(desk: Desk, before: Snapshot | None = None) -> Snapshot:
     for key in holds.edges.values():
         edges[key] += 1
     vehicles = {
-        str(key): Seen(row, tuple(loads.vehicles[key]), orders.get(key), frozenset(nodes[key]), edges[key])
+        str(key): Seen(
+            row,
+            tuple(loads.vehicles.get(key, ())),
+            orders.get(key),
+            frozenset(nodes[key]),
+            edges[key],
+        )
         for key, row in rows.items()
     }
-    return Snapshot(vehicles, loads, holds, loads.places())
+    return Snapshot(vehicles, jobs, loads, holds, loads.places())
 
 
 def differences(stock: Stock, holds: Holds, layout: Layout) -> list[str]:
@@ -126,7 +128,9 @@ def check(seen: Snapshot, layout: Layout) -> None:
         if row.node not in nodes:
             raise NotADesk(f'it has another layout: {vehicle.name} is at node {row.node}')
         if row.node not in vehicle.nodes:
-            raise NotADesk(f'its answers contradict each other: {row.node} is not held by {row.key}')
+            raise NotADesk(
+                f'its answers contradict each other: {row.node} is not held by {row.key}'
+            )
         if row.order is not None:
             if order is None or (order.name, order.update) != (row.order, row.sent):
                 raise NotADesk(f'its answers contradict each other about order {row.order}')

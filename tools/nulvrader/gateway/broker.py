@@ -8,7 +8,7 @@ import time
 from dataclasses import dataclass
 from typing import Any
 
-from ..text import shown
+from ..common.text import shown
 from .inbox import FRONT, LONGEST, Inbox
 from .log import Said
 
@@ -50,8 +50,8 @@ def new_client(library: Any) -> Any:
 
 def limit_packets(client: Any) -> None:
     """Lets a client of the library keep only the first KEPT bytes of a packet: it would keep up to
-    256 MB, several times. The rest is read and dropped. The parts of the library that this needs are
-    those of version 1.6; where one is missing, nothing is limited."""
+    256 MB, several times. The rest is read and dropped. The parts of the library that this needs
+    are those of version 1.6; where one is missing, nothing is limited."""
     receive: Any = getattr(client, '_sock_recv', None)
     if receive is None or not isinstance(getattr(client, '_in_packet', None), dict):
         return

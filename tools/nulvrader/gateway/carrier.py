@@ -6,11 +6,11 @@ import time
 from collections.abc import Iterable
 from typing import Protocol
 
-from ..client import Answer, NoAnswer, Refused, refused, told
-from ..members import Members, read_object
-from ..names import VehicleKey
-from ..states import Named, instant_for_vehicle, read_sent
-from .fleet import Asked, Fleet
+from ..desk.client import Answer, NoAnswer, Refused, refused, told
+from ..desk.members import Members, read_object
+from ..common.names import VehicleKey
+from ..desk.states import Named, instant_for_vehicle, read_sent
+from .vehicles import Asked, Fleet
 from .inbox import FRONT, Inbox, Message
 from .log import Clock, Said, Say, Tally, say
 from .owed import INSTANT, ORDER, Owed, read_message
@@ -186,7 +186,7 @@ class Gateway:
         if last is None or state.header is None or last - state.header >= FAR:
             return (
                 f'{line}The vehicle counts from the start again, or a forged state had a high '
-                f'number (docs/OPERATE.md, States that are old). This makes the desk accept them: '
+                'number (docs/OPERATE.md, States that are old). This makes the desk accept them: '
                 f'{call}'
             )
         return (

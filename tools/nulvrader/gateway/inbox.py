@@ -7,12 +7,12 @@ import re
 import threading
 from dataclasses import dataclass, field
 
-from ..names import NAME_RULE
+from ..common.names import NAME_RULE
 from .log import Tally
 
 FRONT = 'uagv/v2'
 NAME = '[A-Za-z0-9_.:-]{1,32}'
-LONGEST = 1_000_000  # bytes of the longest message that is read
+LONGEST = 250_000  # bytes of the longest message that is read
 EACH = 64  # the most messages of a kind and a vehicle that wait, in LONGEST bytes
 TURN = 2_000_000  # the most bytes that are taken in a turn
 STRANGERS = 1_000  # the most other vehicles of which messages wait,

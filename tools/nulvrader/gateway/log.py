@@ -9,7 +9,7 @@ import time
 from collections.abc import Callable
 from dataclasses import dataclass, field
 
-from ..text import shown
+from ..common.text import shown
 
 LINE = 1000  # characters of the longest line
 SPAN = 60.0  # seconds

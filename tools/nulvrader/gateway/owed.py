@@ -3,10 +3,10 @@ from __future__ import annotations
 
 from typing import Any
 
-from ..client import NotADesk
-from ..members import read_object
-from ..messages import read_instant_action, read_order
-from ..states import Named, named_by_message
+from ..desk.client import NotADesk
+from ..desk.members import read_object
+from ..desk.messages import read_instant_action, read_order
+from ..desk.states import Named, named_by_message
 
 AGAIN = 5.0  # seconds until a message that no state has named is published again
 ORDER, INSTANT = 'order', 'instantActions'

@@ -3,7 +3,7 @@ from __future__ import annotations
 
 from dataclasses import dataclass
 
-from ..states import Named, body_of, named_by_state, read_state
+from ..desk.states import Named, body_of, named_by_state, read_state
 
 MOST = 4  # the most states of a vehicle that wait
 

@@ -1,0 +1,345 @@
+"""The commands of the board over the real program, who may ask it, and how it starts and is
+stopped."""
+
+from __future__ import annotations
+
+import json
+import os
+import signal
+import socket
+import subprocess
+import sys
+import unittest
+from typing import Any
+
+from tests.support.board_run import ONE, TOOLS, TWO, Plant, Watching, has_loopback, until
+from nulvrader.desk import refusals
+from nulvrader.board.sentences import advice
+
+
+class Commands(Watching):
+    words = ('--user-header', 'X-User')
+
+    def check(self, told: dict[str, object], words: str) -> None:
+        self.assertEqual((told.get('done'), told.get('text')), (True, words), told)
+
+    def refused(self, told: dict[str, Any], name: str, warning: str) -> None:
+        """It was refused so, which the look had told before."""
+        self.assertEqual((told.get('done'), told.get('refusal')), (False, name), told)
+        self.assertIn(warning, told['warns'])
+        self.assertTrue(told['text'] and told['advice'])
+
+    def test_loads_and_jobs(self) -> None:
+        do = self.board.do
+        self.check(do('register', load='L7', station='B'), 'L7 is registered.')
+        self.wait('load', 'L7', place='station B')
+        self.refused(
+            do('register', load='L7', station='B'), 'Exists', 'There is a load L7 already.'
+        )
+        self.check(do('register', load='L8', station=''), 'L8 is registered.')
+        self.wait('load', 'L8', place='checking')
+        self.check(do('correct', load='L8', station='C'), 'The place of L8 is corrected.')
+        self.wait('load', 'L8', place='station C')
+        self.wait('station', 'C', taken=1, reserved=0)
+        self.refused(
+            do('correct', load='L7', station='C'),
+            'Full',
+            'Station C (1 of 1 taken, 0 reserved) is full.',
+        )
+        self.refused(
+            do('correct', load='L8', station='C'), 'SameStation', 'L8 is recorded there already.'
+        )
+        self.check(do('leave', load='L8'), 'L8 has left.')
+        until(lambda: not self.board.get('load', 'L8'), 'it has left')
+        self.refused(do('leave', load='L8'), 'Elsewhere', 'No load L8 is in the warehouse.')
+        self.check(do('job', load='L1', to='B', job='J1'), 'Job J1 waits.')
+        self.wait('job', 'J1', load='L1', origin='A', target='B', phase='waiting')
+        self.refused(do('job', load='L1', to='C', job='J2'), 'InJob', 'L1 has the live job J1.')
+        self.check(do('stop', job='J1'), 'Job J1 is stopped.')
+        until(lambda: not self.board.get('job', 'J1'), 'the job is gone')
+        self.refused(do('stop', job='J1'), 'JobState', 'No live job J1 is known.')
+
+    def test_an_order(self) -> None:
+        do = self.board.do
+        self.check(do('job', load='L1', to='B', job='J1'), 'Job J1 waits.')
+        self.wait('job', 'J1', target='B')
+        told = do('order', vehicle='KIT/0001', stops='J1', edges='1', order='O1')
+        self.check(told, 'KIT/0001 has the order O1.')
+        says = ['KIT/0001 gets the order O1:', 'Pick L1 at A.', 'Drop L1 at B.']
+        self.assertEqual(told['says'], [*says, 'Released now: 1 edge, over N2. Left then: 1.'])
+        self.wait('vehicle', 'KIT/0001', order_name='O1', sent=0)
+        self.wait('job', 'J1', phase='riding')
+        self.wait('way', 'KIT/0001', order='O1')
+        again = do('order', vehicle='KIT/0001', stops='pick J1, drop J1', edges='1', order='O2')
+        self.refused(again, 'JobState', 'KIT/0001 has the order O1.')
+        more = do('advance', vehicle='KIT/0001', edges='1')
+        self.refused(more, 'NotConfirmed', 'The vehicle has not confirmed the last update.')
+        self.plant.state(ONE, 'N1', 'O1', 0, 0)
+        self.wait('vehicle', 'KIT/0001', confirmed=0)
+        self.check(do('advance', vehicle='KIT/0001', edges='1'), 'Update 1 of order O1 is sent.')
+        self.wait('vehicle', 'KIT/0001', base=2, sent=1)
+        self.check(do('pause', vehicle='KIT/0001'), 'KIT/0001 is told to pause (instant-1).')
+        self.wait('vehicle', 'KIT/0001', pending='startPause')
+        pending = 'Another instant action, to pause, is not over yet.'
+        self.refused(do('resume', vehicle='KIT/0001'), 'InstantPending', pending)
+        self.refused(do('cancel', vehicle='KIT/0001'), 'InstantPending', pending)
+        self.plant.state(ONE, 'N1', 'O1', 1, 0, (('instant-1', 'FINISHED'),), paused=True)
+        self.wait('vehicle', 'KIT/0001', pending=None, paused=1)
+        self.check(do('resume', vehicle='KIT/0001'), 'KIT/0001 is told to go on (instant-2).')
+        self.plant.state(ONE, 'N1', 'O1', 1, 0, (('instant-2', 'FINISHED'),))
+        self.wait('vehicle', 'KIT/0001', pending=None, paused=0)
+        self.check(
+            do('cancel', vehicle='KIT/0001'), 'KIT/0001 is told to cancel its order (instant-3).'
+        )
+        self.wait('vehicle', 'KIT/0001', pending='cancelOrder')
+        self.check(do('place', vehicle='KIT/0001', node='N2'), 'KIT/0001 stands at N2.')
+        self.wait('vehicle', 'KIT/0001', order_name=None, node='N2')
+        words = 'The next state of KIT/0001 is taken, whatever its number.'
+        self.check(do('resync', vehicle='KIT/0001'), words)
+
+    def test_a_place_that_another_vehicle_holds(self) -> None:
+        self.plant.vehicle(TWO, 'N3')
+        until(lambda: self.board.get('hold', 'node N3'), 'the second vehicle')
+        told = self.board.do('place', vehicle='KIT/0001', node='N3')
+        self.refused(told, 'Held', 'KIT/0002 holds node N3.')
+
+    def test_a_vehicle_that_is_not_registered(self) -> None:
+        for command, values in (
+            ('pause', {}),
+            ('resume', {}),
+            ('cancel', {}),
+            ('resync', {}),
+            ('place', {'node': 'N2'}),
+        ):
+            told = self.board.do(command, vehicle='KIT/0009', **values)
+            self.refused(told, 'NoVehicle', 'No vehicle KIT/0009 is registered.')
+
+    def test_a_stocktake(self) -> None:
+        look = self.board.post('/look', 'stocktake', file='station,load\nA,L1\nB,L2\nC,L9\n')
+        says = [
+            'Counted: 3 stations. Found: 3 loads.',
+            'Moved by it: 1 load.',
+            'L2, which is at A, is then at B.',
+        ]
+        self.assertEqual(look['says'], [*says, 'Names that no load here has: L9.'])
+        self.assertEqual(look['warns'], [])
+        told = self.board.do('stocktake', file='station,load\nA,L1\nB,L2\nC,L9\n')
+        self.check(told, '1 load moved. Unknown names: L9.')
+        self.wait('load', 'L2', place='station B')
+        bad = 'station,load\nA,L1\nX,L2\nB,L1\nB;L3\n'
+        look = self.board.post('/look', 'stocktake', file=bad)
+        told = self.board.do('stocktake', file=bad)
+        self.assertEqual((told['done'], told['refusal']), (False, 'BadCsv'))
+        self.assertTrue(told['advice'])
+        self.assertEqual(
+            look['says'][1:], ['The desk will refuse this file as a whole: no load moves.']
+        )
+        for line in ('Line 3: there is no station X', 'Line 4: load L1 stands in line 2 already'):
+            self.assertTrue(
+                any(warning.startswith(line) for warning in look['warns']), (line, look['warns'])
+            )
+        self.check(self.board.do('job', load='L1', to='C', job='J1'), 'Job J1 waits.')
+        self.wait('job', 'J1', phase='waiting')
+        look = self.board.post('/look', 'stocktake', file='station,load\nA,\n')
+        job = (
+            'load L1 was not found at station A, and would move, but has the live job J1: stop it'
+            ' while it waits.'
+        )
+        self.assertEqual(look['warns'], [f'Line 2: {job}'])
+
+    def test_what_is_no_command(self) -> None:
+        cases: tuple[tuple[str, dict[str, str], str], ...] = (
+            ('explode', {}, 'There is no such command.'),
+            ('leave', {}, 'Load is missing.'),
+            ('pause', {'vehicle': 'KIT'}, "'KIT' is no vehicle"),
+            ('correct', {'load': 'L1', 'station': 'X'}, 'There is no station X.'),
+            ('place', {'vehicle': 'KIT/0001', 'node': 'X'}, 'There is no node X.'),
+            ('register', {'load': 'L 1'}, "'L 1' is no name for a load: "),
+            ('advance', {'vehicle': 'KIT/0001', 'edges': '-1'}, "'-1' is no number"),
+            (
+                'order',
+                {'vehicle': 'KIT/0001', 'edges': '1', 'order': 'O1', 'stops': 'lift J1'},
+                "'lift J1' is no stop",
+            ),
+        )
+        for command, values, fault in cases:
+            for path in ('/look', '/do'):
+                self.assertIn(
+                    fault,
+                    self.board.post(path, command, **values).get('fault', ''),
+                    (command, path),
+                )
+        self.assertEqual(self.board.rows('SELECT * FROM commands'), [])
+
+    def test_the_record_of_commands(self) -> None:
+        """Who gave it, as the proxy says; what; whether it was done, and the answer."""
+        body = json.dumps({'command': 'leave', 'values': {'load': 'L2', 'ref': 'R1'}}).encode()
+        headers = {**self.board.headers(), 'X-User': 'anna'}
+        for done in (1, 0):
+            self.board.ask('POST', '/do', body, headers)
+            row = self.board.rows('SELECT who, command, said, done FROM commands ORDER BY n')[-1]
+            self.assertEqual(row, ('anna', 'leave', '{"load": "L2", "ref": "R1"}', done))
+        self.assertTrue(self.board.said('A load leaves by anna: L2 has left.'))
+
+    def test_a_command_while_the_desk_is_down(self) -> None:
+        self.plant.served.stop()
+        self.wait('desk', '', up=False)
+        told = self.board.do('leave', load='L2')
+        self.assertEqual(told['done'], False)
+        self.assertIn('The desk does not answer: nothing can be done now', told['warns'][0])
+        self.assertRegex(
+            told['text'], r'^The desk does not answer: .*no program listens there.*\?$'
+        )
+        self.assertEqual(told['advice'], 'Nothing was done. Ask again once the desk answers.')
+        self.board.refresh()
+        self.assertEqual(
+            [event['kind'] for event in self.board.events if 'A load leaves' in event['text']],
+            ['failed'],
+        )
+
+
+class MayAsk(Watching):
+    def test_another_name(self) -> None:
+        """A page of another site whose name leads to this machine is refused, whatever it asks
+        for."""
+        for host in ('evil.example', '127.0.0.1', f'localhost:{self.board.port}.evil.example'):
+            for method, target in (('GET', '/'), ('GET', '/data'), ('POST', '/do')):
+                status, _, told = self.board.ask(
+                    method, target, b'{}' if method == 'POST' else None, {'Host': host}
+                )
+                self.assertEqual(status, 421, (host, target))
+                self.assertNotIn(b'token', told)
+        self.assertEqual(
+            self.board.ask('GET', '/data', None, {'Host': f'localhost:{self.board.port}'})[0], 200
+        )
+
+    def test_commands_of_another_page(self) -> None:
+        body = json.dumps({'command': 'leave', 'values': {'load': 'L1', 'ref': 'R1'}}).encode()
+        good = self.board.headers()
+        wrong: tuple[dict[str, str], ...] = (
+            {},
+            {**good, 'Origin': 'https://evil.example'},
+            {**good, 'Origin': 'null'},
+            {'X-Board-Token': good['X-Board-Token']},
+            {'Origin': good['Origin']},
+            {**good, 'X-Board-Token': 'x'},
+        )
+        for headers in wrong:
+            for path in ('/do', '/look', '/may'):
+                self.assertEqual(
+                    self.board.ask('POST', path, body, headers)[0], 403, (headers, path)
+                )
+        self.assertEqual(self.desk.load('L1').place, 'station A')
+        self.assertEqual(self.board.ask('POST', '/may', b'{}', good)[0], 200)
+
+    def test_nothing_from_elsewhere(self) -> None:
+        """Every answer has the policy, and the page names nothing of another site and has no script
+        or style in it."""
+        for target in (
+            '/',
+            '/main.js',
+            '/board.css',
+            '/icon.svg',
+            '/commands',
+            '/data',
+            '/nothing',
+        ):
+            _, headers, told = self.board.ask('GET', target)
+            self.assertTrue(
+                headers['Content-Security-Policy'].startswith("default-src 'self'; "), target
+            )
+            self.assertEqual(headers['X-Content-Type-Options'], 'nosniff')
+            self.assertNotRegex(told.decode().replace('http://www.w3.org/', ''), 'https?://')
+        page = self.board.ask('GET', '/')[2].decode()
+        self.assertNotRegex(page, r'<script(?![^>]* src=)|<style| style=| on\w+=')
+
+    def test_paths_and_bodies(self) -> None:
+        for target in ('/../board', '/index.html', '/%2e%2e/board', '/board.py', '//etc/passwd'):
+            self.assertEqual(self.board.ask('GET', target)[0], 404, target)
+        good = self.board.headers()
+        self.assertEqual(self.board.ask('POST', '/do', b'[]', good)[0], 400)
+        self.assertEqual(self.board.ask('POST', '/do', b'{', good)[0], 400)
+        self.assertEqual(self.board.ask('POST', '/do', b'x' * 262145, good)[0], 413)
+        for query in ('since=abc', 'vehicle=KIT/0001', 'vehicle=%2e%2e'):
+            self.assertEqual(self.board.ask('GET', '/data?' + query)[0], 200, query)
+
+
+class ReadOnly(Watching):
+    words = ('--read-only',)
+
+    def test_no_commands(self) -> None:
+        self.assertEqual(self.board.token(), '')
+        self.assertEqual(json.loads(self.board.ask('GET', '/commands')[2]), [])
+        origin = {'Origin': f'http://127.0.0.1:{self.board.port}'}
+        body = json.dumps({'command': 'leave', 'values': {'load': 'L1', 'ref': 'R1'}}).encode()
+        for headers in (origin, {**origin, 'X-Board-Token': ''}):
+            self.assertEqual(self.board.ask('POST', '/do', body, headers)[0], 403)
+        self.assertEqual(self.desk.load('L1').place, 'station A')
+
+
+@unittest.skipUnless(has_loopback(), 'no sockets on 127.0.0.1 here')
+class Starts(unittest.TestCase):
+    def setUp(self) -> None:
+        self.plant = Plant()
+        self.addCleanup(self.plant.close)
+
+    def told(self, *words: str) -> str:
+        """What a board says that can't start."""
+        line = [
+            sys.executable,
+            os.path.join(TOOLS, 'board'),
+            '--db',
+            self.plant.path('b.db'),
+            '--port',
+            '0',
+            *words,
+        ]
+        done = subprocess.run(line, capture_output=True, text=True, timeout=600)
+        self.assertEqual(
+            (done.returncode, done.stdout, done.stderr.count('\n')), (1, '', 1), done.stderr
+        )
+        return done.stderr
+
+    def test_what_it_can_not_have(self) -> None:
+        bad = self.plant.path('bad.csv')
+        with open(bad, 'w') as file:
+            file.write('kind,id,from,to\nnode,N1,,\nedge,E1,N1,N2\n')
+        self.assertIn('file is not a database', self.told('--db', bad))
+        with socket.create_server(('127.0.0.1', 0)) as taken:
+            port = str(taken.getsockname()[1])
+            self.assertIn('port %s: ' % port, self.told('--port', port))
+        self.assertIn('is not the address of a desk', self.told('--desk', 'ftp://x'))
+
+    def test_it_is_stopped(self) -> None:
+        for number in (signal.SIGINT, signal.SIGTERM):
+            self.assertEqual(self.plant.board().stop(number), (0, ''))
+
+
+class Advice(unittest.TestCase):
+    def test_nothing_that_the_page_has_not(self) -> None:
+        """What to do at a refusal, without a program of the command line. Held names the vehicle,
+        so no more is lost."""
+        for refusal in refusals.BY_NAME.values():
+            self.assertNotRegex(advice(refusal.advice), '`|tools/(ask|check)', refusal.name)
+        held = 'Wait until the states of that vehicle have freed it, or release fewer edges.'
+        self.assertEqual(advice(refusals.BY_NAME['Held'].advice), held)
+        self.assertEqual(advice('A load stands at one place.'), 'A load stands at one place.')
+        full = (
+            'The loads at the station and the live jobs to it fill it. Take another station, or'
+            ' stop a job to it.'
+        )
+        self.assertEqual(advice(refusals.BY_NAME['Full'].advice), full)
+
+
+def load_tests(
+    loader: unittest.TestLoader, _: unittest.TestSuite, __: str | None
+) -> unittest.TestSuite:
+    """`Watching` has no tests of its own."""
+    suite = unittest.TestSuite()
+    for case in (Commands, MayAsk, ReadOnly, Starts, Advice):
+        suite.addTests(loader.loadTestsFromTestCase(case))
+    return suite
+
+
+if __name__ == '__main__':
+    unittest.main()

@@ -1,0 +1,67 @@
+"""The board through a real nginx with `examples/nginx`: who may look, who may give commands, and
+who stands in the record of them. Skipped where nginx or openssl is not installed."""
+
+from __future__ import annotations
+
+import json
+import re
+import unittest
+
+from tests.support import proxies
+from tests.support.board_run import Plant, free_port, has_loopback, until
+from tests.support.proxies import Proxy, Told
+
+
+@unittest.skipUnless(has_loopback(), 'no sockets on 127.0.0.1 here')
+@unittest.skipIf(proxies.MISSING, proxies.WHY)
+class BoardByNginx(unittest.TestCase):
+    def setUp(self) -> None:
+        self.plant = Plant()
+        self.addCleanup(self.plant.close)
+        self.plant.desk.register_load('L1', 'A')
+        port = free_port()
+        self.proxy = Proxy(self.plant.port, port)
+        self.addCleanup(self.proxy.close)
+        words = ('--name', self.proxy.host(True), '--user-header', 'X-User')
+        self.board = self.plant.board(*words, port=port)
+        until(lambda: self.board.get('load', 'L1'), 'the board has looked')
+
+    def ask(self, request: str, user: str | None, *lines: str, body: object = None) -> Told:
+        """One request to the server with TLS."""
+        text = '' if body is None else json.dumps(body)
+        return self.proxy.ask(request, *lines, user=user, body=text, tls=True)
+
+    def token(self) -> str:
+        """The token of the board's page, as a dispatcher gets it; a reader gets none."""
+        form = rb'name="token" content="([^"]*)"'
+        said = re.search(form, self.ask('GET /board/', 'anna').body)
+        other = re.search(form, self.ask('GET /board/', 'otto', 'X-User: anna').body)
+        assert said is not None and other is not None
+        self.assertEqual(other[1], b'')
+        self.assertGreater(len(said[1]), 20)
+        return said[1].decode()
+
+    def test_roles(self) -> None:
+        """Readers and dispatchers may look, a dispatcher alone may give commands, and is named in
+        the record of them. A gateway gets nothing."""
+        self.assertEqual(self.ask('GET /board/', None).status, 401)
+        for user, status in (('anna', 200), ('otto', 200), ('gate', 403)):
+            for path in ('', 'data?run=&since=0', 'data?vehicle=KIT%2F0001', 'main.js'):
+                self.assertEqual(self.ask(f'GET /board/{path}', user).status, status, (user, path))
+        lines = (f'X-Board-Token: {self.token()}', f'Origin: {self.proxy.origin(True)}')
+        command = {'command': 'leave', 'values': {'load': 'L1', 'ref': 'R1'}}
+        for user in ('otto', 'gate'):
+            for path in ('do', 'look', 'may'):
+                told = self.ask(f'POST /board/{path}', user, *lines, body=command)
+                self.assertEqual(told.status, 403, (user, path))
+        self.assertEqual(self.ask('POST /board/may', 'anna', *lines, body={}).status, 200)
+        self.assertEqual(self.plant.desk.load('L1').place, 'station A')
+        told = self.ask('POST /board/do', 'anna', 'X-User: otto', *lines, body=command)
+        self.assertEqual((told.status, json.loads(told.body)['done']), (200, True))
+        rows = self.board.rows('SELECT who, command, done FROM commands')
+        self.assertEqual(rows, [('anna', 'leave', 1)])
+        self.assertEqual(self.plant.desk.load('L1').place, 'left')
+
+
+if __name__ == '__main__':
+    unittest.main()

@@ -1,0 +1,123 @@
+"""The reports and exports of as many stations as a layout may have, each full of loads: 500
+stations and 100,000 loads, of which each 501st is at the checking place, and each other one has a
+job that waits, to the next station. Another SQLite writes the loads and jobs; the bytes that the
+program writes are those that loops write out here."""
+import collections
+import os
+import sqlite3
+import tempfile
+import unittest
+
+from tests.support.calls import REPORTS, Call, request
+from tests.support.records import FOLDER
+from tests.support.answers import answers_of
+from tests.support.desks import AT, run
+
+STATIONS, LOADS = 500, 100_000
+VEHICLES = (
+    b'manufacturer,serialNumber,node,capacity,ready,paused,astray,headerId,pending,order,sent,'
+    b'confirmed,released,edges,seen,'
+    b'restEdge,restNode\n'
+)
+LAYOUT = 'kind,id,from,to\nnode,N1,,\n' + ''.join(
+    'station,S%03d,N1,999\n' % at for at in range(STATIONS)
+)
+
+
+def place_of(number):
+    """The station of a load by its number; none where it is at the checking place."""
+    turn = number % (STATIONS + 1)
+    return f'S{turn:03d}' if turn < STATIONS else None
+
+
+def jobs():
+    """The row of each job, by name."""
+    for number in range(LOADS):
+        if place_of(number):
+            yield 'J%06d' % number, 'L%06d' % number, place_of(number), 'S%03d' % (
+                (number % (STATIONS + 1) + 1) % STATIONS
+            ), 'waiting'
+
+
+def stock():
+    here, coming = {}, collections.Counter(target for _, _, _, target, _ in jobs())
+    for number in range(LOADS):
+        here.setdefault(place_of(number), []).append('  L%06d\n' % number)
+    heads = [
+        (
+            'S%03d' % at,
+            'station S%03d at N1: %%d of 999, reserved %d\n' % (at, coming['S%03d' % at]),
+        )
+        for at in range(STATIONS)
+    ]
+    heads.append((None, 'checking: %d\n'))
+    return (
+        ''.join(head % len(here[place]) + ''.join(here[place]) for place, head in heads)
+        + 'left: 0\n'
+    ).encode()
+
+
+def export():
+    places = ((number, place_of(number)) for number in range(LOADS))
+    return (
+        'load,place,at\n'
+        + ''.join(
+            f'L{number:06d},{"station," + place if place else "checking,"}\n'
+            for number, place in places
+        )
+    ).encode()
+
+
+def jobs_export():
+    return (
+        'job,load,from,to,phase,manufacturer,serialNumber,order\n'
+        + ''.join(','.join(row) + ',,,\n' for row in jobs())
+    ).encode()
+
+
+class LargeReports(unittest.TestCase):
+    def test_all_stations_full(self):
+        with tempfile.TemporaryDirectory(dir=FOLDER) as folder:
+            db = os.path.join(folder, 'large.db')
+            self.assertEqual(
+                run('replay', '--db', db, '--at', AT, stdin=request('PUT /layout', LAYOUT))[::2],
+                (0, b''),
+            )
+            base = sqlite3.connect(db, isolation_level=None)
+            base.execute('BEGIN')
+            base.executemany(
+                'INSERT INTO load VALUES (?, ?, ?, NULL, NULL)',
+                (
+                    (
+                        'L%06d' % number,
+                        'station' if place_of(number) else 'checking',
+                        place_of(number),
+                    )
+                    for number in range(LOADS)
+                ),
+            )
+            base.executemany('INSERT INTO job VALUES (?, ?, ?, ?, ?)', jobs())
+            base.execute('COMMIT')
+            base.close()
+            status, out, said = run(
+                'replay',
+                '--db',
+                db,
+                '--at',
+                AT,
+                stdin=b''.join(map(Call.to_bytes, REPORTS)),
+                limit=300,
+            )
+            self.assertEqual((status, said), (0, b''))
+            found, left = answers_of(out)
+            self.assertEqual(
+                (left, [answer.status for answer in found]), (b'', [200] * len(REPORTS))
+            )
+            wanted = stock(), b'held 0 of 1\n', export(), jobs_export(), VEHICLES, LAYOUT.encode()
+            for answer, wanted in zip(found, wanted, strict=True):
+                self.assertTrue(answer.body == wanted)
+            self.assertTrue(run('report', '--db', db, 'stock') == (0, stock(), b''))
+
+
+if __name__ == '__main__':
+    unittest.main()

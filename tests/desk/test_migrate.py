@@ -1,0 +1,467 @@
+"""Files of the first schema, whose rows are written here by another SQLite, in the file or in the
+log beside it, moved by `migrate`: the rows of the second schema that they have then, what is told
+and goes on unchanged, and the files that are refused and stay as they are."""
+import contextlib
+import os
+import shutil
+import sqlite3
+import tempfile
+import unittest
+
+from nulvrader.file.rows import SECOND, TABLES, columns
+from tests.support.records import FOLDER, broken, copied, rows_of
+from tests.support.first_schema import (
+    BEGUN,
+    BEGUN_MOVED,
+    CANCELLED,
+    FIRST,
+    FRAME,
+    HEADER,
+    LAYOUT,
+    MESSAGE,
+    committed,
+)
+from tests.support.desks import AT, run
+from tests.support.calls import REPORTS, advance, request, state
+from tests.support.scripts import (
+    FIRST_EDGE,
+    SCRIPTS,
+    accepted,
+    answers_of,
+    bytes_of,
+    holds,
+    load,
+    ok,
+    stands,
+)
+
+# The open trips of a file of the second schema as the first has them, where each vehicle carries
+# one load.
+OLD_TRIPS = '''
+SELECT order_id, j.manufacturer, j.serial, p.job, j.start, j.first, j.base, j.sent, j.confirmed,
+  j.seen, p.place_at, d.place_at, p.status, d.status
+FROM journey j JOIN act p USING (order_id) JOIN act d USING (order_id)
+  WHERE p.kind = 'pick' AND d.kind = 'drop'
+'''
+FILES = ('', '-wal')
+PICKED = [('O1.0', 'FINISHED')]
+# Besides the scripts of others: an update is confirmed, and its order goes on.
+MOVED = {
+    **SCRIPTS,
+    'an update is confirmed': FIRST_EDGE
+    + [
+        accepted(state(2, 'O1', statuses=PICKED)),
+        ok(*advance('O1', 1, 1), '{"orderUpdateId":1}'),
+        accepted(state(3, 'O1', 1, 'N2', 2, PICKED)),
+        holds('node N2 KIT/0001', 'node N3 KIT/0001', 'edge E23 KIT/0001'),
+        accepted(state(4, 'O1', 1, 'N3', 4, PICKED + [('O1.1', 'RUNNING')])),
+        stands('L1', 'vehicle KIT/0001', 'J1'),
+        accepted(state(5, 'O1', 1, 'N3', 4, PICKED + [('O1.1', 'FINISHED')])),
+        stands('L1', 'station B'),
+    ],
+}
+# How many statements are in the file, and how many more commits in the log: all is in the log;
+# older frames stand behind those of the last rows; the log is so long that it is copied into the
+# file before more is written.
+LOGS = ((0, 0), (20, 0), (0, 1000))
+
+
+def for_more(lines):
+    """Whether a vehicle gets a capacity of more than one load."""
+    return any(
+        isinstance(body, dict) and body.get('capacity', 1) > 1 and status == 200
+        for _, body, status, _ in lines
+    )
+
+
+class Migrate(unittest.TestCase):
+    def setUp(self):
+        self.folder = tempfile.TemporaryDirectory(dir=FOLDER)
+        self.db = os.path.join(self.folder.name, 'first.db')
+
+    def tearDown(self):
+        self.folder.cleanup()
+
+    def write(self, *texts):
+        """Has these statements carried out by another SQLite, in a file of the first schema if
+        there is none yet."""
+        first = [] if os.path.exists(self.db) else [FIRST]
+        base = sqlite3.connect(self.db)
+        for text in ('PRAGMA synchronous = OFF', *first, *texts):
+            base.executescript(text)
+        base.close()
+
+    @contextlib.contextmanager
+    def other(self, log=True):
+        """Another SQLite over a copy of the file, and of the log beside it: the files stay as they
+        are."""
+        with tempfile.TemporaryDirectory(dir=FOLDER) as folder:
+            copy = copied(self.db, folder)
+            if not log and os.path.exists(copy + '-wal'):
+                os.remove(copy + '-wal')
+            with contextlib.closing(sqlite3.connect(copy)) as base:
+                yield base
+
+    def dump(self, log=True):
+        """All that is in the database, as statements."""
+        with self.other(log) as base:
+            return list(base.iterdump())[1:-1]
+
+    def put_in_log(self, inside=0, commits=0):
+        """Writes the file anew, with all but the first statements `inside` in the log alone, and so
+        many commits more behind them: both files are copied while a connection is open that never
+        copies its log, and so are as a desk leaves them.
+        """
+        statements = self.dump()
+        with tempfile.TemporaryDirectory(dir=FOLDER) as folder:
+            made = os.path.join(folder, 'made.db')
+            with contextlib.closing(sqlite3.connect(made, isolation_level=None)) as base:
+                for pragma in ('journal_mode = WAL', 'wal_autocheckpoint = 0', 'synchronous = OFF'):
+                    base.execute('PRAGMA ' + pragma)
+                for number, statement in enumerate(statements):
+                    if 0 < number == inside:
+                        base.execute('PRAGMA wal_checkpoint')
+                    base.execute(statement)
+                for number in range(commits, 0, -1):
+                    base.execute(f'UPDATE meta SET schema = {number}')
+                for end in FILES:
+                    shutil.copyfile(made + end, self.db + end)
+        self.assertEqual((self.dump(log=False) == [], self.dump()), (inside == 0, statements))
+        self.assertNotEqual(self.dump(log=False), statements)
+
+    def bytes(self):
+        found = {}
+        for end in FILES:
+            if os.path.exists(self.db + end):
+                with open(self.db + end, 'rb') as file:
+                    found[end] = file.read()
+        return found
+
+    def rows(self):
+        """The rows of the first schema."""
+        with self.other() as base:
+            return {
+                table: sorted(base.execute('SELECT * FROM ' + table), key=repr)
+                for table in TABLES
+                if table not in SECOND
+            }
+
+    def moved(self):
+        """The file is moved: what the old tables had is there still but for `trip` and `meta`, and
+        breaks no rule."""
+        before = self.rows()
+        self.assertEqual(run('migrate', '--db', self.db), (0, b'migrated\n', b''))
+        rows = rows_of(self.db)
+        self.assertEqual(broken(rows), [])
+        after = self.rows()
+        for table in before:
+            if table not in ('meta', 'trip'):
+                self.assertEqual(after[table], before[table], table)
+        self.assertEqual((rows['meta'], rows['trip']), ([(1, 2)], []))
+        return {table: rows[table] for table in SECOND}
+
+    def refused(self):
+        """The file is damaged to `migrate`, and stays the same to the byte. So does the log beside
+        it, but for a byte behind its frames, the ninth, which tells that they end; where there is
+        none, one is made that has no frames and ends with this byte.
+        """
+        before, statements = self.bytes(), self.dump()
+        self.assertEqual(run('migrate', '--db', self.db), (1, b'', b'fault: Damaged\n'))
+        after = self.bytes()
+        self.assertEqual(after[''], before[''])
+        old, new = before.get('-wal', b''), after['-wal']
+        front = committed(old)
+        if front:
+            end = len(front) + 8
+            self.assertEqual(new[:end], old[:end].ljust(end, b'\0'))
+            self.assertNotEqual(new[end], front[16])
+            self.assertEqual(new[end + 1 :], old[end + 1 :])
+        else:
+            self.assertEqual(len(new), HEADER + 9)
+        self.assertEqual(self.dump(), statements)
+        self.assertEqual(sorted(os.listdir(self.folder.name)), ['first.db', 'first.db-wal'])
+
+    def check(self, *lines):
+        """Requests with the answers that are wanted, to a program over the file."""
+        status, out, said = run(
+            'replay', '--db', self.db, '--at', AT, stdin=b''.join(map(bytes_of, lines))
+        )
+        self.assertEqual((status, said), (0, b''))
+        self.assertEqual(answers_of(out), [line[2:] for line in lines])
+
+    def test_an_open_order(self):
+        """It is moved once, its message is the same to the byte, and the vehicle carries it out."""
+        self.write(BEGUN)
+        self.assertEqual(run('report', '--db', self.db, 'stock'), (1, b'', b'fault: Damaged\n'))
+        self.assertEqual(self.moved(), BEGUN_MOVED)
+        moved = self.bytes()
+        self.refused()
+        self.assertEqual(self.bytes(), moved)
+        self.goes_on()
+
+    def goes_on(self):
+        """The order that is begun has its message, and is carried out."""
+        self.check(
+            ok('GET /uagv/v2/KIT/0001/order', None, MESSAGE),
+            holds('node N1 KIT/0001', 'node N2 KIT/0001', 'edge E12 KIT/0001'),
+            accepted(state(2, 'O1', statuses=[('O1.0', 'FINISHED')])),
+            stands('L1', 'vehicle KIT/0001', 'J1'),
+            ok(*advance('O1', 1, 1), '{"orderUpdateId":1}'),
+            accepted(state(3, 'O1', 1, 'N3', 4, [('O1.0', 'FINISHED'), ('O1.1', 'FINISHED')])),
+            stands('L1', 'station B'),
+        )
+
+    def test_a_vehicle_that_is_astray(self):
+        self.write(CANCELLED)
+        self.assertEqual(self.moved(), {'capacity': [('KIT', '0001', 1)], 'journey': [], 'act': []})
+        self.check(holds('node N1 KIT/0001', 'node N2 KIT/0001', 'edge E12 KIT/0001'))
+
+    def test_no_vehicle(self):
+        self.write(LAYOUT)
+        self.assertEqual(self.moved(), {'capacity': [], 'journey': [], 'act': []})
+        self.check(stands('L1', 'station A'))
+
+    def test_nothing_yet(self):
+        self.write()
+        self.assertEqual(self.moved(), {'capacity': [], 'journey': [], 'act': []})
+
+    def test_tables_of_others(self):
+        """They stay, rows and all."""
+        self.write(
+            BEGUN,
+            (
+                "CREATE TABLE note (a TEXT); INSERT INTO note VALUES ('b'); CREATE INDEX by_a ON"
+                " note (a);CREATE VIEW standing AS SELECT id FROM load"
+            ),
+        )
+        self.assertEqual(run('migrate', '--db', self.db), (0, b'migrated\n', b''))
+        with self.other() as base:
+            self.assertEqual(
+                base.execute('SELECT a, id FROM note, standing').fetchall(), [('b', 'L1')]
+            )
+            self.assertEqual(base.execute('PRAGMA integrity_check').fetchall(), [('ok',)])
+        self.check(ok('GET /uagv/v2/KIT/0001/order', None, MESSAGE))
+
+    def test_rows_in_the_log(self):
+        """They are moved as those in the file are."""
+        for inside, commits in LOGS:
+            with self.subTest(inside=inside, commits=commits):
+                self.write_anew(BEGUN)
+                self.put_in_log(inside, commits)
+                before = self.bytes()
+                front = committed(before['-wal'])
+                self.assertGreater(len(front), commits * (FRAME + 4096))
+                self.assertEqual(len(before['-wal']) > len(front), inside > 0)
+                self.assertEqual(self.moved(), BEGUN_MOVED)
+                self.assertEqual(self.bytes()[''] != before[''], commits > 0)
+                self.goes_on()
+
+    def test_a_log_that_is_refused(self):
+        """Both files stay as they are; a second refusal changes no byte."""
+        for inside, commits in LOGS:
+            with self.subTest(inside=inside, commits=commits):
+                self.write_anew(BEGUN, "UPDATE trip SET pick_status = 'DONE'")
+                self.put_in_log(inside, commits)
+                self.refused()
+                once = self.bytes()
+                self.refused()
+                self.assertEqual(self.bytes(), once)
+
+    def test_a_file_that_is_not_there(self):
+        """Nor is an empty one of the first schema. What is left, as by any opening, is a database
+        without a table, in which a desk begins."""
+        for made in (False, True):
+            with self.subTest(made=made):
+                self.remove()
+                if made:
+                    open(self.db, 'wb').close()
+                self.assertEqual(run('migrate', '--db', self.db), (1, b'', b'fault: Damaged\n'))
+                self.assertEqual(self.dump(), [])
+                self.refused()
+                self.check(load('L1'), stands('L1', 'checking'))
+
+    def take_back(self, second):
+        """Writes a file of the first schema with the rows of one of the second, in which each
+        vehicle carries one load. It gives its trips."""
+        rows, base = {}, sqlite3.connect(second)
+        for table in TABLES:
+            if table not in ('meta', 'trip') + SECOND:
+                rows[table] = base.execute('SELECT * FROM ' + table).fetchall()
+        rows['trip'] = base.execute(OLD_TRIPS).fetchall()
+        self.assertEqual(
+            len(rows['trip']), base.execute('SELECT count(*) FROM journey').fetchone()[0]
+        )
+        base.close()
+        self.write()
+        base = sqlite3.connect(self.db)
+        for table, found in rows.items():
+            for row in found:
+                base.execute(f'INSERT INTO {table} VALUES ({", ".join("?" * len(row))})', row)
+        base.commit()
+        base.close()
+        return [dict(zip(columns('trip'), row)) for row in rows['trip']]
+
+    def tells_all(self, lines):
+        """All that can be asked is answered over the file as in memory after these requests."""
+        rows = rows_of(self.db)
+        names = ['%s/%s' % row[:2] for row in rows['vehicle']]
+        asked = [*[call.target for call in REPORTS], *['/loads/' + row[0] for row in rows['load']]]
+        for name in names:
+            asked += [
+                '/vehicles/' + name,
+                f'/uagv/v2/{name}/order',
+                f'/uagv/v2/{name}/instantActions',
+            ]
+        self.answers_as_in_memory(lines, [('GET', path, b'') for path in asked], {200, 204})
+        return names
+
+    def changes_all(self, lines):
+        """Each vehicle is told to pause and is asked again, a load comes and goes, and all is told:
+        over the file as in memory."""
+        more = [('POST', '/loads', b'{"load":"more"}')]
+        for name in self.tells_all(lines):
+            more += [
+                ('POST', '/vehicles/%s/%s' % (name, call), b'')
+                for call in ('pause', 'resync', 'cancel')
+            ]
+            more += [
+                ('GET', '/uagv/v2/%s/instantActions' % name, b''),
+                ('GET', '/vehicles/' + name, b''),
+            ]
+        more += [
+            ('POST', '/loads/more/leave', b'{"ref":"more"}'),
+            *[('GET', call.target, b'') for call in REPORTS],
+        ]
+        told = self.answers_as_in_memory(lines, more, {200, 204, 409})
+        self.assertEqual((told[0], told[-1 - len(REPORTS) :]), (200, [200] * (1 + len(REPORTS))))
+        with tempfile.TemporaryDirectory(dir=FOLDER) as folder:
+            first, self.db = self.db, os.path.join(folder, 'plain.db')
+            self.check(*lines)
+            self.answers_as_in_memory(lines, more, {200, 204, 409})
+            self.assertEqual(rows_of(self.db), rows_of(first))
+
+    def answers_as_in_memory(self, lines, requests, statuses):
+        """Requests are answered over the file as in memory after these lines, with no other
+        statuses."""
+        asked = b''.join(
+            request(f'{method} {path}', None if method == 'GET' else body)
+            for method, path, body in requests
+        )
+        of_file = run('replay', '--db', self.db, '--at', AT, stdin=asked)
+        in_memory = run(
+            'replay', '--db', 'memory', '--at', AT, stdin=b''.join(map(bytes_of, lines)) + asked
+        )
+        self.assertEqual((of_file[0], of_file[2], in_memory[0], in_memory[2]), (0, b'', 0, b''))
+        told = answers_of(of_file[1])
+        self.assertEqual(told, answers_of(in_memory[1])[len(lines) :])
+        self.assertEqual(len(told), len(requests))
+        self.assertLessEqual({status for status, _ in told}, statuses)
+        return [status for status, _ in told]
+
+    def test_each_script(self):
+        """What a script has come to after its last request, and after every second one before (of a
+        long one eight), is moved, each second time out of the log: it tells what it tells in
+        memory, and goes on as it would have gone on, the last with calls that change something.
+        """
+        moved, ended, trips = 0, set(), []
+        for title, lines in MOVED.items():
+            for cut in (*range(1, len(lines), max(2, len(lines) // 8)), len(lines)):
+                if for_more(lines[:cut]):
+                    break
+                with (
+                    self.subTest(title, cut=cut),
+                    tempfile.TemporaryDirectory(dir=FOLDER) as folder,
+                ):
+                    second = self.db = os.path.join(folder, 'second.db')
+                    self.check(*lines[:cut])
+                    self.db = os.path.join(folder, 'first.db')
+                    trips += self.take_back(second)
+                    if moved % 2:
+                        self.put_in_log()
+                    self.assertEqual(run('migrate', '--db', self.db), (0, b'migrated\n', b''))
+                    self.assertEqual(rows_of(self.db), rows_of(second))
+                    if cut == len(lines):
+                        self.changes_all(lines)
+                        ended.add(title)
+                    else:
+                        self.tells_all(lines[:cut])
+                        self.check(*lines[cut:])
+                    moved += 1
+        self.assertEqual(ended, {title for title, lines in MOVED.items() if not for_more(lines)})
+        of_messages = {(trip['sent'], trip['first'], trip['confirmed']) for trip in trips}
+        self.assertLessEqual({(0, 0, None), (0, 0, 0), (1, 1, 0), (1, 1, 1)}, of_messages)
+        self.assertLessEqual({0, 1, 2}, {trip['seen'] for trip in trips})
+
+    def test_no_rows_of_a_trip(self):
+        """Rows of an open order that break a rule, and a vehicle with more loads than one place
+        holds."""
+        self.refuse_each(
+            BEGUN,
+            (
+                "UPDATE trip SET pick_status = 'DONE'",
+                "UPDATE trip SET pick_at = 1",
+                "UPDATE trip SET job = 'J2'",
+                "UPDATE trip SET base = 3",
+                "UPDATE trip SET serial = '0002'",
+                "UPDATE trip SET drop_status = 'FINISHED'",
+                'DELETE FROM trip',
+                'DELETE FROM leg WHERE k = 1',
+                "UPDATE leg SET edge = 'E21' WHERE k = 0",
+                "UPDATE job SET phase = 'done'",
+                'DELETE FROM used',
+                "DELETE FROM hold WHERE id = 'E12'",
+                (
+                    "INSERT INTO load VALUES ('L2', 'vehicle', NULL, 'KIT', '0001'), ('L3',"
+                    " 'vehicle', NULL, 'KIT', '0001')"
+                ),
+            ),
+        )
+
+    def test_what_is_not_moved(self):
+        """Rows that break a rule, a table that is missing or has the number of another schema, and
+        names that are taken."""
+        self.refuse_each(
+            CANCELLED,
+            (
+                "DELETE FROM hold WHERE id = 'N2'",
+                "UPDATE load SET station = 'Z'",
+                "UPDATE vehicle SET rest_node = NULL",
+                "INSERT INTO leg VALUES ('O1', 0, 'E12')",
+                "UPDATE meta SET schema = 2",
+                "DELETE FROM meta",
+                "DROP TABLE used",
+                (
+                    "INSERT INTO trip VALUES ('O2', 'KIT', '0001', 'J1', 'N1', 0, 0, 0, NULL, 0, 0,"
+                    " 2, 'WAITING', 'WAITING')"
+                ),
+                'CREATE TABLE act (a TEXT)',
+                'CREATE VIEW journey AS SELECT id FROM load',
+                'CREATE INDEX capacity ON load (id)',
+                'CREATE TABLE CAPACITY (a TEXT)',
+                'CREATE TABLE note (a TEXT REFERENCES load (id))',
+                'CREATE TABLE note (a TEXT REFERENCES journey (order_id))',
+            ),
+        )
+
+    def remove(self):
+        for end in FILES:
+            if os.path.exists(self.db + end):
+                os.remove(self.db + end)
+
+    def write_anew(self, *texts):
+        self.remove()
+        self.write(*texts)
+
+    def refuse_each(self, rows, texts):
+        """With each of these statements besides, a file of these rows isn't moved, nor where they
+        are in the log."""
+        for text in texts:
+            with self.subTest(text):
+                self.write_anew(rows, text)
+                self.refused()
+                self.put_in_log()
+                self.refused()
+
+
+if __name__ == '__main__':
+    unittest.main()

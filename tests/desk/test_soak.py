@@ -1,0 +1,492 @@
+"""A short run of `bench/soak`: random lawful traffic of a few vehicles, each answer and the rows of
+the file as the model of the rules has them. The variable SOAK sets its seconds. Runs over a
+stand-in, which is the model behind the words of the program, show what the soak finds wrong; and
+the model and the traffic are tried alone."""
+import collections
+import os
+import random
+import re
+import subprocess
+import sys
+import tempfile
+import unittest
+from unittest import mock
+
+from tests.support import calls
+from tests.model import tables
+from tests.model.desk import Model
+from tests.support.programs import ROOT, module
+from tests.support.records import FOLDER, broken
+from tests.support.sight import told
+from tests.support.streets import Streets, streets_for
+from tests.support.desks import DESK, over_sockets
+from tests.support.traffic import Traffic
+
+SOAK = os.path.join(ROOT, 'bench', 'soak')
+SECONDS = os.environ.get('SOAK', '5')
+STAND_IN = '''#!%s
+import socket, sys
+sys.dont_write_bytecode = True
+sys.path.insert(0, %r)
+from tests.model.desk import Model
+words = sys.argv[1:]
+model = Model(words[words.index('--db') + 1])
+%s
+if words[0] == 'report':
+    sys.stdout.write(model.answer('GET', '/report/' + words[3])[1])
+    sys.exit()
+listener = socket.create_server(('127.0.0.1', 0))
+print('listening on 127.0.0.1:%%d' %% listener.getsockname()[1], flush=True)
+while True:
+    connection, _ = listener.accept()
+    connection.setsockopt(socket.IPPROTO_TCP, socket.TCP_NODELAY, 1)
+    model.serve(connection.makefile('rb'), connection.makefile('wb'))
+'''
+LEAKS = '''
+import time
+kept, served, begin = [], model.served, time.monotonic()
+def leaking(*request):
+    while len(kept) < 20 * (time.monotonic() - begin):
+        kept.append(b'x' * 1_000_000)
+    return served(*request)
+model.served = leaking
+'''
+MISREPORTS = '''
+right = model.answer
+def misreporting(method, target, body=b''):
+    status, told, *more = right(method, target, body)
+    return status, told.replace('left: ', 'left: 1') if words[0] == 'report' else told, *more
+model.answer = misreporting
+'''
+
+soak = module('soak', 'bench')
+
+
+def run(*words, limit=600):
+    env = dict(os.environ, **({'TMPDIR': FOLDER} if FOLDER else {}))
+    return subprocess.run(
+        [sys.executable, SOAK, *words], capture_output=True, text=True, timeout=limit, env=env
+    )
+
+
+@over_sockets
+class Soak(unittest.TestCase):
+    def test_a_short_run(self):
+        words = ['--vehicles', '12', '--seconds', SECONDS, '--least', '300', '--seed', '7']
+        done = run('--program', DESK, *words, limit=float(SECONDS) + 600)
+        self.assertEqual((done.returncode, done.stderr), (0, ''), done.stdout)
+        self.check(done.stdout, 300)
+
+    def check(self, text, least):
+        """What a run says that has found nothing wrong."""
+        said = re.search(
+            r'^end: (\d+) requests in (\d+) s, (\d+) a second, each answered as the model says, and'
+            r' the file .* has its '
+            r'rows and the program reports them; with (\d+\.\d) requests to a state this is the'
+            r' traffic of (\d+) vehicles '
+            r'that send a state a second, or of (\d+) that send two$',
+            text,
+            re.M,
+        )
+        self.assertIsNotNone(said, text)
+        number, _, rate, share, slow, quick = map(float, said.groups())
+        self.assertGreaterEqual(number, least)
+        self.assertLessEqual(abs(rate / share - slow), 1 + slow * 0.06)
+        self.assertLessEqual(abs(slow / 2 - quick), 1)
+        self.assertRegex(text, r'(?m)^memory: \d+ kB .*: flat$')
+
+
+@over_sockets
+class OverAStandIn(Soak):
+    def setUp(self):
+        self.folder = tempfile.TemporaryDirectory(dir=FOLDER)
+
+    def tearDown(self):
+        self.folder.cleanup()
+
+    def over(self, fault, vehicles, seconds):
+        program = os.path.join(self.folder.name, 'desk')
+        with open(program, 'w') as file:
+            file.write(STAND_IN % (sys.executable, ROOT, fault))
+        os.chmod(program, 0o755)
+        return run(
+            '--program',
+            program,
+            '--vehicles',
+            vehicles,
+            '--seconds',
+            seconds,
+            '--least',
+            '100',
+            '--seed',
+            '3',
+        )
+
+    def test_a_short_run(self):
+        done = self.over('', '9', '1')
+        self.assertEqual((done.returncode, done.stderr), (0, ''), done.stdout)
+        self.check(done.stdout, 100)
+
+    def test_memory_that_grows(self):
+        done = self.over(LEAKS, '3', '1.5')
+        self.assertEqual((done.returncode, done.stderr), (1, ''), done.stdout)
+        early, late, more, allowed = map(
+            int,
+            re.search(
+                r'^memory: (\d+) kB after a tenth of the run and (\d+) kB at its end, (\d+) kB more'
+                r' where (\d+) may be: '
+                r'it grows$',
+                done.stdout,
+                re.M,
+            ).groups(),
+        )
+        self.assertEqual(late - early, more)
+        self.assertGreater(more, allowed)
+
+    def test_a_report_of_the_file_that_is_wrong(self):
+        done = self.over(MISREPORTS, '2', '0.5')
+        self.assertEqual(done.returncode, 1)
+        self.assertRegex(
+            done.stderr,
+            r"^the file is not as the model: report stock: 'left: 1\d+', and not 'left: \d+'\n$",
+        )
+
+
+class Words(unittest.TestCase):
+    def test_more_vehicles_than_a_desk_has(self):
+        for number in ('0', '101'):
+            done = run('--vehicles', number)
+            self.assertEqual((done.returncode, done.stdout), (2, ''))
+            self.assertEqual(
+                done.stderr.splitlines()[-1],
+                'soak: error: --vehicles: a desk has 1 to 100 of them',
+                done.stderr,
+            )
+
+    def test_help(self):
+        said = ' '.join(run('--help').stdout.split())
+        self.assertIn('1 to 100, the most that a desk has', said)
+        self.assertIn(
+            "many hundreds of vehicles' worth of traffic at the usual one or two states a second",
+            said,
+        )
+
+
+class Growth(unittest.TestCase):
+    def test_what_may_come(self):
+        """Some megabytes besides; the pages that the file has more, as far as they are kept; half a
+        kB for a load."""
+        for early, late, wanted in (
+            ((9000, 400, 10), (9500, 400, 10), (500, 4096)),
+            ((9000, 400, 10), (9500, 3400, 10), (500, 4096 + 3000)),
+            ((9000, 400, 10), (30000, 90000, 10), (21000, 4096 + 8192 - 400)),
+            ((20000, 9000, 10), (30000, 90000, 10), (10000, 4096)),
+            ((20000, 9000, 10), (30000, 90000, 1010), (10000, 4096 + 500)),
+            ((9000, 4000, 10), (8000, 400, 10), (-1000, 4096)),
+        ):
+            self.assertEqual(soak.grown(early, late), wanted)
+
+
+def acted(**statuses):
+    """The statuses of actions, `O1_0='FINISHED'` that of `O1.0`."""
+    return [(name.replace('_', '.'), status) for name, status in statuses.items()]
+
+
+class ByHand(unittest.TestCase):
+    """The model itself, on this layout, whose streets are passed as the arrows say:
+
+    N00-00 > N00-01 > N00-02       and the bays B00-00 between N00-00 and N00-01 (S00-00a and
+    S00-00b, room for one
+       ^                 v         load each), B01-01 between N01-02 and N01-01 (S01-01a and
+       S01-01b, for three each),
+    N01-00 < N01-01 < N01-02       B02-00 between N02-01 and N02-00 (S02-00a, for one)
+       ^                 v
+    N02-00 < N02-01 < N02-02
+    """
+
+    def setUp(self):
+        self.model, self.streets = Model(), Streets(3, 3)
+        self.done(calls.layout(self.streets.rows()))
+
+    def ask(self, call):
+        return told(self.model, call)
+
+    def done(self, *asked):
+        for call in asked:
+            self.assertEqual(self.ask(call)[0], 200, call)
+
+    def refusal(self, call):
+        """The name of the refusal that a call earns."""
+        status, said = self.ask(call)
+        self.assertGreaterEqual(status, 400, call)
+        return said['name']
+
+    def held(self):
+        return {'%s %s' % row[:2]: row[3] for row in self.model.rows()['hold']}
+
+    def place(self, load):
+        return self.ask(calls.get_load(load))[1]['place']
+
+    def test_the_layout(self):
+        self.assertEqual(
+            self.model.layout.stations,
+            {
+                'S00-00a': ('B00-00', 1),
+                'S00-00b': ('B00-00', 1),
+                'S01-01a': ('B01-01', 3),
+                'S01-01b': ('B01-01', 3),
+                'S02-00a': ('B02-00', 1),
+            },
+        )
+        route = ['N01-01.N01-00', 'N01-00.N00-00', 'N00-00.B00-00']
+        self.assertEqual(self.model.layout.route('N01-01', 'B00-00'), route)
+
+    def test_layouts_for_so_many_vehicles(self):
+        """They are within the limits of a desk and of a request, and each of their nodes leads to
+        each."""
+        for vehicles in (1, 2, 20, 63, 100):
+            streets = streets_for(vehicles)
+            self.assertGreater(len(streets.nodes), 4 * vehicles)
+            self.assertGreaterEqual(len(streets.bays), vehicles)
+            self.assertLessEqual(len(streets.nodes), 500)
+            self.assertLessEqual(len(streets.edges), 1500)
+            self.assertLessEqual(len(streets.stations), 500)
+            self.assertLess(len(streets.rows()), 65536)
+            for target in streets.nodes:
+                self.assertEqual(len(streets.hops_to(target)), len(streets.nodes))
+
+    def test_a_transport_by_hand(self):
+        self.done(
+            calls.vehicle('0001', 'N00-00'),
+            calls.vehicle('0002', 'N00-02'),
+            calls.load('L1', 'S00-00a'),
+            calls.job('J1', 'L1', 'S01-01b'),
+        )
+        order = calls.order('O1', 'J1', 1)
+        self.assertEqual(self.ask(order), (409, {'name': 'NotReady', 'refusal': 41}))
+        first = calls.state(1, node='N00-00')
+        self.assertEqual(self.ask(first), (200, {'accepted': True}))
+        self.assertEqual(self.ask(first), (200, {'accepted': False}))
+        self.assertEqual(self.ask(order), (200, {'orderUpdateId': 0}))
+        nodes = self.ask(calls.get_order())[1]['nodes']
+        way = ['N00-00', 'B00-00', 'N00-01', 'N00-02', 'N01-02', 'B01-01']
+        self.assertEqual([node['nodeId'] for node in nodes], way)
+        self.assertEqual([k for k, node in enumerate(nodes) if node['actions']], [1, 5])
+        self.assertEqual(
+            self.held(),
+            {
+                'node N00-00': '0001',
+                'edge N00-00.B00-00': '0001',
+                'node B00-00': '0001',
+                'node N00-02': '0002',
+            },
+        )
+        rest = [{'nodeId': node, 'sequenceId': 2 * k} for k, node in enumerate(way)]
+        under_way = calls.state(2, 'O1', 0, 'B00-00', 2, nodeStates=rest)
+        self.assertEqual(self.ask(under_way)[1], {'accepted': True})
+        self.assertEqual(self.ask(calls.get_vehicle())[1]['node'], 'N00-00')
+        picked = calls.state(3, 'O1', 0, 'B00-00', 2, acted(O1_0='FINISHED'), nodeStates=rest[2:])
+        self.assertEqual(self.ask(picked)[1], {'accepted': True})
+        self.assertEqual(self.place('L1'), 'vehicle KIT/0001')
+        self.assertEqual(self.held(), {'node B00-00': '0001', 'node N00-02': '0002'})
+        held = {'by': 'KIT/0002', 'name': 'Held', 'refusal': 33, 'what': 'node N00-02'}
+        self.assertEqual(self.ask(calls.advance('O1', 1, 2)), (409, held))
+        self.assertEqual(broken(self.model.rows()), [])
+
+    def test_an_order_of_two_jobs_by_hand(self):
+        """The loads are picked up at one bay and put down in another order; what is dropped first
+        fails."""
+        self.done(
+            calls.vehicle('0001', 'N00-00', 2),
+            calls.load('L1', 'S00-00a'),
+            calls.load('L2', 'S00-00b'),
+            calls.job('J1', 'L1', 'S01-01a'),
+            calls.job('J2', 'L2', 'S02-00a'),
+            calls.state(1, node='N00-00'),
+            calls.order_of_stops(
+                'O1', [('pick', 'J1'), ('pick', 'J2'), ('drop', 'J2'), ('drop', 'J1')], 14
+            ),
+        )
+        nodes = self.ask(calls.get_order())[1]['nodes']
+        ids = {
+            k: [act['actionId'] for act in node['actions']]
+            for k, node in enumerate(nodes)
+            if node['actions']
+        }
+        self.assertEqual(ids, {1: ['O1.0', 'O1.1'], 7: ['O1.2'], 14: ['O1.3']})
+        self.assertEqual([nodes[k]['nodeId'] for k in ids], ['B00-00', 'B02-00', 'B01-01'])
+        self.assertEqual(
+            [act['actionParameters'][3]['value'] for act in nodes[1]['actions']], ['L1', 'L2']
+        )
+
+        def at_the_first_drop(**statuses):
+            return calls.state(2, 'O1', 0, 'B02-00', 14, acted(**statuses))
+
+        self.assertEqual(
+            self.refusal(at_the_first_drop(O1_0='FINISHED', O1_1='FAILED', O1_2='FINISHED')),
+            'DropFirst',
+        )
+        self.done(at_the_first_drop(O1_0='FINISHED', O1_1='FINISHED', O1_2='FAILED'))
+        self.assertEqual([self.place(load) for load in ('L1', 'L2')], ['vehicle KIT/0001'] * 2)
+        self.done(calls.state(3, 'O1', 0, 'B01-01', 28, acted(O1_3='FINISHED')))
+        self.assertIsNone(self.ask(calls.get_vehicle())[1]['order'])
+        self.assertEqual(
+            [self.place(load) for load in ('L1', 'L2')], ['station S01-01a', 'vehicle KIT/0001']
+        )
+        self.assertEqual([row[-1] for row in self.model.rows()['job']], ['done', 'stopped'])
+        self.assertEqual([self.model.coming(station) for station in ('S01-01a', 'S02-00a')], [0, 0])
+        self.assertEqual(broken(self.model.rows()), [])
+
+    def test_orders_that_are_refused(self):
+        self.done(calls.vehicle('0001', 'N00-00', 2))
+        for number, station in enumerate(('S00-00a', 'S00-00b', 'S01-01a'), 1):
+            self.done(
+                calls.load(f'L{number}', station), calls.job(f'J{number}', f'L{number}', 'S01-01b')
+            )
+        pick, drop = ('pick', 'J1'), ('drop', 'J1')
+
+        def refused(stops):
+            return self.refusal(calls.order_of_stops('O1', stops, 0))
+
+        for stops in (
+            [],
+            [pick],
+            [drop, pick],
+            [pick, pick, drop],
+            [pick, drop, pick, drop],
+            [pick, drop, ('drop', 'J2')],
+        ):
+            self.assertEqual(refused(stops), 'BadStops')
+        self.assertEqual(refused([('pick', 'J9'), ('drop', 'J9')]), 'NoJob')
+        every = [(kind, job) for job in ('J1', 'J2', 'J3') for kind in ('pick', 'drop')]
+        self.assertEqual(refused(every), 'Loaded')
+        self.assertEqual(refused(every[:4]), 'NotReady')
+        for capacity in (0, 5):
+            self.assertEqual(self.refusal(calls.vehicle('0002', 'N00-01', capacity)), 'Limit')
+            self.assertEqual(self.refusal(calls.vehicle('0002', 'N00-00', capacity)), 'Held')
+
+    def test_limits(self):
+        """They are the last of the refusals of a call, and nothing is changed."""
+        self.done(
+            calls.vehicle('0001', 'N00-00'),
+            calls.vehicle('0002', 'N00-01'),
+            calls.state(1, node='N00-00'),
+            calls.load('L1', 'S00-00a'),
+            calls.load('L2', 'S01-01a'),
+            calls.load('L3'),
+            calls.job('J1', 'L2', 'S02-00a'),
+        )
+        before = self.model.rows()
+        with mock.patch.object(tables, 'MOST', 0):
+            for wanted, call in (
+                ('Exists', calls.load('L1')),
+                ('Full', calls.load('L4', 'S00-00a')),
+                ('Limit', calls.load('L4', 'S01-01a')),
+                ('Limit', calls.load('L4')),
+                ('Full', calls.job('J2', 'L1', 'S02-00a')),
+                ('Limit', calls.job('J2', 'L1', 'S01-01b')),
+                ('Full', calls.correct('L3', 'R1', 'S00-00a')),
+                ('Limit', calls.correct('L3', 'R1', 'S01-01a')),
+                ('InJob', calls.leave('L2', 'R1')),
+                ('Limit', calls.leave('L1', 'R1')),
+                ('Held', calls.place('R1', 'N00-01')),
+                ('Limit', calls.place('R1', 'N00-02')),
+                ('Full', calls.stocktake('R1', [('S00-00a', 'L1'), ('S00-00a', 'L3')])),
+                ('Limit', calls.stocktake('R1', [('S00-00a', 'L1')])),
+                ('Beyond', calls.order('O1', 'J1', 99)),
+                ('Held', calls.order('O1', 'J1', 1)),
+                ('Limit', calls.order('O1', 'J1', 0)),
+            ):
+                self.assertEqual(self.refusal(call), wanted, call)
+        self.assertEqual(self.model.rows(), before)
+        with mock.patch.object(tables, 'MOST', 1):
+            self.assertEqual(self.ask(calls.order('O1', 'J1', 0)), (200, {'orderUpdateId': 0}))
+
+
+class AtRandom(unittest.TestCase):
+    """The model and the traffic alone."""
+
+    def requests(self, vehicles, number, seed=1):
+        """So many requests behind the beginning, each with its answer; and the model after them,
+        whose rows break no rule."""
+        found = Model()
+        traffic = Traffic(found, streets_for(vehicles), random.Random(seed))
+        asked = [*traffic.begin(vehicles), *(traffic.next() for _ in range(number))]
+        self.assertEqual(broken(found.rows()), [])
+        return asked, found
+
+    def test_work_flows(self):
+        """Much of the work is done, although vehicles are in one another's way."""
+        for vehicles, number, part, least in ((20, 4000, 0.3, 30), (100, 6000, 0.03, 5)):
+            _, found = self.requests(vehicles, number)
+            phases = collections.Counter(row[-1] for row in found.rows()['job'])
+            self.assertGreater(phases['done'], phases.total() * part)
+            self.assertGreater(phases['done'], least)
+
+    def test_what_occurs(self):
+        asked, found = self.requests(12, 10000)
+        self.assertEqual({row[-1] for row in found.rows()['capacity']}, {1, 2, 3, 4})
+        orders = [
+            call.body for call, answer in asked if call.target == '/orders' and answer[0] == 200
+        ]
+        stops = [
+            [(stop['action'], stop['job']) for stop in body['stops']]
+            for body in orders
+            if 'stops' in body
+        ]
+        self.assertTrue(any('job' in body for body in orders))
+        self.assertEqual({len(one) for one in stops}, {2, 4, 6, 8})
+        crossed = [
+            one
+            for one in stops
+            if [job for kind, job in one if kind == 'pick']
+            != [job for kind, job in one if kind == 'drop']
+        ]
+        self.assertGreater(len(crossed), 5)
+        taken = [
+            call.body
+            for call, answer in asked
+            if call.target.endswith('/state') and answer == (200, {'accepted': True})
+        ]
+        self.assertGreater(sum(body['nodeStates'] != [] for body in taken), len(taken) / 3)
+        self.assertTrue(
+            any(body['nodeStates'] and body['nodeStates'][0]['sequenceId'] == 0 for body in taken)
+        )
+        self.assertTrue(
+            any(act['actionStatus'] == 'FAILED' for body in taken for act in body['actionStates'])
+        )
+        for ends in (
+            '/resync',
+            '/cancel',
+            '/pause',
+            '/resume',
+            '/advance',
+            '/place',
+            '/correct',
+            '/leave',
+        ):
+            self.assertTrue(
+                any(call.target.endswith(ends) and answer[0] == 200 for call, answer in asked), ends
+            )
+        self.assertTrue(any(answer == (200, {'accepted': False}) for _, answer in asked))
+        refused = {answer[1]['name'] for _, answer in asked if answer[0] >= 400}
+        often = (
+            'ActionBackwards ActionEarly ActionTwice Backwards BadStops Beyond BeyondBase Busy'
+            ' Elsewhere Exists Full Held InJob InstantPending LayoutSet Limit Loaded NoLoad'
+            ' NoStation NoVehicle NotConfirmed NotOurNode NotReady NotThere OtherOrder RefUsed'
+            ' SameStation UpdateBackwards UpdateNotSent WrongUpdate'
+        )
+        self.assertEqual(set(often.split()) - refused, set())
+        rare = (
+            'Astray CancelEarly CountTwice DropFirst JobState NoJob NoNode NoOrder OnVehicle'
+            ' OrderKnown'
+        )
+        self.assertGreater(len(refused & set(rare.split())), 4)
+
+    def test_a_seed_gives_the_same_requests(self):
+        one, other = (self.requests(5, 500)[0] for _ in range(2))
+        self.assertEqual(one, other)
+
+
+if __name__ == '__main__':
+    unittest.main()

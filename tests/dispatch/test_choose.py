@@ -1,0 +1,318 @@
+"""What may be released and started, and which pairs of a job and a vehicle get a look, without a
+desk: against the look itself with states enough, on the random cases of test_deadlock."""
+import collections
+import random
+import time
+import unittest
+
+from nulvrader.desk.client import Vehicle
+from nulvrader.dispatch import choose
+from nulvrader.dispatch.choose import Chooser
+from nulvrader.dispatch.job_book import Waiting
+from nulvrader.dispatch.deadlock import finishing, look
+from nulvrader.dispatch.snapshot import Seen
+from nulvrader.dispatch.traffic import Judge, Still, Traffic
+from nulvrader.dispatch.routes import Ways
+from nulvrader.common.layouts import Edge, Station, of_parts
+from nulvrader.common.names import VehicleKey
+from tests.support.programs import TOOLS
+from tests.support.ways import CASES, PLENTY, random_case
+
+assert TOOLS
+
+
+def random_traffic(chance):
+    """Vehicles with orders, perhaps one that does not go on, and one without an order, with a way
+    that it may be given."""
+    while True:
+        ways, walls = random_case(chance)
+        names = sorted(ways)
+        idle, moving = names[-1], names[:-1]
+        still = (
+            {moving.pop(): Still(frozenset(ways[names[-2]][:1]), ways[names[-2]])}
+            if len(moving) > 1 and chance.random() < 0.2
+            else {}
+        )
+        parked = {
+            idle: frozenset(ways[idle][:1]),
+            **{f'wall {node}': frozenset((node,)) for node in walls},
+        }
+        nodes = sorted({node for way in ways.values() for node in way})
+        out = {
+            node: tuple(chance.sample(nodes, chance.randint(1, 2)))
+            for node in nodes
+            if chance.random() < 0.2
+        }
+        if len(ways[idle]) > 1:
+            return (
+                Traffic({name: ways[name] for name in moving}, still, parked, out),
+                idle,
+                ways[idle],
+            )
+
+
+def keeps(judge, before, after, more=()):
+    """Whether all that the judge says to finish before do after, and these, by looks with states
+    enough."""
+    for ways, walls, told in (
+        (after.ways, after.walls, judge.finish_now(before)),
+        (after.ways_later(), (), judge.finish_later(before)),
+    ):
+        wanted = told.union(more)
+        if not wanted <= look(ways, walls, PLENTY, wanted).finishing:
+            return False
+    return True
+
+
+class Judged(unittest.TestCase):
+    """What a judge says that has seen other traffic before, and one that has seen none: it is what
+    looks say with states enough."""
+
+    def test_what_may_be_started(self):
+        chance, old, counts = random.Random(72), Judge(PLENTY, PLENTY), collections.Counter()
+        for case in range(CASES // 3):
+            traffic, idle, way = random_traffic(chance)
+            for judge in (Judge(PLENTY, PLENTY), old):
+                true = traffic.is_open(idle, way) and keeps(
+                    judge, traffic, traffic.started(idle, way), (idle,)
+                )
+                plainly = judge.plainly(traffic, idle, way)
+                self.assertIn(plainly, (true, None), (case, traffic, way))
+                self.assertEqual(judge.may_start(traffic, idle, way), true, (case, traffic, way))
+                counts[f'{true}, plainly {plainly}'] += 1
+        print('start: ' + ', '.join('%s: %d' % one for one in counts.items()))
+        for kind in (
+            'True, plainly True',
+            'True, plainly None',
+            'False, plainly False',
+            'False, plainly None',
+        ):
+            self.assertGreater(counts[kind], CASES // 300, kind)
+
+    def test_what_may_be_released(self):
+        """Release after release: what could finish at first does at the end."""
+        chance, judge, counts = random.Random(73), Judge(PLENTY, PLENTY), collections.Counter()
+        for case in range(CASES // 6):
+            traffic, _, _ = random_traffic(chance)
+            could = judge.finish_now(traffic)
+            if finishing(traffic.ways, traffic.walls, PLENTY) == traffic.ways.keys():
+                self.assertEqual(could, traffic.ways.keys(), (case, traffic))
+                counts['all'] += 1
+            for _ in range(6):
+                names = [name for name, way in traffic.ways.items() if self.is_free(traffic, name)]
+                if not names:
+                    break
+                name = chance.choice(names)
+                finish = judge.finish_now(traffic)
+                goes = name in finish or not finish.isdisjoint(traffic.in_the_way(name))
+                true = goes and keeps(judge, traffic, traffic.released(name, 1))
+                self.assertEqual(judge.may_release(traffic, name, 1), true, (case, traffic, name))
+                counts[true] += 1
+                traffic = traffic.released(name, 1) if true else traffic
+            self.assertLessEqual(could, judge.finish_now(traffic), (case, traffic))
+        print('release: ' + ', '.join('%s: %d' % one for one in counts.items()))
+        for kind in (True, False, 'all'):
+            self.assertGreater(counts[kind], CASES // 60, kind)
+
+    def test_with_the_states_of_the_program(self):
+        """What a judge with its own numbers of states allows is right by looks with states enough.
+        These cases are small, so it allows nearly all that may be."""
+        chance, judge, counts = random.Random(75), Judge(), collections.Counter()
+        for case in range(CASES // 6):
+            traffic, idle, way = random_traffic(chance)
+            judge.begin_turn()
+            told = judge.may_start(traffic, idle, way)
+            true = traffic.is_open(idle, way) and keeps(
+                judge, traffic, traffic.started(idle, way), (idle,)
+            )
+            self.assertTrue(true or not told, (case, traffic, way))
+            counts[f'start: {told}, in truth {true}'] += 1
+            could = judge.finish_now(traffic)
+            for name in [name for name in traffic.ways if self.is_free(traffic, name)]:
+                if self.is_free(traffic, name) and judge.may_release(traffic, name, 1):
+                    traffic = traffic.released(name, 1)
+                    counts['released'] += 1
+            self.assertLessEqual(
+                could, look(traffic.ways, traffic.walls, PLENTY, could).finishing, (case, traffic)
+            )
+        print('the states of the program: ' + ', '.join('%s: %d' % one for one in counts.items()))
+        self.assertGreater(counts['released'], CASES // 40)
+        self.assertGreater(
+            counts['start: True, in truth True'], 20 * counts['start: False, in truth True']
+        )
+
+    def is_free(self, traffic, name):
+        """Whether the next node of a vehicle is."""
+        way = traffic.ways[name]
+        taken = traffic.walls.union(other[0] for one, other in traffic.ways.items() if one != name)
+        return len(way) > 1 and way[1] not in taken
+
+
+# A one-way ring of forty nodes with a bay at each second one, and a station in each bay.
+RING = [f'r{n:02d}' for n in range(40)]
+BAYS = RING[::2]
+LAYOUT = of_parts(
+    [*RING, *('b' + node for node in BAYS)],
+    [
+        Edge('%s.%s' % ends, *ends)
+        for ends in (
+            *zip(RING, RING[1:] + RING[:1]),
+            *((node, 'b' + node) for node in BAYS),
+            *(('b' + node, node) for node in BAYS),
+        )
+    ],
+    [Station('S' + node, 'b' + node, 9) for node in BAYS],
+)
+
+
+def seen(number, node, capacity=1):
+    row = Vehicle(
+        VehicleKey('KIT', f'{number:04d}'),
+        node,
+        capacity,
+        True,
+        False,
+        False,
+        None,
+        None,
+        None,
+        None,
+        1,
+    )
+    return Seen(row, (), None, frozenset((node,)), 0)
+
+
+class Choosing(unittest.TestCase):
+    """Which pairs of a job and a vehicle get a look."""
+
+    def chooser(self, says):
+        """One whose judge sees nothing without a look, and says this by looks; and the list of what
+        was looked at."""
+        asked = []
+
+        class Asked(Judge):
+            def plainly(self, traffic, vehicle, way):
+                return None
+
+            def may_start(self, traffic, vehicle, way):
+                self.looks += 1
+                asked.append((vehicle, way))
+                return says(vehicle, way)
+
+        return Chooser(Ways(LAYOUT), Asked()), asked
+
+    def setUp(self):
+        self.idle = [seen(n, 'b' + BAYS[n]) for n in range(3)]
+        self.traffic = Traffic({}, {}, {one.name: one.nodes for one in self.idle})
+        self.turns = -(-3 * 30 // choose.LOOKS)  # until each pair had its look
+
+    def test_each_gets_its_look(self):
+        """Of 3 vehicles and 30 jobs no pair may be started. In a turn so many get a look, the
+        nearest first, and none a second one before all had one. A job without one is put off."""
+        chooser, asked = self.chooser(lambda vehicle, way: False)
+        jobs = [
+            Waiting('J%02d' % n, 'L%d' % n, 'S' + BAYS[4 + n % 15], 'S' + BAYS[3 - n // 15])
+            for n in range(30)
+        ]
+        for turn in range(1, self.turns + 1):
+            chooser.begin_turn()
+            self.assertIsNone(chooser.propose(self.idle, jobs, self.traffic))
+            self.assertIsNone(chooser.propose(self.idle, jobs, self.traffic))
+            self.assertEqual(len(asked), turn * choose.LOOKS)
+            if turn == 1:
+                self.assertEqual(
+                    asked[0],
+                    ('KIT/0002', chooser.ways.way(('b' + BAYS[2], 'b' + BAYS[4], 'b' + BAYS[3]))),
+                )
+                self.assertTrue(chooser.is_put_off(jobs[14]))
+        most = (self.turns - 1) * choose.LOOKS
+        self.assertEqual((len(set(asked[:most])), len(set(asked))), (most, 90))
+        self.assertEqual([one.job for one in jobs if chooser.is_put_off(one)], [])
+
+    def test_one_that_passes_late(self):
+        """One pair alone may be started, one of the farthest: it is, some turns later."""
+        far = 'b' + BAYS[0], 'b' + BAYS[-1]
+        chooser, _ = self.chooser(lambda vehicle, way: (way[0], way[-1]) == far)
+        jobs = [
+            Waiting('J%02d' % n, 'L%d' % n, 'S' + BAYS[4 + n % 15], 'S' + BAYS[3])
+            for n in range(29)
+        ]
+        jobs.append(Waiting('J29', 'L29', 'S' + BAYS[18], 'S' + BAYS[-1]))
+        found, turns = None, 0
+        while found is None:
+            turns += 1
+            self.assertLessEqual(turns, self.turns)
+            chooser.begin_turn()
+            found = chooser.propose(self.idle, jobs, self.traffic)
+        self.assertEqual((found.vehicle, [one.job for one in found.jobs]), ('KIT/0000', ['J29']))
+        self.assertGreater(turns, 1)
+
+    def test_one_behind_many(self):
+        """Of 100 jobs the newest alone may be started: it is, three turns later at most, and the
+        others are not put off for good."""
+        chooser, _ = self.chooser(lambda vehicle, way: way[-1] == 'b' + BAYS[-1])
+        chooser.judge.plainly = (
+            lambda traffic, vehicle, way: None if way[-1] == 'b' + BAYS[-1] else False
+        )
+        jobs = [
+            Waiting(
+                'J%02d' % n,
+                'L%d' % n,
+                'S' + BAYS[4 + n % 15],
+                'S' + BAYS[3 if n < 99 else -1],
+                float(n),
+            )
+            for n in range(100)
+        ]
+        turns = []
+        for turn in range(1, 10):
+            chooser.begin_turn()
+            found = chooser.propose(self.idle, jobs, self.traffic)
+            if found is not None:
+                self.assertEqual([one.job for one in found.jobs], ['J99'])
+                turns.append(turn)
+        self.assertTrue(turns and turns[0] <= 3 and len(turns) >= 3, turns)
+        self.assertEqual(
+            [one.job for one in jobs if not chooser.is_put_off(one)], [one.job for one in jobs[:30]]
+        )
+
+    def test_many_jobs(self):
+        """With 3,000 jobs and 20 vehicles orders are proposed until no vehicle is left, in little
+        time."""
+        chance = random.Random(74)
+        chooser = Chooser(Ways(LAYOUT), Judge())
+        idle = {
+            one.name: one for one in (seen(n, 'b' + node, 2) for n, node in enumerate(BAYS[:18]))
+        }
+        traffic = Traffic(
+            {},
+            {},
+            {name: one.nodes for name, one in idle.items()},
+            {'b' + node: (node,) for node in BAYS},
+        )
+        jobs = []
+        for n in range(3000):
+            pick, drop = chance.sample(BAYS, 2)
+            jobs.append(Waiting('J%04d' % n, 'L%d' % n, 'S' + pick, 'S' + drop, float(n)))
+        begun = time.process_time()
+        turns = given = 0
+        while turns < 20:
+            turns += 1
+            chooser.begin_turn()
+            while (
+                idle and (found := chooser.propose(list(idle.values()), jobs, traffic)) is not None
+            ):
+                self.assertTrue(Judge(PLENTY, PLENTY).may_start(traffic, found.vehicle, found.way))
+                traffic = traffic.started(found.vehicle, found.way)
+                del idle[found.vehicle]
+                jobs = [one for one in jobs if one not in found.jobs]
+                given += 1
+        self.assertGreater(given, 0)
+        self.assertEqual(finishing(traffic.ways, traffic.walls), set(traffic.ways))
+        print(
+            f'choose: {given} orders, {1000 * (time.process_time() - begun) / turns:.0f} ms a turn'
+        )
+
+
+if __name__ == '__main__':
+    unittest.main()

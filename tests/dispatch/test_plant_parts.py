@@ -1,0 +1,485 @@
+"""The parts of the simulated plant, each alone and without a desk: what it calls wrong, what a
+vehicle does, why a job is stopped, and vehicles that wait for each other."""
+import contextlib
+import dataclasses
+import os
+import random
+import sqlite3
+import tempfile
+import unittest
+
+from nulvrader.desk.client import NoAnswer, Refused, Stop
+from nulvrader.common.names import VehicleKey
+from nulvrader.desk.questions import Wait
+from nulvrader.desk.reports import read_stock
+from simulation.clock import Clock
+from simulation.day import Day
+from simulation.desks import Served
+from simulation.floors import FLOORS
+from simulation.plan import Nature, Plan
+from simulation.plant import Plant
+from simulation.reasons import BY_PERSON, TAKEN_BACK, Killed, Reasons
+from simulation.truth import Given, Goods, Track, Wrong
+from simulation.vehicles import Vehicle
+from simulation.watch import Circles, circles
+
+
+class WhatIsWrong(unittest.TestCase):
+    """What the plant ends at. On the small floor N00 and N01 follow one another, and a siding leads
+    from N00 to the bay N00b."""
+
+    def setUp(self):
+        self.track = Track(FLOORS['small']().layout().edges)
+        self.track.put('a', 'N00')
+
+    def wrong(self, text, call, *words):
+        with self.assertRaisesRegex(Wrong, text):
+            call(*words)
+
+    def test_two_on_a_node(self):
+        self.wrong('a and b are on the node N00', self.track.put, 'b', 'N00')
+        self.track.put('b', 'N01')
+        self.track.leave('a', 'N00.N01')
+        self.wrong('b and a are on the node N01', self.track.arrive, 'a')
+
+    def test_two_on_an_edge(self):
+        """From both of its ends; and the node behind a vehicle is taken until it has arrived."""
+        self.track.put('b', 'N00b')
+        self.track.leave('a', 'N00.N00b')
+        self.wrong('a and b are on the edge', self.track.leave, 'b', 'N00b.N00')
+        self.wrong('a and c are on the node N00', self.track.put, 'c', 'N00')
+
+    def test_an_edge_from_elsewhere(self):
+        self.wrong('a drives along N01.N02, and is at N00', self.track.leave, 'a', 'N01.N02')
+
+    def test_what_may_be(self):
+        self.track.put('b', 'N01')
+        self.track.leave('b', 'N01.N02')
+        self.track.arrive('b')
+        self.track.leave('a', 'N00.N01')
+        self.assertEqual(self.track.arrive('a'), 'N01')
+        self.track.put('c', 'N00')
+        self.assertEqual(self.track.nodes, {'N02': 'b', 'N01': 'a', 'N00': 'c'})
+
+    def test_loads(self):
+        goods = Goods()
+        goods.add('load', 'station A')
+        self.wrong(
+            'load is taken from station B', goods.move, 'load', 'station B', 'vehicle KIT/0001'
+        )
+        goods.move('load', 'station A', 'vehicle KIT/0001')
+        self.assertEqual(goods.places(), {'load': 'vehicle KIT/0001'})
+        goods.room['station B'] = 1
+        goods.move('load', 'vehicle KIT/0001', 'station B')
+        self.wrong(
+            'other is put to station B, which has 2 loads then and room for 1',
+            goods.add,
+            'other',
+            'station B',
+        )
+        goods.here['station B'].remove('other')
+        goods.move('load', 'station B', 'vehicle KIT/0001')
+        goods.add('load', 'station A')
+        self.wrong(
+            'load is at (vehicle KIT/0001 and at station A|station A and at vehicle KIT/0001)',
+            goods.places,
+        )
+
+    def test_track_that_was_not_given(self):
+        given = Given()
+        edges = [
+            {'edgeId': 'N00.N01', 'sequenceId': 1, 'released': True},
+            {'edgeId': 'N01.N02', 'sequenceId': 3, 'released': False},
+        ]
+        given.note('a', {'orderId': 'one', 'edges': edges, 'nodes': []})
+        given.check('a', 'one', 1, 'N00.N01')
+        self.wrong('was not given', given.check, 'a', 'one', 3, 'N01.N02')
+        self.wrong('was not given', given.check, 'a', 'one', 1, 'N01.N02')
+        self.wrong('was not given', given.check, 'a', 'two', 1, 'N00.N01')
+        self.wrong('was not given', given.check, 'b', 'one', 1, 'N00.N01')
+        given.take_back('a', 'two')
+        given.check('a', 'one', 1, 'N00.N01')
+        given.take_back('a', 'one')
+        given.note('a', {'orderId': 'one', 'edges': edges, 'nodes': []})
+        self.wrong('was not given', given.check, 'a', 'one', 1, 'N00.N01')
+
+
+class AVehicle(unittest.TestCase):
+    """One at N00, which has an order to pick L there and to put it down at the end of an edge."""
+
+    def setUp(self):
+        floor = FLOORS['small']()
+        self.clock, self.goods, self.given, self.failed = Clock(), Goods(), Given(), set()
+        key = VehicleKey('KIT', 'a')
+        self.vehicle = Vehicle(
+            key,
+            'N00',
+            self.clock,
+            Track(floor.layout().edges),
+            self.goods,
+            self.given,
+            self.failed,
+            floor.metres,
+            Nature(failing=0),
+            random.Random(1),
+            lambda: None,
+        )
+        nodes = [
+            {
+                'nodeId': node,
+                'sequenceId': 2 * n,
+                'released': True,
+                'actions': [action(f'o.{n}', kind, 'L', node + 's')],
+            }
+            for n, (node, kind) in enumerate((('N00', 'pick'), ('N01', 'drop')))
+        ]
+        edges = [{'edgeId': 'N00.N01', 'sequenceId': 1, 'released': True}]
+        self.message = message = {
+            'headerId': 0,
+            'orderId': 'o',
+            'orderUpdateId': 0,
+            'nodes': nodes,
+            'edges': edges,
+        }
+        self.given.note('KIT/a', message)
+        self.vehicle.take_order(message)
+
+    def run_all(self):
+        self.clock.run(lambda: False)
+
+    def test_a_load_that_is_not_there(self):
+        with self.assertRaisesRegex(Wrong, '^KIT/a is to pick L at N00s, which is not there$'):
+            self.run_all()
+
+    def test_a_load_that_others_have_moved(self):
+        """Where others tell the desk of loads too it is a pick that fails."""
+        self.goods.alone = False
+        self.run_all()
+        self.assertEqual(self.failed, {'o.0', 'o.1'})
+
+    def test_a_load_that_it_does_not_carry(self):
+        """That its drop fails is right where its pick has failed, in the same order."""
+        nodes = [{**self.message['nodes'][0], 'actions': []}, self.message['nodes'][1]]
+        self.vehicle.nature = Nature(failing=1000)
+        self.goods.add('L', 'station N00s')
+        self.run_all()
+        self.assertEqual(self.failed, {'o.0', 'o.1'})
+        self.vehicle.clear()
+        self.vehicle.node, self.vehicle.nature = 'N00', Nature(failing=0)
+        self.vehicle.track.put('KIT/a', 'N00')
+        message = {**self.message, 'headerId': 1, 'orderId': 'p', 'nodes': nodes}
+        self.given.note('KIT/a', message)
+        self.vehicle.take_order(message)
+        with self.assertRaisesRegex(
+            Wrong, '^KIT/a is to put down L at N01s, and does not carry it$'
+        ):
+            self.run_all()
+
+    def test_a_restart(self):
+        """It comes where the vehicle does nothing and the desk knows all, as here in a pause behind
+        the pick. With it the order is lost."""
+        self.goods.add('L', 'station N00s')
+        self.vehicle.take_instant(
+            {'headerId': 0, 'actions': [{'actionId': 'p', 'actionType': 'startPause'}]}
+        )
+        self.assertFalse(self.vehicle.may_restart())
+        self.run_all()
+        self.assertFalse(self.vehicle.may_restart())
+        self.vehicle.posted = self.vehicle.state()['headerId']
+        self.assertTrue(self.vehicle.may_restart())
+        self.vehicle.restart()
+        self.vehicle.take_order({**self.message, 'headerId': 1})
+        state = self.vehicle.state()
+        self.assertEqual(
+            (state['headerId'], state['orderId'], state['lastNodeId'], state['actionStates']),
+            (1, '', 'N00', []),
+        )
+        self.assertFalse(self.vehicle.goes_on())
+
+    def test_a_load_that_is(self):
+        """Its track is its own until the order has ended. What it does is told by a state of after
+        that."""
+        self.goods.add('L', 'station N00s')
+        self.given.check('KIT/a', 'o', 1, 'N00.N01')
+        self.assertEqual(self.vehicle.open_loads(), {'L'})
+        self.vehicle.posted = self.vehicle.state()['headerId']
+        self.assertTrue(self.vehicle.has_told('L'))
+        self.run_all()
+        self.assertEqual(self.goods.places(), {'L': 'station N01s'})
+        self.assertEqual(
+            (self.goods.drops, self.failed, self.vehicle.open_loads()),
+            ({'o.1': ('L', 'N01s')}, set(), set()),
+        )
+        with self.assertRaisesRegex(Wrong, 'was not given'):
+            self.given.check('KIT/a', 'o', 1, 'N00.N01')
+        self.assertFalse(self.vehicle.has_told('L'))
+        self.vehicle.posted = self.vehicle.state()['headerId']
+        self.assertTrue(self.vehicle.has_told('L'))
+
+    def test_an_order_that_is_cancelled(self):
+        self.vehicle.take_instant(
+            {'headerId': 0, 'actions': [{'actionId': 'c', 'actionType': 'cancelOrder'}]}
+        )
+        with self.assertRaisesRegex(Wrong, 'was not given'):
+            self.given.check('KIT/a', 'o', 1, 'N00.N01')
+        self.assertEqual(self.vehicle.open_loads(), set())
+
+
+def action(name, kind, load, station):
+    said = {'loadId': load, 'stationName': station}
+    return {
+        'actionId': name,
+        'actionType': kind,
+        'actionParameters': [{'key': key, 'value': value} for key, value in said.items()],
+    }
+
+
+class WhyAJobIsStopped(unittest.TestCase):
+    """The order o1 has two jobs, and o2 one of them again."""
+
+    def setUp(self):
+        self.reasons = Reasons()
+        self.reasons.give(
+            'o1', [Stop('pick', 'j1'), Stop('pick', 'j2'), Stop('drop', 'j2'), Stop('drop', 'j1')]
+        )
+        self.reasons.give('o2', [Stop('pick', 'j3'), Stop('drop', 'j3')])
+
+    def none(self, job):
+        with self.assertRaisesRegex(Wrong, f'^{job} is stopped, and nobody has a reason$'):
+            self.reasons.why_stopped(job)
+
+    def test_its_own_action(self):
+        self.reasons.failed.add('o1.2')
+        self.assertEqual(self.reasons.why_stopped('j2'), 'an action of it failed')
+        self.none('j1')
+
+    def test_its_order(self):
+        """A call whose answer is lost may have been carried out; one that is refused was not."""
+        refused = Refused('NoOrder', 1, 409, {}, '', '')
+        for fault, is_kept in (
+            (None, True),
+            (NoAnswer('', True), True),
+            (Killed(True), True),
+            (NoAnswer('', False), False),
+            (Killed(False), False),
+            (refused, False),
+        ):
+            self.setUp()
+            self.cancel(fault)
+            for job in ('j1', 'j2'):
+                if is_kept:
+                    self.assertEqual(self.reasons.why_stopped(job), BY_PERSON)
+                else:
+                    self.none(job)
+            self.none('j3')
+            self.cancel(refused)
+            self.assertEqual('o1' in self.reasons.orders, is_kept)
+
+    def cancel(self, fault):
+        with contextlib.suppress(Refused, NoAnswer, Killed), self.reasons.noted(
+            self.reasons.orders, 'o1', BY_PERSON
+        ):
+            if fault is not None:
+                raise fault
+
+    def test_done(self):
+        goods = Goods()
+        goods.drops['o1.3'] = 'L1', 'A'
+        self.reasons.check_done('j1', 'L1', 'A', goods)
+        for job, load, target in (
+            ('j1', 'L1', 'B'),
+            ('j1', 'L2', 'A'),
+            ('j2', 'L1', 'A'),
+            ('j4', 'L1', 'A'),
+        ):
+            with self.assertRaisesRegex(
+                Wrong, f'^{job} is done, and no vehicle has put {load} down at {target} for it$'
+            ):
+                self.reasons.check_done(job, load, target, goods)
+
+
+class OverAScript(unittest.TestCase):
+    """A shell script stands for the desk's program."""
+
+    def setUp(self):
+        folder = tempfile.TemporaryDirectory()
+        self.addCleanup(folder.cleanup)
+        self.program, self.db = (os.path.join(folder.name, name) for name in ('desk', 'plant.db'))
+
+    def served(self, *lines):
+        with open(self.program, 'w') as file:
+            file.write('#!/bin/sh\n' + '\n'.join(lines) + '\n')
+        os.chmod(self.program, 0o755)
+        return Served(self.program, self.db, 1)
+
+
+class AProgram(OverAScript):
+    def test_one_that_ends_by_itself(self):
+        served = self.served('echo listening on 127.0.0.1:1', 'echo fault: Storage >&2', 'exit 3')
+        served.start()
+        self.addCleanup(served.stop)
+        served.process.wait(120)
+        with self.assertRaisesRegex(
+            Wrong, '^the desk ended by itself: status 3, and it said: fault: Storage$'
+        ):
+            served.supervise()
+        self.assertEqual(served.starts, 1)
+
+    def test_one_that_is_killed(self):
+        served = self.served('echo listening on 127.0.0.1:1', 'exec sleep 600')
+        served.start()
+        self.addCleanup(served.stop)
+        served.supervise()
+        self.assertEqual(served.starts, 1)
+        served.kill_soon(random.Random(1))
+        served.settle()
+        self.assertEqual(served.starts, 2)
+
+
+class WhatTheDeskHas(OverAScript):
+    """The load L1 is at the station A, and L2 on KIT/0001."""
+
+    REPORT = (
+        b'station A at N1: %d of 3, reserved 0\n%schecking: %d\n%svehicle KIT/0001: 1\n '
+        b' L2\nleft: 0\n'
+    )
+
+    def setUp(self):
+        super().setUp()
+        self.plant = Plant(Plan('small', 1), self.served('exit 0'), lambda *_: None)
+        self.plant.goods.add('L1', 'station A')
+        self.plant.goods.add('L2', 'vehicle KIT/0001')
+
+    def compare(self, at_station, checking=b''):
+        self.plant.compare_places(
+            read_stock(
+                self.REPORT % (at_station.count(b'L'), at_station, checking.count(b'L'), checking)
+            )
+        )
+
+    def test_each_load_once(self):
+        self.compare(b'  L1\n')
+
+    def test_a_load_twice(self):
+        """Though one of its places is the true one, and no load is missing."""
+        for lists in (
+            (b'  L1\n  L2\n',),
+            (b'  L1\n', b'  L2\n'),
+            (b'  L1\n', b'  L1\n'),
+            (b'  L1\n  L1\n',),
+        ):
+            with self.subTest(lists), self.assertRaisesRegex(
+                Wrong, r'^the desk has L[12] in more than one place$'
+            ):
+                self.compare(*lists)
+
+    def test_a_load_that_is_nowhere(self):
+        with self.assertRaisesRegex(Wrong, '^the desk has L3, which is nowhere$'):
+            self.compare(b'  L1\n  L3\n')
+
+    def test_a_job_that_has_not_ended(self):
+        """Where all have, as the plant saw. One that only stands, or whose time is over, has such
+        jobs."""
+        with contextlib.closing(sqlite3.connect(self.db)) as base:
+            base.execute('CREATE TABLE job (id TEXT, load TEXT, target TEXT, phase TEXT)')
+            base.executemany(
+                'INSERT INTO job VALUES (?, ?, ?, ?)',
+                [('J1', 'L1', 'A', 'stopped'), ('J2', 'L2', 'A', 'waiting')],
+            )
+            base.commit()
+        self.plant.reasons.jobs['J1'] = TAKEN_BACK
+        with self.assertRaisesRegex(Wrong, '^all jobs had ended, and J2 is waiting$'):
+            self.plant.close()
+        self.plant.day.stands = 'nothing moves'
+        self.plant.close()
+        self.assertEqual((self.plant.day.done, self.plant.day.stopped), (0, {'J1': TAKEN_BACK}))
+
+
+class WaitsInCircles(unittest.TestCase):
+    """At first a waits for b, b for c and c for b."""
+
+    A, B, C = (VehicleKey('KIT', name) for name in 'abc')
+
+    def setUp(self):
+        self.circles = Circles(120.0)
+        self.b, self.c = Wait(self.B, 'o2', 'N2', 'node N3', self.C, True), Wait(
+            self.C, 'o3', 'N3', 'edge E', self.B, True
+        )
+        self.waits = [Wait(self.A, 'o1', 'N1', 'node N2', self.B, False), self.b, self.c]
+
+    def look(self, now, excused=()):
+        self.circles.look(self.waits, excused, now)
+
+    def test_one_that_lasts(self):
+        """KIT/a is not in it."""
+        self.look(10.0, ['KIT/a'])
+        self.look(130.0)
+        told = (
+            'KIT/b waits at N2 for node N3, which KIT/c holds; KIT/c waits at N3 for edge E, which'
+            ' KIT/b holds'
+        )
+        with self.assertRaisesRegex(Wrong, f'^a circle from 10 s on, for 121 s: {told}$'):
+            self.look(131.0)
+
+    def test_one_that_is_excused(self):
+        """As long as one in it is paused; then its time begins."""
+        self.look(0.0)
+        self.look(100.0, ['KIT/c'])
+        self.look(110.0)
+        self.look(230.0)
+        self.assertEqual(self.circles.longest, 120.0)
+        with self.assertRaises(Wrong):
+            self.look(231.0)
+
+    def test_one_that_ends(self):
+        """Between the two c does not wait, so b does not wait for itself."""
+        self.look(0.0)
+        self.waits = [self.waits[0], dataclasses.replace(self.b, in_circle=False)]
+        self.look(100.0)
+        self.waits = [self.b, self.c]
+        self.look(110.0)
+        self.look(230.0)
+        self.assertEqual(self.circles.longest, 120.0)
+
+    def test_two(self):
+        d, e = (VehicleKey('KIT', name) for name in 'de')
+        others = [Wait(e, 'o5', 'N5', 'node N4', d, True), Wait(d, 'o4', 'N4', 'node N5', e, True)]
+        self.assertEqual(circles([*self.waits, *others]), [(self.b, self.c), tuple(others[::-1])])
+
+
+class LongWaits(unittest.TestCase):
+    def test_why(self):
+        """The longest has its reason, and so has each of more than 300 s."""
+        day = Day()
+        lines = []
+        for vehicle, since, seconds in (
+            ('a', 0.0, 40),
+            ('b', 10.0, 60),
+            ('c', 20.0, 50),
+            ('d', 30.0, 310),
+            ('a', 90.0, 301),
+            ('b', 99.0, 299),
+        ):
+            for n in range(seconds + 1):
+                day.has_waited(vehicle, since, since + n, f'for {n} s')
+            lines.append(day.longest_waits())
+        b, d = ['b waited for 60 s from 10 s on: for 60 s'], [
+            'd waited for 310 s from 30 s on: for 310 s'
+        ]
+        a = ['a waited for 301 s from 90 s on: for 301 s']
+        self.assertEqual(
+            lines, [['a waited for 40 s from 0 s on: for 40 s'], b, b, d, d + a, d + a]
+        )
+
+
+class TheFloors(unittest.TestCase):
+    def test_each_node_leads_to_each(self):
+        for name, make in FLOORS.items():
+            layout = make().layout()
+            for target in layout.nodes:
+                self.assertEqual(len(layout.distances(target)), len(layout.nodes), (name, target))
+            self.assertLess(len(layout.csv()), 65536)
+
+
+if __name__ == '__main__':
+    unittest.main()

@@ -1,0 +1,250 @@
+"""Each allocation of the program is refused in turn: its calls of the C library's heap are counted,
+and the k-th gets no memory, or none from the k-th on. The calls before are answered, the one that
+lacks memory by the refusal for want of memory, and it changes nothing; a further run, or the next
+connection, goes on from there. A move to the second schema leaves the file as before, and a report
+is told whole or not at all. What a program takes by other ways than `malloc` and its like isn't
+reached."""
+import collections
+import unittest
+
+from tests.support import tracing
+from tests.support.faults import (
+    ALL,
+    MEMORY,
+    STORAGE,
+    Move,
+    asks,
+    check_kept,
+    moves,
+    port_of,
+    remove,
+    sample,
+    scripts,
+    without_clock,
+)
+from tests.support.records import rows_of
+from tests.support.desks import AT, DESK, over_sockets, run, without_moments
+from tests.support.scripts import bytes_of, load
+from tests.support.fault_test import FULL, LACKS, FaultTest
+
+
+def lacks_heap():
+    if LACKS:
+        return LACKS
+    try:
+        slots = set(tracing.slots_of(DESK)[1].values())
+    except (OSError, ValueError) as error:
+        return f'the calls of the heap can not be found: {error}'
+    return (
+        None
+        if 'malloc' in slots
+        else 'the program asks no C library that is loaded beside it for memory'
+    )
+
+
+NO_HEAP = lacks_heap()
+
+
+@unittest.skipIf(NO_HEAP, NO_HEAP)
+class RefusedMemory(FaultTest):
+    def serve(self, given, db, first=None, times=1):
+        words = [DESK, 'replay', '--db', db, '--at', AT]
+        return tracing.run(words, stdin=given, heap=tracing.Heap(DESK, first, times))
+
+    def calls(self, name, script, db):
+        """Which calls of the heap are tried: those of the opening of a new file, which are the same
+        for these scripts, with one of them alone."""
+        script.start(self.db)
+        opening = self.serve(b'', db).asked
+        script.start(self.db)
+        ended = self.serve(script.input, db)
+        self.assertEqual(
+            (ended.status, ended.out, ended.said, ended.refused), (0, script.out, b'', 0)
+        )
+        self.assertGreater(opening, 100)
+        self.assertGreater(ended.asked, opening + 10 * len(script.requests))
+        return range(1 if name in ('a first load', FULL) else opening + 1, ended.asked + 1)
+
+    def check(self, db, times, most):
+        """A refusal at each call of the heap. Of a run in memory nothing is kept, and what its
+        files there lack is told of the store."""
+        met = {'not opened': 0, 'refused': 0, 'served': 0}
+        faults = {MEMORY: b'fault: Memory\n'}
+        if db == 'memory':
+            faults[STORAGE] = b'fault: Storage\n'
+        for name in scripts() if db == 'memory' else [*scripts(), FULL]:
+            script = self.played(name)
+            calls = self.calls(name, script, db)
+            for k in sample(calls if times else calls[::7], most):
+                with self.subTest(name, k=k, of=calls[-1], times=times):
+                    script.start(self.db)
+                    ended = self.serve(script.input, db, k, times)
+                    self.assertGreaterEqual(ended.refused, 1)
+                    answered = len(script.requests)
+                    if ended.status == 0:
+                        self.assertEqual((ended.out, ended.said), (script.out, b''))
+                        met['served'] += 1
+                    elif not ended.out:
+                        self.assertEqual(ended.status, 1)
+                        self.assertIn(ended.said, faults.values())
+                        answered = 0
+                        met['not opened'] += 1
+                    else:
+                        answer = next(
+                            (answer for answer in faults if ended.out.endswith(answer)), None
+                        )
+                        self.assertIsNotNone(answer, ended.out[-200:])
+                        self.assertEqual((ended.status, ended.said), (1, faults[answer]))
+                        front = ended.out[: -len(answer)]
+                        answered = script.whole(front)
+                        self.assertEqual(front, b''.join(script.answers[:answered]))
+                        met['refused'] += 1
+                    if db != 'memory':
+                        check_kept(self, script, self.db, answered, more=False)
+            if ALL:
+                print(
+                    f'{name}, {"in memory" if db == "memory" else "on a file"},'
+                    f' {"one" if times else "all from one on"} of the calls {calls[0]} to'
+                    f' {calls[-1]} of the heap: {met} so far'
+                )
+        self.assertGreater(min(met['not opened'], met['refused']), most // 2, met)
+
+    def test_one_on_a_file(self):
+        self.check(self.db, 1, 22)
+
+    def test_one_in_memory(self):
+        self.check('memory', 1, 20)
+
+    def test_all_from_one_on(self):
+        self.check(self.db, None, 10)
+        self.check('memory', None, 8)
+
+    def test_a_move(self):
+        """One call of the heap gets no memory, or none does from one on: the file is moved, or the
+        lack is told and the file is as before."""
+        met = collections.Counter()
+        for name, move in moves().items():
+            words = [*Move.WORDS, self.db]
+            move.start(self.db)
+            ended = tracing.run(words, heap=tracing.Heap(DESK))
+            self.assertEqual(
+                (ended.status, ended.out, ended.said, ended.refused), (0, b'migrated\n', b'', 0)
+            )
+            self.assertGreater(ended.asked, 100)
+            calls = range(1, ended.asked + 1)
+            for times in (1, None):
+                for k in sample(calls if times else calls[::7], 6):
+                    with self.subTest(name, k=k, of=calls[-1], times=times):
+                        move.start(self.db)
+                        ended = tracing.run(words, heap=tracing.Heap(DESK, k, times))
+                        self.assertGreaterEqual(ended.refused, 1)
+                        moved = ended.status == 0
+                        self.assertEqual(
+                            (ended.status, ended.out, ended.said),
+                            (0, b'migrated\n', b'') if moved else (1, b'', b'fault: Memory\n'),
+                        )
+                        self.assertEqual(
+                            move.check(self, self.db, moved), 'after' if moved else 'before'
+                        )
+                        met['moved' if moved else 'refused'] += 1
+            if ALL:
+                print(f'a move, {name}, calls 1 to {calls[-1]} of the heap: {dict(met)} so far')
+        self.assertGreater(met['refused'], 20, met)
+
+    def test_a_report(self):
+        """Each opening asks the heap alike, so what the stock report asks beyond the hold report is
+        of the report itself. Where that gets no memory it is told so, and nothing is written."""
+        loads = [f'L{number:03d}' for number in range(300)]
+        status, _, said = run(
+            *self.words[1:], stdin=b''.join(bytes_of(load(name)) for name in loads)
+        )
+        self.assertEqual((status, said), (0, b''))
+        whole = 'checking: %d\n%sleft: 0\n' % (len(loads), ''.join(f'  {name}\n' for name in loads))
+        stock, holds = ([DESK, 'report', '--db', self.db, kind] for kind in ('stock', 'holds'))
+        fewer, ended = tracing.run(holds, heap=tracing.Heap(DESK)), tracing.run(
+            stock, heap=tracing.Heap(DESK)
+        )
+        self.assertEqual((fewer.status, fewer.out, fewer.said), (0, b'held 0 of 0\n', b''))
+        self.assertEqual((ended.status, ended.out, ended.said), (0, whole.encode(), b''))
+        self.assertGreater(ended.asked, fewer.asked + 10)
+        tried = sample(range(fewer.asked + 1, ended.asked + 1), 6)
+        for times in (1, None):
+            for k in tried:
+                with self.subTest(k=k, of=ended.asked, times=times):
+                    one = tracing.run(stock, heap=tracing.Heap(DESK, k, times))
+                    self.assertGreaterEqual(one.refused, 1)
+                    self.assertEqual((one.status, one.out, one.said), (1, b'', b'fault: Memory\n'))
+        self.assertEqual(run(*stock[1:]), (0, whole.encode(), b''))
+        if ALL:
+            print(f'a report, {len(tried)} calls of the heap behind its opening')
+
+
+@unittest.skipIf(NO_HEAP, NO_HEAP)
+@over_sockets
+class RefusedConnections(FaultTest):
+    def serve(self, requests, first=None):
+        """The program serves each request by a connection of its own. One that isn't answered, or
+        for want of memory, is asked again."""
+        answers, again = [], []
+        words = [
+            DESK,
+            'serve',
+            '--db',
+            self.db,
+            '--port',
+            '0',
+            '--connections',
+            f'{len(requests) + 1:04d}',
+        ]
+
+        def beside(process):
+            port = port_of(process)
+            if not port:
+                return
+            for request in requests:
+                answer = asks(port, request)
+                if answer in (b'', MEMORY):
+                    again.append(answer)
+                    answer = asks(port, request)
+                answers.append(answer)
+            if not again:
+                asks(port, b'')
+
+        remove(self.db)
+        return tracing.run(words, heap=tracing.Heap(DESK, first), beside=beside), answers, again
+
+    def test_one_while_connections_are_served(self):
+        met = {'not opened': 0, 'asked again': 0, 'served': 0}
+        for name in scripts():
+            script = self.played(name)
+            opening = self.serve([])[0].asked
+            ended, answers, again = self.serve(script.requests)
+            self.assertEqual((ended.status, ended.said, len(again)), (0, b'', 0))
+            wanted = [without_moments(answer) for answer in script.answers]
+            self.assertEqual([without_moments(answer) for answer in answers], wanted)
+            calls = range(1 if name == 'a first load' else opening + 1, ended.asked + 1)
+            for k in sample(calls, 9):
+                with self.subTest(name, k=k, of=calls[-1]):
+                    one, answers, again = self.serve(script.requests, k)
+                    self.assertEqual(one.refused, 1)
+                    if not one.out:
+                        self.assertEqual((one.status, one.said), (1, b'fault: Memory\n'))
+                        self.assertLessEqual(check_kept(self, script, self.db, 0, more=False), 0)
+                        met['not opened'] += 1
+                        continue
+                    self.assertEqual((one.status, one.said), (0, b''))
+                    self.assertEqual([without_moments(answer) for answer in answers], wanted)
+                    self.assertEqual(
+                        without_clock(rows_of(self.db)), without_clock(script.rows[-1])
+                    )
+                    met['asked again' if again else 'served'] += 1
+            if ALL:
+                print(
+                    f'{name}, over connections, one of the calls {calls[0]} to {calls[-1]} of the'
+                    f' heap: {met} so far'
+                )
+        self.assertGreater(min(met['not opened'], met['asked again']), 5, met)
+
+
+if __name__ == '__main__':
+    unittest.main()

@@ -1,0 +1,84 @@
+"""Reads the answers of a stream, each checked to be whole and in the form that the desk writes."""
+import json
+import os
+import re
+
+from tests.support.programs import ROOT
+
+LONG = os.environ.get('NULVRADER_LONG') == '1'
+REASONS = {
+    200: 'OK',
+    204: 'No Content',
+    400: 'Bad Request',
+    404: 'Not Found',
+    405: 'Method Not Allowed',
+    409: 'Conflict',
+    411: 'Length Required',
+    413: 'Payload Too Large',
+    422: 'Unprocessable Entity',
+    501: 'Not Implemented',
+    503: 'Service Unavailable',
+}
+
+with open(os.path.join(ROOT, 'docs', 'HTTP.md')) as page:
+    REFUSALS = {
+        name: (int(number), int(status))
+        for number, name, status in re.findall(
+            r'^\| (\d+) \| (\w+) \| (\d+) \|', page.read().split('## All refusals')[1], re.M
+        )
+    }
+
+
+def refusal(name):
+    number, status = REFUSALS[name]
+    return status, json.dumps({'name': name, 'refusal': number}, separators=(',', ':')).encode()
+
+
+class Answer:
+    def __init__(self, status, lines, body):
+        self.status, self.lines, self.body = status, lines, body
+        self.closes = 'Connection: close' in lines
+
+
+def answers_of(data):
+    """The answers that an output has, each checked to be a whole one in the form that the desk
+    writes; and what is left."""
+    found = []
+    while data:
+        end = data.find(b'\r\n\r\n')
+        if end < 0:
+            break
+        first, *lines = data[:end].decode('ascii').split('\r\n')
+        status = int(re.fullmatch(r'HTTP/1\.1 (\d{3}) [A-Za-z ]+', first).group(1))
+        if first[13:] != REASONS[status]:
+            raise AssertionError(first)
+        form = (
+            ''
+            if status == 204
+            else r'Content-Length: (\d+)\nContent-Type: (application/json|text/plain|text/csv)\n'
+        )
+        form += r'Allow: (GET|PUT|POST|DELETE)\n' if status == 405 else ''
+        form += r'(?:Connection: close\n)?'
+        told = re.fullmatch(form, ''.join(line + '\n' for line in lines))
+        if not told:
+            raise AssertionError(lines)
+        length = int(told.group(1)) if status != 204 else 0
+        if len(data) < end + 4 + length:
+            break
+        body = data[end + 4 : end + 4 + length]
+        check_body(status, told.group(2) if status != 204 else None, body)
+        found.append(Answer(status, lines, body))
+        data = data[end + 4 + length :]
+    return found, data
+
+
+def check_body(status, kind, body):
+    """A body of JSON is JSON, and a refusal has the number and the status of its name."""
+    if kind != 'application/json':
+        return
+    told = json.loads(body)
+    if status == 200:
+        if 'refusal' in told:
+            raise AssertionError(body)
+    elif REFUSALS[told['name']] != (told['refusal'], status):
+        raise AssertionError(body)

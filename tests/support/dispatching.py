@@ -1,0 +1,131 @@
+"""A dispatcher over the built program, for its tests: a layout, two vehicles, and turns with states
+between them."""
+import os
+import tempfile
+import unittest
+
+from tests.support.programs import PATIENCE, TOOLS
+from tests.support.desks import Serving
+
+from nulvrader.desk.client import Desk
+from nulvrader.dispatch.dispatcher import Dispatcher, Settings
+from nulvrader.dispatch.snapshot import take
+from nulvrader.common.layouts import read_layout
+from nulvrader.common.names import VehicleKey
+
+assert TOOLS
+
+# A one-way ring a > b > c > d > a, and at each node a bay with a station of its name: at a the bay
+# ab with the station A, and so on.
+RING = 'abcd'
+LAYOUT = (
+    '\n'.join(
+        ['kind,id,from,to', *(f'node,{node},,' for name in RING for node in (name, name + 'b'))]
+        + [
+            f'edge,{x}-{y},{x},{y}'
+            for name, after in zip(RING, 'bcda')
+            for x, y in ((name, after), (name, name + 'b'), (name + 'b', name))
+        ]
+        + [f'station,{name.upper()},{name}b,3' for name in RING]
+    ).encode()
+    + b'\n'
+)
+ONE, TWO = VehicleKey('KIT', '0001'), VehicleKey('KIT', '0002')
+
+
+class Told:
+    """Vehicles that tell a desk where they are, as their gateways do."""
+
+    def __init__(self, desk):
+        self.desk, self.headers = desk, {}
+
+    def __call__(
+        self,
+        key,
+        node,
+        sequence=0,
+        acts='',
+        *,
+        mode='AUTOMATIC',
+        paused=False,
+        instant=(),
+        fresh=True,
+    ):
+        """A state of a vehicle that has its last order with its last update. `acts` has a letter
+        for each action that has ended: f for finished, x for failed."""
+        message = self.desk.order_message(key) if fresh else None
+        order, update = (message['orderId'], message['orderUpdateId']) if message else ('', 0)
+        statuses = {'f': 'FINISHED', 'x': 'FAILED', 'r': 'RUNNING'}
+        listed = [
+            {'actionId': f'{order}.{n}', 'actionStatus': statuses[letter]}
+            for n, letter in enumerate(acts)
+        ]
+        self.headers[key] = self.headers.get(key, 0) + 1
+        return self.desk.post_state(
+            key,
+            {
+                'headerId': self.headers[key],
+                'timestamp': '2026-01-01T00:00:00.00Z',
+                'version': '2.0.0',
+                'manufacturer': key.manufacturer,
+                'serialNumber': key.serial,
+                'orderId': order,
+                'orderUpdateId': update,
+                'lastNodeId': node,
+                'lastNodeSequenceId': sequence,
+                'driving': False,
+                'paused': paused,
+                'nodeStates': [],
+                'edgeStates': [],
+                'actionStates': listed
+                + [{'actionId': name, 'actionStatus': 'FINISHED'} for name in instant],
+                'operatingMode': mode,
+                'errors': [],
+                'safetyState': {'eStop': 'NONE', 'fieldViolation': False},
+            },
+        )
+
+
+class OverADesk(unittest.TestCase):
+    """Turns of a dispatcher, and states between them, over a desk with two vehicles: one in the bay
+    of A, one in that of C."""
+
+    def setUp(self):
+        self.folder = tempfile.TemporaryDirectory()
+        self.addCleanup(self.folder.cleanup)
+        self.serving = Serving(os.path.join(self.folder.name, 'warehouse.db'), 10**6)
+        self.addCleanup(self.serving.__exit__)
+        self.address = f'127.0.0.1:{self.serving.port}'
+        self.desk = Desk(self.address, timeout=PATIENCE)
+        self.desk.set_layout(LAYOUT)
+        self.desk.register_vehicle(ONE, 'ab', 2)
+        self.desk.register_vehicle(TWO, 'cb')
+        self.told = Told(self.desk)
+        self.told(ONE, 'ab')
+        self.told(TWO, 'cb')
+        for load, station in (('L1', 'A'), ('L2', 'A'), ('L3', 'C')):
+            self.desk.register_load(load, station)
+        self.now, self.lines = 0.0, []
+        self.begin()
+
+    def begin(self):
+        self.dispatcher = Dispatcher(
+            Desk(self.address, timeout=PATIENCE),
+            read_layout(LAYOUT),
+            Settings(ahead=2),
+            say=self.lines.append,
+            clock=lambda: self.now,
+        )
+
+    def turn(self, seconds=1.0):
+        """A turn, and what it has said."""
+        self.now += seconds
+        before = len(self.lines)
+        self.assertTrue(self.dispatcher.turn())
+        return self.lines[before:]
+
+    def held(self, key):
+        return sorted(take(self.desk).vehicles[str(key)].nodes)
+
+    def place(self, load):
+        return self.desk.load(load).place

@@ -1,0 +1,410 @@
+"""Calls with the answers that are expected, and answers that are read."""
+import json
+
+from tests.support import calls
+from tests.support.calls import advance, state
+
+LAYOUT = (
+    'kind,id,from,to\nnode,N1,,\nnode,N2,,\nnode,N3,,\nedge,E12,N1,N2\nedge,E21,N2,N1\nedge,E23,'
+    'N2,N3\nedge,E32,N3,N2\n'
+    'station,A,N1,1\nstation,B,N3,1\nstation,C,N3,2\n'
+)
+
+
+def ok(request, body=None, told='{}'):
+    return request, body, 200, told
+
+
+def refused(request, body, status, name, number):
+    return request, body, status, f'{{"name":"{name}","refusal":{number}}}'
+
+
+def accepted(said, told='{"accepted":true}'):
+    return said[0], said[1], 200, told
+
+
+def refused_state(said, status, name, number):
+    return refused(said[0], said[1], status, name, number)
+
+
+def vehicle(serial, node, capacity=None):
+    return ok(*calls.vehicle(serial, node, capacity))
+
+
+def load(name, station=None):
+    return ok(*calls.load(name, station))
+
+
+def job(name, of, to):
+    return ok(*calls.job(name, of, to))
+
+
+def order(name, of, edges, serial='0001'):
+    return ok(*calls.order(name, of, edges, serial), '{"orderUpdateId":0}')
+
+
+def order_over(name, stops, edges, serial):
+    """An order over several jobs; `stops` are words as `pick J1`."""
+    return calls.order_of_stops(name, [stop.split() for stop in stops], edges, serial)
+
+
+def stands(name, place, of=None):
+    return ok(
+        'GET /loads/' + name,
+        None,
+        json.dumps({'job': of, 'load': name, 'place': place}, separators=(',', ':')),
+    )
+
+
+def export(kind, *rows):
+    heads = {
+        'loads': 'load,place,at',
+        'jobs': 'job,load,from,to,phase,manufacturer,serialNumber,order',
+        'layout': 'kind,id,from,to',
+        'vehicles': 'manufacturer,serialNumber,node,capacity,ready,paused,astray,headerId,pending,'
+        'order,sent,confirmed,released,edges,seen,restEdge,restNode',
+    }
+    return ok('GET /export/' + kind, None, ''.join(row + '\n' for row in (heads[kind], *rows)))
+
+
+def holds(*lines, of=7):
+    return ok(
+        'GET /report/holds',
+        None,
+        ''.join(line + '\n' for line in lines) + f'held {len(lines)} of {of}\n',
+    )
+
+
+READY = [ok('PUT /layout', LAYOUT), vehicle('0001', 'N1'), accepted(state(1))]
+AT_A = READY + [load('L1', 'A')]
+FIRST_EDGE = AT_A + [job('J1', 'L1', 'B'), order('O1', 'J1', 1)]
+BOTH_EDGES = AT_A + [job('J1', 'L1', 'B'), order('O1', 'J1', 2)]
+CANCELLED = FIRST_EDGE + [ok('POST /vehicles/KIT/0001/cancel', '', '{"actionId":"instant-1"}')]
+FINISHED = [('O1.0', 'FINISHED'), ('O1.1', 'FINISHED')]
+FOR_TWO = [ok('PUT /layout', LAYOUT), vehicle('0003', 'N1', 2), accepted(state(1, serial='0003'))]
+TWO_LOADS = FOR_TWO + [
+    load('L1', 'A'),
+    load('L2', 'C'),
+    job('J1', 'L1', 'C'),
+    job('J2', 'L2', 'B'),
+    ok(
+        *order_over('O5', ['pick J1', 'pick J2', 'drop J1', 'drop J2'], 2, '0003'),
+        '{"orderUpdateId":0}',
+    ),
+    accepted(
+        state(
+            2,
+            'O5',
+            node='N3',
+            sequence=4,
+            serial='0003',
+            statuses=[
+                ('O5.0', 'FINISHED'),
+                ('O5.1', 'FINISHED'),
+                ('O5.2', 'FINISHED'),
+                ('O5.3', 'RUNNING'),
+            ],
+        )
+    ),
+    stands('L1', 'station C'),
+    stands('L2', 'vehicle KIT/0003', 'J2'),
+    job('J3', 'L1', 'A'),
+]
+THREE_NODES = [
+    ok('PUT /layout', LAYOUT),
+    vehicle('0002', 'N3'),
+    accepted(state(1, node='N3', serial='0002')),
+]
+
+SCRIPTS = {
+    'a station is full': AT_A
+    + [
+        refused('POST /loads', {'load': 'L2', 'station': 'A'}, 409, 'Full', 34),
+        refused('GET /loads/L2', None, 404, 'NoLoad', 23),
+    ],
+    'an update comes once the message before is confirmed': FIRST_EDGE
+    + [
+        holds('node N1 KIT/0001', 'node N2 KIT/0001', 'edge E12 KIT/0001'),
+        refused(*advance('O1', 1, 1), 409, 'NotConfirmed', 43),
+        accepted(state(2, 'O1')),
+        ok(*advance('O1', 1, 1), '{"orderUpdateId":1}'),
+        (*advance('O1', 1, 1), 409, '{"name":"WrongUpdate","refusal":44,"sent":1}'),
+    ],
+    'one vehicle is kept from what another holds': [
+        ok('PUT /layout', LAYOUT),
+        vehicle('0001', 'N1'),
+        accepted(state(1)),
+        vehicle('0002', 'N3'),
+        accepted(state(1, node='N3', serial='0002')),
+        load('L1', 'A'),
+        load('L3', 'C'),
+        job('J1', 'L1', 'B'),
+        order('O1', 'J1', 1),
+        accepted(state(2, 'O1', statuses=[('O1.0', 'FINISHED')])),
+        stands('L1', 'vehicle KIT/0001', 'J1'),
+        job('J2', 'L3', 'A'),
+        order('O2', 'J2', 0, '0002'),
+        accepted(state(2, 'O2', node='N3', serial='0002')),
+        (
+            *advance('O2', 1, 1, '0002'),
+            409,
+            '{"by":"KIT/0001","name":"Held","refusal":33,"what":"node N2"}',
+        ),
+    ],
+    'a node that is passed twice stays held': THREE_NODES
+    + [
+        load('L1', 'A'),
+        job('J1', 'L1', 'C'),
+        order('O3', 'J1', 4, '0002'),
+        holds(
+            'node N1 KIT/0002',
+            'node N2 KIT/0002',
+            'node N3 KIT/0002',
+            'edge E12 KIT/0002',
+            'edge E21 KIT/0002',
+            'edge E23 KIT/0002',
+            'edge E32 KIT/0002',
+        ),
+        accepted(state(2, 'O3', node='N2', sequence=2, serial='0002')),
+        holds(
+            'node N1 KIT/0002',
+            'node N2 KIT/0002',
+            'node N3 KIT/0002',
+            'edge E12 KIT/0002',
+            'edge E21 KIT/0002',
+            'edge E23 KIT/0002',
+        ),
+        accepted(state(3, 'O3', node='N1', sequence=4, serial='0002')),
+        holds(
+            'node N1 KIT/0002',
+            'node N2 KIT/0002',
+            'node N3 KIT/0002',
+            'edge E12 KIT/0002',
+            'edge E23 KIT/0002',
+        ),
+    ],
+    'a pick and a drop at one node': THREE_NODES
+    + [
+        load('L4', 'B'),
+        job('J4', 'L4', 'C'),
+        order('O4', 'J4', 0, '0002'),
+        accepted(
+            state(
+                2,
+                'O4',
+                node='N3',
+                statuses=[('O4.0', 'FINISHED'), ('O4.1', 'FINISHED')],
+                serial='0002',
+            )
+        ),
+        stands('L4', 'station C'),
+        ('GET /uagv/v2/KIT/0002/order', None, 204, ''),
+    ],
+    'one state tells of the whole way, and again moves nothing': BOTH_EDGES
+    + [
+        accepted(state(2, 'O1', node='N3', sequence=4, statuses=FINISHED)),
+        stands('L1', 'station B'),
+        holds('node N3 KIT/0001'),
+        accepted(state(2, 'O1', node='N3', sequence=4, statuses=FINISHED), '{"accepted":false}'),
+        ok('POST /vehicles/KIT/0001/resync', ''),
+        accepted(state(2, 'O1', node='N3', sequence=4, statuses=FINISHED)),
+        stands('L1', 'station B'),
+    ],
+    'a drop needs its pick': BOTH_EDGES
+    + [
+        accepted(state(2, 'O1', statuses=[('O1.0', 'FAILED')])),
+        refused_state(
+            state(
+                3, 'O1', node='N3', sequence=4, statuses=[('O1.0', 'FAILED'), ('O1.1', 'FINISHED')]
+            ),
+            409,
+            'DropFirst',
+            69,
+        ),
+        stands('L1', 'station A', 'J1'),
+    ],
+    'an order is cancelled on its way': CANCELLED
+    + [
+        accepted(state(2, 'O1', statuses=[('instant-1', 'FINISHED')])),
+        holds('node N1 KIT/0001', 'node N2 KIT/0001', 'edge E12 KIT/0001'),
+        job('J2', 'L1', 'B'),
+        export('jobs', 'J2,L1,A,B,waiting,,,'),
+        export('vehicles', 'KIT,0001,N1,1,true,false,true,2,,,,,,,,E12,N2'),
+        refused(*calls.order('O2', 'J2', 1), 409, 'Astray', 39),
+        ok('POST /vehicles/KIT/0001/place', {'ref': 'R1', 'node': 'N2'}),
+        holds('node N2 KIT/0001'),
+    ],
+    'a cancel ends once everything has stopped': CANCELLED
+    + [
+        refused_state(
+            state(2, 'O1', statuses=[('O1.0', 'RUNNING'), ('instant-1', 'FINISHED')]),
+            409,
+            'CancelEarly',
+            70,
+        ),
+        accepted(state(2, 'O1', statuses=[('O1.0', 'FINISHED'), ('instant-1', 'FINISHED')])),
+        stands('L1', 'vehicle KIT/0001'),
+    ],
+    'fractions and positions are refused': READY
+    + [
+        refused_state(
+            state(2, agvPosition={}, batteryState={'batteryCharge': 80.5, 'charging': False}),
+            422,
+            'Fraction',
+            8,
+        ),
+        refused_state(state(2, agvPosition={}), 422, 'Position', 9),
+        accepted(state(2)),
+    ],
+    'a stocktake finds a load elsewhere': AT_A
+    + [
+        ok('POST /stocktakes/R2', 'station,load\nA,\nC,L1\n', '{"moved":1,"unknown":[]}'),
+        stands('L1', 'station C'),
+        refused('POST /stocktakes/R2', 'station,load\nA,\nC,L1\n', 409, 'RefUsed', 49),
+        ok('POST /stocktakes/R3', 'station,load\nA,\nC,L1\n', '{"moved":0,"unknown":[]}'),
+    ],
+    'a stocktake moves no load of a live job': AT_A
+    + [
+        job('J1', 'L1', 'B'),
+        refused('POST /stocktakes/R2', 'station,load\nA,\nC,L1\n', 409, 'InJob', 35),
+        stands('L1', 'station A', 'J1'),
+    ],
+    'what a stocktake lists': AT_A
+    + [
+        load('L3', 'C'),
+        ok('POST /stocktakes/R1', 'station,load\n', '{"moved":0,"unknown":[]}'),
+        ok('POST /stocktakes/R2', 'station,load\nC,L3\nC,L9\n', '{"moved":0,"unknown":["L9"]}'),
+        refused('POST /stocktakes/R3', 'station,load\nA,L1\nC,L1\n', 409, 'CountTwice', 80),
+        refused('POST /stocktakes/R3', 'station,load\nA,L1\nA,L3\n', 409, 'Full', 34),
+        refused('POST /stocktakes/R3', 'station,load\nD,L1\n', 404, 'NoStation', 22),
+        ok('POST /stocktakes/R3', 'station,load\nC,\n', '{"moved":1,"unknown":[]}'),
+        stands('L3', 'checking'),
+    ],
+    'a load leaves once it has no job; a vehicle has one instant action at a time': AT_A
+    + [
+        job('J1', 'L1', 'B'),
+        refused('POST /loads/L1/leave', {'ref': 'R1'}, 409, 'InJob', 35),
+        ok('DELETE /jobs/J1'),
+        refused('DELETE /jobs/J1', None, 409, 'JobState', 50),
+        ok('POST /loads/L1/leave', {'ref': 'R1'}),
+        stands('L1', 'left'),
+        ok('POST /vehicles/KIT/0001/pause', '', '{"actionId":"instant-1"}'),
+        refused('POST /vehicles/KIT/0001/resume', '', 409, 'InstantPending', 42),
+        accepted(state(4294967295, statuses=[('instant-1', 'FINISHED')])),
+        accepted(state(4294967295), '{"accepted":false}'),
+        ok('POST /vehicles/KIT/0001/resume', '', '{"actionId":"instant-2"}'),
+    ],
+    'a vehicle for two carries two loads in one order': TWO_LOADS
+    + [
+        accepted(
+            state(3, 'O5', node='N3', sequence=4, statuses=[('O5.3', 'FINISHED')], serial='0003')
+        ),
+        stands('L2', 'station B'),
+        ('GET /uagv/v2/KIT/0003/order', None, 204, ''),
+        holds('node N3 KIT/0003'),
+    ],
+    'a load that is not dropped keeps its place': TWO_LOADS
+    + [
+        accepted(
+            state(3, 'O5', node='N3', sequence=4, statuses=[('O5.3', 'FAILED')], serial='0003')
+        ),
+        stands('L2', 'vehicle KIT/0003'),
+        load('L5', 'C'),
+        job('J4', 'L5', 'B'),
+        refused(
+            *order_over('O6', ['pick J3', 'drop J3', 'pick J4', 'drop J4'], 0, '0003'),
+            409,
+            'Loaded',
+            40,
+        ),
+        ok(*order_over('O6', ['pick J3', 'drop J3'], 0, '0003'), '{"orderUpdateId":0}'),
+        refused(
+            *order_over('O7', ['pick J4', 'pick J4', 'drop J4'], 0, '0003'), 409, 'BadStops', 53
+        ),
+        refused(*order_over('O7', [], 0, '0003'), 409, 'BadStops', 53),
+    ],
+    'a vehicle is for one load to four': [
+        ok('PUT /layout', LAYOUT),
+        refused(*calls.vehicle('0003', 'N1', 0), 409, 'Limit', 51),
+        refused(*calls.vehicle('0003', 'N1', 5), 409, 'Limit', 51),
+        vehicle('0003', 'N1', 4),
+    ],
+    'the exports of a new desk, and of an order on its way': [
+        *map(export, ('loads', 'jobs', 'vehicles', 'layout')),
+        *FIRST_EDGE,
+        ok('POST /vehicles/KIT/0001/pause', '', '{"actionId":"instant-1"}'),
+        accepted(
+            state(2, 'O1', node='N2', sequence=2, statuses=[('O1.0', 'FINISHED')], paused=True)
+        ),
+        export('loads', 'L1,vehicle,KIT/0001'),
+        export('jobs', 'J1,L1,A,B,riding,KIT,0001,O1'),
+        export('vehicles', 'KIT,0001,N2,1,true,true,false,2,startPause,O1,0,0,1,2,1,,'),
+        ok('GET /export/layout', None, LAYOUT),
+    ],
+    'the exports of vehicles and jobs': [
+        ok('PUT /layout', LAYOUT),
+        vehicle('0002', 'N3', 4),
+        vehicle('0001', 'N1'),
+        load('L2', 'C'),
+        load('L1', 'A'),
+        job('J2', 'L2', 'B'),
+        job('J1', 'L1', 'C'),
+        accepted(state(7, node='N3', serial='0002', operatingMode='MANUAL')),
+        export('jobs', 'J1,L1,A,C,waiting,,,', 'J2,L2,C,B,waiting,,,'),
+        export(
+            'vehicles',
+            'KIT,0001,N1,1,false,false,false,,,,,,,,,,',
+            'KIT,0002,N3,4,false,false,false,7,,,,,,,,,',
+        ),
+        ok('DELETE /jobs/J2'),
+        export('jobs', 'J1,L1,A,C,waiting,,,'),
+    ],
+    'a layout is set once': READY + [refused('PUT /layout', LAYOUT, 409, 'LayoutSet', 31)],
+    'a layout with an edge to nowhere': [
+        refused('PUT /layout', 'kind,id,from,to\nnode,N1,,\nedge,E1,N1,N2\n', 409, 'LayoutBad', 32)
+    ],
+    'a hundred vehicles': [
+        ok('PUT /layout', 'kind,id,from,to\n' + ''.join(f'node,N{n},,\n' for n in range(101))),
+        *[vehicle(f'{n:04d}', f'N{n}') for n in range(100)],
+        refused(
+            'POST /vehicles',
+            {'manufacturer': 'KIT', 'serialNumber': '0100', 'node': 'N100'},
+            409,
+            'Limit',
+            51,
+        ),
+    ],
+    'methods, paths and bodies': [
+        refused('PUT /loads/L1', '', 405, 'BadMethod', 6),
+        refused('GET /nothing', None, 404, 'NoPath', 5),
+        refused('POST /loads', '[' * 128 + ']' * 128, 400, 'BadJson', 7),
+        refused('POST /loads', '[' * 127 + ']' * 127, 400, 'BadBody', 10),
+    ],
+}
+
+
+def bytes_of(line):
+    return calls.request(*line[:2])
+
+
+# Two registrations, and a third of whose body of 13 bytes there are 5.
+CUT = [bytes_of(load('L1')), bytes_of(load('L2')), bytes_of(load('L1'))[:-8]]
+
+
+def answers_of(data):
+    """The answers of an output, each its status and its body; none where the last one lacks
+    bytes."""
+    found, at = [], 0
+    while at < len(data):
+        end = data.find(b'\r\n\r\n', at)
+        if end < 0:
+            return None
+        length = 0
+        for line in data[at:end].split(b'\r\n')[1:]:
+            if line.lower().startswith(b'content-length:'):
+                length = int(line.split(b':')[1])
+        if end + 4 + length > len(data):
+            return None
+        found.append((int(data[at + 9 : at + 12]), data[end + 4 : end + 4 + length].decode()))
+        at = end + 4 + length
+    return found

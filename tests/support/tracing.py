@@ -1,0 +1,602 @@
+"""Runs a program under ptrace, by ctypes, and stops it before chosen system calls: what is told of
+each of them may let it go on, end the program before it, or make it fail, be short, or be dropped.
+Besides, the program's calls of the C library's heap are counted, and one of them, or all from one
+on, get no memory.
+
+Only the chosen calls stop the program: a filter of seccomp names them. Of Linux on x86-64 alone;
+`lacks` says why it can't be had elsewhere. Threads of the program are followed, and so is a script
+that becomes the program by `exec`."""
+import ctypes
+import errno
+import os
+import platform
+import signal
+import struct
+import sys
+import threading
+
+NUMBERS = {
+    'read': 0,
+    'write': 1,
+    'open': 2,
+    'close': 3,
+    'stat': 4,
+    'fstat': 5,
+    'lstat': 6,
+    'lseek': 8,
+    'mmap': 9,
+    'brk': 12,
+    'pread64': 17,
+    'pwrite64': 18,
+    'readv': 19,
+    'writev': 20,
+    'mremap': 25,
+    'accept': 43,
+    'sendto': 44,
+    'recvfrom': 45,
+    'sendmsg': 46,
+    'recvmsg': 47,
+    'setsockopt': 54,
+    'fcntl': 72,
+    'fsync': 74,
+    'fdatasync': 75,
+    'truncate': 76,
+    'ftruncate': 77,
+    'rename': 82,
+    'unlink': 87,
+    'fchmod': 91,
+    'fchown': 93,
+    'fadvise64': 221,
+    'openat': 257,
+    'newfstatat': 262,
+    'unlinkat': 263,
+    'renameat': 264,
+    'readlinkat': 267,
+    'sync_file_range': 277,
+    'fallocate': 285,
+    'accept4': 288,
+    'preadv': 295,
+    'pwritev': 296,
+    'renameat2': 316,
+    'getrandom': 318,
+    'copy_file_range': 326,
+    'preadv2': 327,
+    'pwritev2': 328,
+    'statx': 332,
+}
+NAMES = {number: name for name, number in NUMBERS.items()}
+# Calls whose first word is a descriptor, and those with a path, and where it stands.
+OF_A_FILE = {
+    'read',
+    'write',
+    'close',
+    'fstat',
+    'lseek',
+    'pread64',
+    'pwrite64',
+    'readv',
+    'writev',
+    'accept',
+    'sendto',
+    'recvfrom',
+    'sendmsg',
+    'recvmsg',
+    'setsockopt',
+    'fcntl',
+    'fsync',
+    'fdatasync',
+    'ftruncate',
+    'fchmod',
+    'fchown',
+    'fadvise64',
+    'sync_file_range',
+    'fallocate',
+    'accept4',
+    'preadv',
+    'pwritev',
+    'preadv2',
+    'pwritev2',
+    'copy_file_range',
+}
+OF_A_PATH = {
+    'open': 0,
+    'stat': 0,
+    'lstat': 0,
+    'truncate': 0,
+    'rename': 0,
+    'unlink': 0,
+    'openat': 1,
+    'newfstatat': 1,
+    'unlinkat': 1,
+    'renameat': 1,
+    'readlinkat': 1,
+    'renameat2': 1,
+    'statx': 1,
+}
+
+# What a call may be told instead of being let go on, which is None.
+STOP = 'stop'
+
+
+class Fails:
+    """The call isn't made, and fails by this error."""
+
+    def __init__(self, error):
+        self.error = error
+
+
+class Gives:
+    """The call isn't made, and gives this number: 0 for an end or for nothing taken, its size for a
+    write that is dropped."""
+
+    def __init__(self, value):
+        self.value = value
+
+
+class Short:
+    """The call is made with so many bytes at most."""
+
+    def __init__(self, size):
+        self.size = size
+
+
+TRACEME, POKEUSER, CONT, GETREGS, SETREGS, SETOPTIONS, GETEVENTMSG = 0, 6, 7, 12, 13, 0x4200, 0x4201
+EVENT_FORK, EVENT_VFORK, EVENT_CLONE, EVENT_EXEC, EVENT_EXIT, EVENT_SECCOMP = 1, 2, 3, 4, 6, 7
+OPTIONS = (
+    sum(
+        1 << event
+        for event in (EVENT_FORK, EVENT_VFORK, EVENT_CLONE, EVENT_EXEC, EVENT_EXIT, EVENT_SECCOMP)
+    )
+    | 1 << 20
+)
+WALL = 0x40000000
+# Places of registers in the kernel's list of 27.
+REG_R10, REG_R9, REG_R8, RAX, RDX, RSI, RDI, ORIG_RAX, RIP = 7, 8, 9, 10, 12, 13, 14, 15, 16
+
+Registers = ctypes.c_ulonglong * 27
+
+
+def _library():
+    found = ctypes.CDLL(None, use_errno=True)
+    found.ptrace.restype = ctypes.c_long
+    found.ptrace.argtypes = [ctypes.c_long, ctypes.c_long, ctypes.c_void_p, ctypes.c_void_p]
+    found.prctl.argtypes = [ctypes.c_int] + [ctypes.c_ulong] * 4
+    return found
+
+
+LIBC = _library() if sys.platform == 'linux' else None
+
+
+def ptrace(request, pid, address=0, data=0):
+    if LIBC.ptrace(request, pid, address, data) < 0:
+        number = ctypes.get_errno()
+        raise OSError(number, 'ptrace %#x: %s' % (request, os.strerror(number)))
+
+
+def _filter(names):
+    """The program of seccomp's filter: a call of these names stops, every other one goes on."""
+    numbers = sorted(NUMBERS[name] for name in names)
+    lines = [(0x20, 0, 0, 4), (0x15, 0, len(numbers) + 1, 0xC000003E), (0x20, 0, 0, 0)]
+    lines += [(0x15, len(numbers) - at, 0, number) for at, number in enumerate(numbers)]
+    lines += [(0x06, 0, 0, 0x7FFF0000), (0x06, 0, 0, 0x7FF00000)]
+    return b''.join(struct.pack('<HBBI', *line) for line in lines)
+
+
+class Call:
+    """A system call that the program is about to make."""
+
+    def __init__(self, pid, registers):
+        self.pid = pid
+        self.name = NAMES[registers[ORIG_RAX]]
+        self.words = [registers[at] for at in (RDI, RSI, RDX, REG_R10, REG_R8, REG_R9)]
+        self.file = self.words[0] if self.name in OF_A_FILE else None
+
+    @property
+    def path(self):
+        """The file that the call is on; a path as the program has it, or where the descriptor
+        leads."""
+        if self.name in OF_A_PATH:
+            return os.fsdecode(self._text(self.words[OF_A_PATH[self.name]]))
+        if self.file is None:
+            return ''
+        try:
+            return os.readlink(f'/proc/{self.pid}/fd/{self.file}')
+        except OSError:
+            return ''
+
+    @property
+    def size(self):
+        """The bytes that a read or a write is about."""
+        return self.words[2]
+
+    @property
+    def data(self):
+        """The bytes that are to be written."""
+        return self._memory(self.words[1], self.size)
+
+    def _memory(self, at, size):
+        with open(f'/proc/{self.pid}/mem', 'rb', 0) as memory:
+            return os.pread(memory.fileno(), size, at)
+
+    def _text(self, at):
+        data = b''
+        while b'\0' not in data:
+            data += self._memory(at + len(data), 256 - (at + len(data)) % 256)
+        return data.split(b'\0')[0]
+
+    def __repr__(self):
+        return '%s(%s)' % (self.name, ', '.join('%#x' % word for word in self.words))
+
+
+class Ended:
+    """How a program ended: its exit status, or the number of the signal below 0; what it wrote; and
+    how often it asked the heap, and how often it got nothing there."""
+
+    def __init__(self, status, out, said, heap):
+        self.status, self.out, self.said = status, out, said
+        self.asked, self.refused = heap or (0, 0)
+
+
+class Heap:
+    """From the `first` time on that the program asks the C library for memory it gets none: `times`
+    times, or always. With no `first` the calls are only counted."""
+
+    NAMES = {
+        'malloc': 0,
+        'calloc': 0,
+        'realloc': 0,
+        'reallocarray': 0,
+        'aligned_alloc': 0,
+        'memalign': 0,
+        'posix_memalign': errno.ENOMEM,
+        'valloc': 0,
+        'pvalloc': 0,
+    }
+
+    def __init__(self, program, first=None, times=1):
+        self.entry, self.slots = slots_of(program)
+        self.first, self.times = first, times
+
+    def code(self, originals):
+        """The page that stands in the place of these functions: for each its code, and behind them
+        the numbers it counts."""
+        asked, left, given = 3072, 3080, 3088
+        code, starts = b'', []
+        for at, (name, original) in enumerate(originals):
+            code = code.ljust((len(code) + 15) // 16 * 16, b'\xcc')
+            start = len(code)
+            starts.append(start)
+
+            def beside(place, size):
+                return struct.pack('<i', place - (start + len(body) + size))
+
+            body = b'\xf3\x0f\x1e\xfa'  # endbr64
+            body += b'\xf0\x48\xff\x05' + beside(asked, 8)  # lock inc [asked]
+            body += b'\xf0\x48\xff\x0d' + beside(left, 8)  # lock dec [left]
+            body += b'\x7e\x06'  # jle, over the next
+            body += b'\xff\x25' + beside(3096 + 8 * at, 6)  # jmp [original]
+            body += b'\xf0\x48\xff\x0d' + beside(given, 8)  # lock dec [given]
+            body += b'\x7d\x06'  # jge, over the next
+            body += b'\xff\x25' + beside(3096 + 8 * at, 6)  # jmp [original]
+            body += (
+                b'\xb8' + struct.pack('<i', self.NAMES[name]) + b'\xc3'
+            )  # mov eax, the answer; ret
+            code += body
+        never = 1 << 62
+        numbers = (0, self.first or never, never if self.times is None else self.times)
+        tail = struct.pack('<3q', *numbers) + b''.join(
+            struct.pack('<Q', original) for _, original in originals
+        )
+        return starts, code.ljust(3072, b'\xcc') + tail
+
+
+class Clock:
+    """The clock of the day shows so many seconds since 1970 whenever the program asks the C library
+    for it; where they are None it can't be read. It is handed to `run` as a `Heap` is, and its
+    calls are counted as those of the heap are. Other clocks go on.
+    """
+
+    NAMES = ('clock_gettime',)
+    times = 0
+
+    def __init__(self, program, seconds):
+        self.entry, self.slots = slots_of(program, self.NAMES)
+        self.seconds = seconds
+
+    def code(self, originals):
+        """The page that stands in the place of this function."""
+        asked, left = 3072, 3096
+
+        def beside(place, size):
+            return struct.pack('<i', place - (len(code) + size))
+
+        code = b'\xf3\x0f\x1e\xfa'  # endbr64
+        code += b'\x85\xff\x74\x06'  # test edi, edi; jz, over the next: 0 is the clock of the day
+        code += b'\xff\x25' + beside(left, 6)  # jmp [original]
+        code += b'\xf0\x48\xff\x05' + beside(asked, 8)  # lock inc [asked]
+        if self.seconds is None:
+            code += b'\xb8' + struct.pack('<i', -1) + b'\xc3'  # mov eax, -1; ret
+        else:
+            code += b'\x48\xb8' + struct.pack('<q', self.seconds)  # mov rax, seconds
+            code += b'\x48\x89\x06\x48\xc7\x46\x08' + bytes(
+                4
+            )  # mov [rsi], rax; mov qword [rsi + 8], 0
+            code += b'\x31\xc0\xc3'  # xor eax, eax; ret
+        tail = struct.pack('<3q', 0, 0, 0) + struct.pack('<Q', originals[0][1])
+        return [0] * len(originals), code.ljust(asked, b'\xcc') + tail
+
+
+def slots_of(program, names=Heap.NAMES):
+    """Where an ELF file of x86-64 begins, and where its table of imports has these functions, or
+    those of the heap."""
+    with open(program, 'rb') as file:
+        data = file.read()
+    if data[:5] != b'\x7fELF\x02':
+        raise ValueError(f'{program} is no ELF file of 64 bits')
+    entry, at = struct.unpack_from('<QQ', data, 24)
+    size, count = struct.unpack_from('<HH', data, 54)
+    parts = [struct.unpack_from('<IIQQQQQQ', data, at + size * n) for n in range(count)]
+
+    def place(address):
+        for kind, _, offset, start, _, length, _, _ in parts:
+            if kind == 1 and start <= address < start + length:
+                return offset + address - start
+        raise ValueError('no such address')
+
+    dynamic = {}
+    for kind, _, offset, _, _, length, _, _ in parts:
+        if kind == 2:
+            for n in range(0, length, 16):
+                tag, value = struct.unpack_from('<qQ', data, offset + n)
+                dynamic.setdefault(tag, value)
+    slots = {}
+    for table, length in ((23, 2), (7, 8)):
+        if table not in dynamic:
+            continue
+        for n in range(0, dynamic[length], 24):
+            where, info, _ = struct.unpack_from('<QQq', data, place(dynamic[table]) + n)
+            if info & 0xFFFFFFFF in (6, 7):
+                (name,) = struct.unpack_from('<I', data, place(dynamic[6]) + 24 * (info >> 32))
+                begin = place(dynamic[5]) + name
+                text = data[begin : data.index(b'\0', begin)].decode()
+                if text in names:
+                    slots[where] = text
+    return entry, slots
+
+
+class Process:
+    """The program while it runs: who stands beside it may ask what it has written, and whether it
+    has ended."""
+
+    def __init__(self, pid, out):
+        self.pid, self._out, self.ended = pid, out, threading.Event()
+
+    @property
+    def out(self):
+        return os.pread(self._out, 1 << 26, 0)
+
+    def end(self):
+        if not self.ended.is_set():
+            os.kill(self.pid, signal.SIGKILL)
+
+
+class Beside(threading.Thread):
+    """What runs next to the program. Where it fails the program is ended."""
+
+    def __init__(self, work, process):
+        super().__init__()
+        self.work, self.process, self.error = work, process, None
+        self.start()
+
+    def run(self):
+        try:
+            self.work(self.process)
+        except Exception as error:
+            self.error = error
+            self.process.end()
+
+
+class Tracer:
+    def __init__(self, pid, on_call, heap):
+        self.pid, self.on_call, self.heap = pid, on_call, heap
+        self.started, self.counted, self.page = False, None, None
+
+    def memory(self):
+        return os.open(f'/proc/{self.pid}/mem', os.O_RDWR)
+
+    def registers(self, pid):
+        found = Registers()
+        ptrace(GETREGS, pid, 0, ctypes.addressof(found))
+        return found
+
+    def set_registers(self, pid, registers):
+        ptrace(SETREGS, pid, 0, ctypes.addressof(registers))
+
+    def begin(self):
+        """The program has just been loaded: it is stopped once more where its own code begins, once
+        its imports are found."""
+        self.started = True
+        if self.heap:
+            with open(f'/proc/{self.pid}/auxv', 'rb') as file:
+                words = dict(struct.iter_unpack('<QQ', file.read()))
+            self.at = words[9]
+            memory = self.memory()
+            self.kept = os.pread(memory, 3, self.at)
+            os.pwrite(memory, b'\xcc', self.at)
+            os.close(memory)
+
+    def trapped(self):
+        """At its own code: a page is had for the program, by a call of its own, and the functions
+        of the heap lead there."""
+        registers, memory = self.registers(self.pid), self.memory()
+        if self.page is None:
+            self.page = 0
+            self.first = Registers(*registers)
+            self.first[RIP] = self.at
+            os.pwrite(memory, b'\x0f\x05\xcc', self.at)  # syscall; int3
+            for place, word in (
+                (RAX, 9),
+                (RDI, 0),
+                (RSI, 4096),
+                (RDX, 7),
+                (REG_R10, 0x22),
+                (REG_R8, (1 << 64) - 1),
+                (REG_R9, 0),
+                (RIP, self.at),
+            ):
+                registers[place] = word
+            self.set_registers(self.pid, registers)
+        else:
+            self.page = registers[RAX]
+            base = self.at - self.heap.entry
+            originals = []
+            for slot, name in self.heap.slots.items():
+                originals.append((name, struct.unpack('<Q', os.pread(memory, 8, base + slot))[0]))
+            starts, code = self.heap.code(originals)
+            os.pwrite(memory, code, self.page)
+            for slot, start in zip(self.heap.slots, starts):
+                os.pwrite(memory, struct.pack('<Q', self.page + start), base + slot)
+            os.pwrite(memory, self.kept, self.at)
+            self.set_registers(self.pid, self.first)
+        os.close(memory)
+
+    def count(self):
+        if self.heap and self.page:
+            memory = self.memory()
+            asked, _, given = struct.unpack('<3q', os.pread(memory, 24, self.page + 3072))
+            os.close(memory)
+            times = 1 << 62 if self.heap.times is None else self.heap.times
+            self.counted = asked, min(times - given, times)
+
+    def call(self, pid):
+        registers = self.registers(pid)
+        told = self.on_call(Call(pid, registers))
+        if told is None:
+            return True
+        if told == STOP:
+            return False
+        if isinstance(told, Short):
+            registers[RDX] = min(registers[RDX], told.size)
+        else:
+            registers[ORIG_RAX] = (1 << 64) - 1
+            registers[RAX] = (told.value if isinstance(told, Gives) else -told.error) % (1 << 64)
+        self.set_registers(pid, registers)
+        return True
+
+    def follow(self):
+        """The status with which the program ends."""
+        begun = set()
+        while True:
+            pid, status = os.waitpid(-self.pid, WALL)
+            if os.WIFEXITED(status) or os.WIFSIGNALED(status):
+                if pid == self.pid:
+                    return os.waitstatus_to_exitcode(status)
+                continue
+            got, event, sent = os.WSTOPSIG(status), status >> 16, 0
+            if event == EVENT_SECCOMP:
+                if self.started and self.page != 0 and not self.call(pid):
+                    os.kill(self.pid, signal.SIGKILL)
+                    continue
+            elif event == EVENT_EXEC:
+                self.begin()
+            elif event == EVENT_EXIT:
+                if pid == self.pid:
+                    self.count()
+            elif event:
+                pass
+            elif got == signal.SIGTRAP and self.heap and self.started and not self.page:
+                self.trapped()
+            elif got == signal.SIGSTOP and pid not in begun:
+                begun.add(pid)
+            else:
+                sent = got
+            try:
+                ptrace(CONT, pid, 0, sent)
+            except ProcessLookupError:
+                pass
+
+
+def _become(words, names, streams, env):
+    os.setpgid(0, 0)
+    for number, stream in enumerate(streams):
+        os.dup2(stream, number)
+    code = _filter(names)
+    buffer = ctypes.create_string_buffer(code, len(code))
+    program = ctypes.create_string_buffer(
+        struct.pack('<HxxxxxxQ', len(code) // 8, ctypes.addressof(buffer)), 16
+    )
+    ptrace(TRACEME, 0)
+    os.kill(os.getpid(), signal.SIGSTOP)
+    if LIBC.prctl(38, 1, 0, 0, 0) or LIBC.prctl(22, 2, ctypes.addressof(program), 0, 0):
+        os._exit(126)
+    os.execve(words[0], words, env)
+
+
+def run(words, names=(), on_call=None, stdin=b'', heap=None, beside=None, limit=600):
+    """Runs these words, and tells `on_call` of each call of these names that the program is about
+    to make. `beside` runs next to it in a thread of its own. A program that takes longer than
+    `limit` seconds is ended, and that is an error.
+    """
+    files = [os.memfd_create(name) for name in ('in', 'out', 'said')]
+    os.write(files[0], stdin)
+    os.lseek(files[0], 0, os.SEEK_SET)
+    env = {**os.environ, 'LD_BIND_NOW': '1'}
+    pid = os.fork()
+    if not pid:
+        try:
+            _become(words, names, files, env)
+        finally:
+            os._exit(127)
+    process = Process(pid, files[1])
+
+    def watch(process):
+        if not process.ended.wait(limit):
+            raise TimeoutError(f'the program took longer than {limit:g} s')
+
+    try:
+        _, status = os.waitpid(pid, WALL)
+        if not os.WIFSTOPPED(status):
+            raise OSError(errno.EPERM, 'a program can not be traced here')
+        ptrace(SETOPTIONS, pid, 0, OPTIONS)
+        tracer = Tracer(pid, on_call, heap)
+        aside = [Beside(work, process) for work in (watch, beside) if work]
+        try:
+            ptrace(CONT, pid)
+            status = tracer.follow()
+        finally:
+            process.ended.set()
+        for one in aside:
+            one.join()
+            if one.error:
+                raise one.error
+        out, said = (os.pread(file, 1 << 26, 0) for file in files[1:])
+        return Ended(status, out, said, tracer.counted)
+    finally:
+        if not process.ended.is_set():
+            os.kill(pid, signal.SIGKILL)
+            os.waitpid(pid, WALL)
+        for file in files:
+            os.close(file)
+
+
+def lacks():
+    """Why programs can't be traced here; None where they can."""
+    if (
+        sys.platform != 'linux'
+        or platform.machine() != 'x86_64'
+        or ctypes.sizeof(ctypes.c_void_p) != 8
+    ):
+        return 'programs are traced on Linux on x86-64 alone'
+    seen = []
+    try:
+        ended = run(
+            ['/bin/sh', '-c', 'echo here'],
+            ['write'],
+            lambda call: seen.append(call.data),
+            limit=300,
+        )
+    except OSError as error:
+        return f'programs can not be traced here: {error}'
+    if (ended.status, ended.out, seen) != (0, b'here\n', [b'here\n']):
+        return f'programs can not be traced here: {(ended.status, ended.out, ended.said, seen)!r}'
+    return None

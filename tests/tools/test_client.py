@@ -1,0 +1,400 @@
+"""`tools/nulvrader`: the client over the program, by each of its calls; refusals and lost answers;
+what it reads of reports, layouts and messages; and the questions that need several calls."""
+import http.client
+import os
+import re
+import socket
+import tempfile
+import threading
+import time
+import unittest
+from unittest import mock
+
+from tests.support import programs
+from nulvrader.common import layouts, names
+from nulvrader.desk import client, exports, questions, refusals, reports, wire
+from tests.support.programs import PATIENCE
+from tests.support.states import KIT1, KIT2, told
+from tests.support.desks import Serving, over_sockets
+from tests.support.scripts import LAYOUT
+
+
+class WithADesk(unittest.TestCase):
+    """A desk with the layout, KIT/0001 at N1 and L1 at A, whose jobs and orders each test makes."""
+
+    layout, capacity = LAYOUT, None
+
+    def setUp(self):
+        folder = tempfile.TemporaryDirectory()
+        self.addCleanup(folder.cleanup)
+        serving = Serving(os.path.join(folder.name, 'desk.db'))
+        self.addCleanup(serving.__exit__)
+        self.desk = client.Desk(f'127.0.0.1:{serving.port}', timeout=PATIENCE)
+        self.desk.set_layout(self.layout.encode())
+        self.desk.register_vehicle(KIT1, 'N1', self.capacity)
+        self.desk.register_load('L1', 'A')
+
+
+@over_sockets
+class OverADesk(WithADesk):
+    def refused(self, call, *words, **named):
+        with self.assertRaises(client.Refused) as caught:
+            call(*words, **named)
+        return caught.exception
+
+    def test_each_call(self):
+        """A transport of L1 from A to B, with every call of the client."""
+        desk = self.desk
+        self.assertTrue(desk.post_state(KIT1, told(1)))
+        self.assertFalse(desk.post_state(KIT1, told(1)))
+        desk.register_load('L2')
+        desk.correct_load('L2', 'R1', 'C')
+        desk.leave_load('L2', 'R2')
+        desk.add_job('J0', 'L1', 'C')
+        desk.stop_job('J0')
+        desk.add_job('J1', 'L1', 'B')
+        self.assertEqual(desk.load('L1'), client.Load('L1', 'station A', 'J1'))
+        self.assertEqual(desk.jobs(), {'J1': client.Job('J1', 'L1', 'A', 'B')})
+        self.assertEqual(desk.layout(), layouts.read_layout(self.layout.encode()))
+        self.assertIsNone(desk.order_message(KIT1))
+        self.assertEqual(desk.start_order('O1', KIT1, job='J1', edges=1), 0)
+        message = desk.order_message(KIT1)
+        self.assertEqual([node['nodeId'] for node in message['nodes']], ['N1', 'N2', 'N3'])
+        desk.post_state(KIT1, told(2, 'O1', statuses=[('O1.0', 'FINISHED')]))
+        self.assertEqual(desk.load('L1').place, 'vehicle KIT/0001')
+        self.assertEqual(desk.advance(KIT1, 'O1', 1, 1), 1)
+        wanted = client.Vehicle(KIT1, 'N1', 1, True, False, False, None, 'O1', 1, 0, 2)
+        self.assertEqual(desk.vehicle(KIT1), wanted)
+        row = client.VehicleRow(**vars(wanted), released=2, edges=2, seen=0, rest=None)
+        self.assertEqual(desk.vehicles(), {KIT1: row})
+        self.assertEqual(desk.jobs(), {'J1': client.Job('J1', 'L1', 'A', 'B', KIT1, 'O1')})
+        both = [('O1.0', 'FINISHED'), ('O1.1', 'FINISHED')]
+        desk.post_state(KIT1, told(3, 'O1', 1, 'N3', 4, both))
+        self.assertEqual(desk.load('L1'), client.Load('L1', 'station B', None))
+        self.assertIsNone(desk.instant_actions(KIT1))
+        self.assertEqual(desk.pause(KIT1), 'instant-1')
+        self.assertEqual(desk.instant_actions(KIT1)['actions'][0]['actionType'], 'startPause')
+        desk.post_state(
+            KIT1, told(4, 'O1', 1, 'N3', 4, [*both, ('instant-1', 'FINISHED')], paused=True)
+        )
+        self.assertEqual(desk.resume(KIT1), 'instant-2')
+        desk.place(KIT1, 'R3', 'N2')
+        desk.add_job('J2', 'L1', 'A')
+        stops = [client.Stop('pick', 'J2'), client.Stop('drop', 'J2')]
+        self.assertEqual(desk.start_order('O2', KIT1, stops=stops, edges=1), 0)
+        self.assertEqual(desk.cancel(KIT1), 'instant-3')
+        desk.resync(KIT1)
+        self.assertIsNone(desk.vehicle(KIT1).header)
+        desk.place(KIT1, 'R4', 'N2')
+        counted = desk.stocktake('R5', b'station,load\nB,\nC,L1\nC,L9\n')
+        self.assertEqual(counted, client.Stocktake(1, ('L9',)))
+        self.assertEqual(exports.read_loads(desk.loads_export()), {'L1': 'station C', 'L2': 'left'})
+        stock = reports.read_stock(desk.stock_report())
+        self.assertEqual(
+            (stock.stations['C'].loads, stock.stations['C'].capacity, stock.left), (['L1'], 2, 1)
+        )
+        holds = reports.read_holds(desk.hold_report())
+        self.assertEqual((holds.nodes, holds.edges, holds.things), ({'N2': KIT1}, {}, 7))
+
+    def test_a_refusal(self):
+        fault = self.refused(self.desk.register_load, 'L1')
+        self.assertEqual(
+            (fault.name, fault.number, fault.status, str(fault)),
+            ('Exists', 30, 409, 'The name is taken'),
+        )
+        fault = self.refused(self.desk.register_vehicle, KIT2, 'N1')
+        self.assertEqual(
+            (str(fault), fault.members['what']), ('The vehicle KIT/0001 holds node N1', 'node N1')
+        )
+        self.assertIn('Wait until', fault.advice)
+
+    def test_one_connection_kept(self):
+        """A desk that serves one connection and no more is asked three times."""
+        with tempfile.TemporaryDirectory() as folder:
+            with Serving(os.path.join(folder, 'one.db'), connections=1) as serving:
+                desk = client.Desk(f'http://127.0.0.1:{serving.port}/', timeout=PATIENCE)
+                with desk.kept(3):
+                    desk.register_load('L1')
+                    self.assertEqual(self.refused(desk.register_load, 'L1').name, 'Exists')
+                    self.assertEqual(desk.load('L1').place, 'checking')
+                self.assertEqual(serving.process.wait(300), 0)
+                with self.assertRaises(client.NoAnswer) as caught:
+                    desk.load('L1')
+        self.assertRegex(str(caught.exception), '^http://127.0.0.1:.*no program listens there')
+        self.assertFalse(caught.exception.may_be_done)
+
+    def test_questions(self):
+        """L1 goes to B by KIT/0001, before which KIT/0002 stands."""
+        desk = self.desk
+        desk.register_vehicle(KIT2, 'N3')
+        self.assertEqual((questions.orders(desk), questions.who_waits(desk)), ([], []))
+        desk.add_job('J1', 'L1', 'B')
+        desk.post_state(KIT1, told(1))
+        desk.start_order('O1', KIT1, job='J1', edges=1)
+        (order,) = questions.orders(desk)
+        self.assertEqual((order.order, order.released_to, order.edges_left), ('O1', 'N2', 1))
+        self.assertEqual(
+            [(act.kind, act.load, act.station) for act in order.acts],
+            [('pick', 'L1', 'A'), ('drop', 'L1', 'B')],
+        )
+        self.assertEqual(
+            questions.who_waits(desk), [questions.Wait(KIT1, 'O1', 'N2', 'node N3', KIT2, False)]
+        )
+
+    def test_two_that_wait_for_one_another(self):
+        desk = self.desk
+        desk.register_vehicle(KIT2, 'N3')
+        desk.register_load('L2', 'C')
+        desk.add_job('J1', 'L1', 'C')
+        desk.post_state(KIT1, told(1))
+        desk.post_state(KIT2, told(1, node='N3', serial='0002'))
+        desk.start_order('O1', KIT1, job='J1', edges=1)
+        desk.post_state(KIT1, told(2, 'O1', statuses=[('O1.0', 'FINISHED')]))
+        desk.add_job('J2', 'L2', 'A')
+        desk.start_order('O2', KIT2, job='J2', edges=0)
+        waits = questions.who_waits(desk)
+        self.assertEqual(
+            [(wait.vehicle, wait.what, wait.by, wait.in_circle) for wait in waits],
+            [(KIT1, 'node N3', KIT2, True), (KIT2, 'node N2', KIT1, True)],
+        )
+
+
+@over_sockets
+class FarBehind(WithADesk):
+    layout, capacity = LAYOUT.replace(',1\n', ',3\n'), 2
+
+    def test_a_job_of_which_the_message_no_longer_tells(self):
+        """KIT/0001 is to carry L1 to B and then L2 to A. All is released to it in three parts while
+        it stands at N1, so that the last message has the last act alone. Both jobs ride all the
+        same."""
+        desk = self.desk
+        desk.register_load('L2', 'C')
+        desk.add_job('J1', 'L1', 'B')
+        desk.add_job('J2', 'L2', 'A')
+        desk.post_state(KIT1, told(1))
+        stops = [
+            client.Stop(*words.split()) for words in ('pick J1', 'drop J1', 'pick J2', 'drop J2')
+        ]
+        desk.start_order('O1', KIT1, stops=stops, edges=2)
+        for update in (1, 2):
+            desk.post_state(KIT1, told(1 + update, 'O1', update - 1))
+            desk.advance(KIT1, 'O1', update, 1)
+        (order,) = questions.orders(desk)
+        self.assertEqual(
+            [(act.number, act.kind, act.load) for act in order.acts], [(3, 'drop', 'L2')]
+        )
+        riding = client.Job('J1', 'L1', 'A', 'B', KIT1, 'O1'), client.Job(
+            'J2', 'L2', 'C', 'A', KIT1, 'O1'
+        )
+        self.assertEqual(tuple(desk.jobs().values()), riding)
+        row = desk.vehicles()[KIT1]
+        self.assertEqual(
+            (row.sent, row.confirmed, row.seen, row.released, row.edges), (2, 1, 0, 4, 4)
+        )
+
+
+@over_sockets
+class NoLayout(unittest.TestCase):
+    def test_a_desk_without_a_layout(self):
+        with tempfile.TemporaryDirectory() as folder, Serving(
+            os.path.join(folder, 'new.db')
+        ) as serving:
+            desk = client.Desk('127.0.0.1:%d' % serving.port, timeout=PATIENCE)
+            self.assertEqual((desk.layout(), desk.vehicles(), desk.jobs()), (None, {}, {}))
+
+
+class NoDesk(unittest.TestCase):
+    """What answers is no desk, or answers too late, or is cut."""
+
+    def answered(self, data, by_head=False, **named):
+        """What the client says where a server sends these bytes and closes the connection; with
+        none, it waits for the client to close it. The request is read to its end, since a
+        connection that is closed with bytes unread is reset; or to the end of its head."""
+        listener = socket.create_server(('127.0.0.1', 0))
+        self.addCleanup(listener.close)
+
+        def serve():
+            connection, _ = listener.accept()
+            with connection, connection.makefile('rb') as request:
+                length = 0
+                for line in iter(request.readline, b'\r\n'):
+                    name, _, value = line.partition(b':')
+                    if name.lower() == b'content-length':
+                        length = int(value)
+                if not by_head:
+                    request.read(length)
+                if data is None:
+                    request.read(1)
+                else:
+                    connection.sendall(data)
+
+        thread = threading.Thread(target=serve)
+        thread.start()
+        desk = client.Desk(
+            f'127.0.0.1:{listener.getsockname()[1]}', **{'timeout': PATIENCE, **named}
+        )
+        try:
+            desk.register_load('L1')
+        except (client.NoAnswer, client.Refused) as fault:
+            return fault
+        finally:
+            thread.join()
+
+    def test_bytes(self):
+        for data, words, may_be_done in (
+            (b'', 'closed before the answer arrived', True),
+            (b'SSH-2.0\r\n', 'no desk: it answers SSH-2.0', True),
+            (
+                b'HTTP/1.1 200 OK\r\nContent-Length: 30\r\n\r\n{',
+                'closed before the answer arrived',
+                True,
+            ),
+            (b'HTTP/1.1 200 OK\r\nContent-Length: 2\r\n\r\nok', 'no desk', True),
+            (
+                b'HTTP/1.1 404 Not Found\r\nContent-Length: 2\r\n\r\nno',
+                'no desk: status 404, no',
+                False,
+            ),
+            (b'HTTP/1.1 502 Bad Gateway\r\nContent-Length: 0\r\n\r\n', 'no desk: status 502', True),
+        ):
+            with self.subTest(data):
+                fault = self.answered(data)
+                self.assertIsInstance(fault, client.NoAnswer)
+                self.assertIn(words, str(fault))
+                self.assertEqual(fault.may_be_done, may_be_done)
+
+    def test_silence(self):
+        self.assertIn('no whole answer came within 2 seconds', str(self.answered(None, timeout=2)))
+
+    def test_an_answer_while_the_body_is_sent(self):
+        """It is told, though the connection is closed before all is sent."""
+        send, sent = http.client.HTTPConnection.send, []
+
+        def cut(connection, data):
+            sent.append(data)
+            if len(sent) > 1:
+                raise BrokenPipeError
+            send(connection, data)
+
+        body = b'{"name":"TooLarge","refusal":3}'
+        answer = (
+            b'HTTP/1.1 413 Content Too Large\r\nContent-Length: %d\r\nConnection: close\r\n\r\n%s'
+            % (len(body), body)
+        )
+        with mock.patch.object(http.client.HTTPConnection, 'send', cut):
+            fault = self.answered(answer, by_head=True)
+        self.assertEqual((len(sent), fault.name, fault.status), (2, 'TooLarge', 413))
+
+    def test_a_proxy_refuses(self):
+        fault = self.answered(b'HTTP/1.1 401 Unauthorized\r\nContent-Length: 0\r\n\r\n')
+        self.assertEqual((fault.name, fault.number, fault.status), ('Unauthorized', 0, 401))
+
+    def test_addresses(self):
+        for text in (
+            'ftp://desk',
+            'desk:port',
+            '',
+            'http://',
+            '127.0.0.1:70000',
+            'localhost',
+            'unix:',
+            'http://u:p@desk',
+            'desk:1/?a',
+        ):
+            with self.assertRaises(ValueError, msg=text):
+                client.Desk(text)
+        for text, wanted in (
+            ('http://desk', ('desk', 80, None, '', 'desk')),
+            ('https://desk/front/', ('desk', 443, None, '/front', 'desk')),
+            ('127.0.0.1:8080', ('127.0.0.1', 8080, None, '', '127.0.0.1:8080')),
+            ('[::1]:8080', ('::1', 8080, None, '', '[::1]:8080')),
+            ('unix:/run/desk.sock', ('localhost', 0, '/run/desk.sock', '', 'localhost')),
+        ):
+            at = wire.Place.parse(text)
+            self.assertEqual((at.host, at.port, at.path, at.front, at.header()), wanted)
+
+    def test_all_requests_of_a_block(self):
+        """They have its time together, and each its own again behind it."""
+        desk = client.Desk('127.0.0.1:1', timeout=PATIENCE)
+        with desk.within(0.001):
+            time.sleep(0.01)
+            with self.assertRaisesRegex(client.NoAnswer, 'within 0.001 seconds'):
+                desk.load('L1')
+        with self.assertRaisesRegex(client.NoAnswer, 'no program listens there'):
+            desk.load('L1')
+
+
+class Readers(unittest.TestCase):
+    def test_ways(self):
+        """Of two ways of the same length that of the least name at the first node where they
+        part."""
+        rows = 'kind,id,from,to\n' + ''.join(f'node,{node},,\n' for node in 'ABCDE')
+        rows += 'edge,x,A,B\nedge,a,A,C\nedge,y,B,D\nedge,z,C,D\nedge,b,C,D\n'
+        layout = layouts.read_layout(rows.encode())
+        self.assertEqual((layout.route('A', 'D'), layout.hops('A', 'D')), (['a', 'b'], 2))
+        self.assertEqual(
+            (layout.route('D', 'A'), layout.hops('D', 'A'), layout.hops('A', 'N9')),
+            (None, None, None),
+        )
+        self.assertEqual((layout.route('E', 'E'), layout.hops('E', 'E')), ([], 0))
+        with self.assertRaises(layouts.BadLayout) as caught:
+            layouts.read_layout(b'kind,id,from,to\nnode,N1,,\nedge,E,N1,N2\n')
+        self.assertEqual(
+            str(caught.exception), 'line 3: LayoutBad: edge E leads to N2, which is no node'
+        )
+
+    def test_the_file_of_a_layout(self):
+        self.assertEqual(layouts.read_layout(LAYOUT.encode()).csv().decode(), LAYOUT)
+
+    def test_a_bad_report(self):
+        for read, text in (
+            (reports.read_stock, b'station A: 1\n'),
+            (reports.read_holds, b'zone N1 KIT/0001\n'),
+            (exports.read_loads, b'load,at\n'),
+            (exports.read_jobs, b'job,load\n'),
+            (exports.read_vehicles, b'manufacturer\n'),
+            (exports.read_layout, b''),
+        ):
+            with self.assertRaises(reports.BadReport):
+                read(text)
+
+    def test_names(self):
+        self.assertEqual(str(names.VehicleKey.parse('KIT/0001')), 'KIT/0001')
+        for text in ('KIT', 'KIT/', '/1', 'KIT/0001/2', 'K T/1', 'K/' + 33 * 'x'):
+            with self.assertRaises(names.BadName, msg=text):
+                names.VehicleKey.parse(text)
+        made = {names.new_reference() for _ in range(50)}
+        self.assertEqual((len(made), all(map(names.is_name, made))), (50, True))
+
+
+class Refusals(unittest.TestCase):
+    def test_they_are_those_of_the_page(self):
+        """Numbers, names, statuses and sentences are those of the table of docs/HTTP.md."""
+        with open(os.path.join(programs.ROOT, 'docs', 'HTTP.md')) as file:
+            text = file.read()
+        rows = [
+            line.strip('| ').split(' | ') for line in text.splitlines() if line.startswith('| ')
+        ]
+        table = [row for row in rows if len(row) == 4 and row[0].isdigit()]
+        self.assertEqual(
+            table, [[str(one.number), one.name, str(one.status), one.says] for one in refusals.ALL]
+        )
+        self.assertGreater(len(table), 50)
+
+    def test_what_to_do(self):
+        """docs/OPERATE.md has of each refusal what to do, in the same words; those of one item have
+        the same."""
+        with open(os.path.join(programs.ROOT, 'docs', 'OPERATE.md')) as file:
+            page = re.search(r'^## Refusals.*?^### ', file.read(), re.S | re.M).group(0)
+        found = {}
+        for item in re.findall(
+            r'^- (\*\*\w+\*\* \(.*?)(?=^$|^- )', re.sub('\n  ', ' ', page), re.S | re.M
+        ):
+            names, _, advice = item.partition(': ')
+            for name, number in re.findall(r'\*\*(\w+)\*\* \((\d+)\)', names):
+                found[name] = int(number), advice.strip()
+        self.assertEqual(found, {one.name: (one.number, one.advice) for one in refusals.ALL})
+
+
+if __name__ == '__main__':
+    unittest.main()

@@ -1,0 +1,145 @@
+"""The units of `examples/systemd`: what they name is there, they fit together, and systemd takes
+them."""
+from __future__ import annotations
+
+import os
+import re
+import shutil
+import subprocess
+import tempfile
+import unittest
+
+from nulvrader.admin import conf
+from tests.support.programs import ROOT, TOOLS
+
+FOLDER = os.path.join(ROOT, 'examples', 'systemd')
+NAMES = sorted(name for name in os.listdir(FOLDER) if not name.endswith('.conf'))
+SERVICES = [name for name in NAMES if name.endswith('.service')]
+PROGRAM = os.path.abspath(os.environ.get('DESK', os.path.join(ROOT, 'build', 'desk')))
+
+
+def text_of(name: str) -> str:
+    """A file of the folder."""
+    with open(os.path.join(FOLDER, name), encoding='utf-8') as file:
+        return file.read()
+
+
+def said(name: str, setting: str) -> list[str]:
+    """The values of a setting of a unit, in their order."""
+    return re.findall(f'^{setting}=(.*)$', text_of(name), re.M)
+
+
+def rows(name: str) -> list[list[str]]:
+    """The words of each line of a file that is no comment."""
+    return [line.split() for line in text_of(name).splitlines() if line[:1] not in ('', '#')]
+
+
+class Names(unittest.TestCase):
+    def test_users_and_groups(self) -> None:
+        """Each user and group of a unit is made by sysusers.conf, and no other."""
+        users = {name for kind, name, *_ in rows('sysusers.conf') if kind == 'u'}
+        groups = {name for kind, name, *_ in rows('sysusers.conf') if kind == 'g'}
+        named = {user for name in SERVICES for user in said(name, 'User')}
+        self.assertEqual(named, users)
+        found = {one for name in SERVICES for one in said(name, 'Group')}
+        found |= {one for name in NAMES for one in said(name, 'SocketGroup')}
+        for name in SERVICES:
+            found |= {one for line in said(name, 'SupplementaryGroups') for one in line.split()}
+        self.assertEqual(found - users, groups)
+        system = {'root', 'adm', 'www-data'}
+        owners = {one for _, _, _, *owner in rows('tmpfiles.conf') for one in owner}
+        self.assertLessEqual(owners, users | groups | system)
+
+    def test_folders(self) -> None:
+        """tmpfiles.conf makes each folder of a unit, for its user and with its mode."""
+        made = {path: (mode, user) for _, path, mode, user, _ in rows('tmpfiles.conf')}
+        for name in SERVICES:
+            for folder in said(name, 'StateDirectory'):
+                (mode,), (user,) = said(name, 'StateDirectoryMode'), said(name, 'User')
+                self.assertEqual(made[f'/var/lib/{folder}'], (mode, user))
+        self.assertIn(said('nulvrader-backup.service', 'ReadWritePaths')[0], made)
+
+    def test_the_configuration(self) -> None:
+        """Each variable of a unit has its line in nulvrader.conf, and each line is used; what the
+        programs take without the file is the same."""
+        lines = dict(
+            line.split('=', 1) for line in text_of('nulvrader.conf').splitlines() if line[:1] == 'N'
+        )
+        used = {one for name in SERVICES for one in re.findall(r'NULVRADER_[A-Z_]+', text_of(name))}
+        self.assertEqual(used | set(conf.DEFAULTS), set(lines))
+        for name, value in conf.DEFAULTS.items():
+            self.assertEqual(lines[name], value)
+        for name in SERVICES:
+            if '$NULVRADER' in text_of(name) or '${NULVRADER' in text_of(name):
+                self.assertEqual(said(name, 'EnvironmentFile'), [conf.PATH], name)
+
+    def test_the_socket(self) -> None:
+        """All units reach the desk by the one socket, which is forwarded to the desk's port."""
+        (socket,) = said('nulvrader-proxy.socket', 'ListenStream')
+        self.assertEqual(conf.DEFAULTS['NULVRADER_DESK'], f'unix:{socket}')
+        for name in ('board', 'dispatch', 'gateway', 'backup'):
+            unit = f'nulvrader-{name}.service'
+            self.assertIn(' --desk ${NULVRADER_DESK} ', said(unit, 'ExecStart')[0])
+            self.assertIn('desk-clients', said(unit, 'SupplementaryGroups')[0].split())
+        self.assertIn(' --port ${NULVRADER_PORT} ', said('nulvrader-desk.service', 'ExecStart')[0])
+        (line,) = said('nulvrader-proxy.service', 'ExecStart')
+        self.assertEqual(line.split()[1], '127.0.0.1:${NULVRADER_PORT}')
+        self.assertEqual(said('nulvrader-proxy.socket', 'SocketMode'), ['0660'])
+
+    def test_who_is_in_the_network_of_the_desk(self) -> None:
+        """The desk and its proxy join it, and nothing else."""
+        joined = [name for name in SERVICES if said(name, 'JoinsNamespaceOf')]
+        self.assertEqual(joined, ['nulvrader-desk.service', 'nulvrader-proxy.service'])
+        for name in joined:
+            self.assertEqual(said(name, 'JoinsNamespaceOf'), ['nulvrader-network.service'])
+            self.assertIn('nulvrader-network.service', said(name, 'Requires')[0].split())
+            self.assertIn('nulvrader-network.service', said(name, 'After')[0].split())
+        private = [name for name in SERVICES if said(name, 'PrivateNetwork') == ['yes']]
+        self.assertEqual(
+            private, [name for name in SERVICES if name != 'nulvrader-gateway.service']
+        )
+
+    def test_they_are_started_again(self) -> None:
+        """However often one ends, it is started again; only the desk's own arguments end it for
+        good."""
+        for name in SERVICES:
+            if said(name, 'Type') != ['oneshot']:
+                self.assertEqual(said(name, 'Restart'), ['always'], name)
+                self.assertEqual(said(name, 'StartLimitIntervalSec'), ['0'], name)
+                ends = ['2'] if name == 'nulvrader-desk.service' else []
+                self.assertEqual(said(name, 'RestartPreventExitStatus'), ends, name)
+
+    def test_nothing_runs_as_root(self) -> None:
+        """But for what says why the desk has ended, which has to see the programs of all users."""
+        for name in SERVICES:
+            lines = [
+                line
+                for kind in ('Condition', 'StartPre', 'Start', 'StopPost')
+                for line in said(name, f'Exec{kind}')
+            ]
+            marked = [line for line in lines if re.match(r'[-@:]*[+!]', line)]
+            self.assertEqual(len(marked), int(name == 'nulvrader-desk.service'), name)
+            self.assertTrue(all(' exec /usr/bin/nulvrader why ' in line for line in marked))
+
+    @unittest.skipIf(shutil.which('systemd-analyze') is None, 'no systemd-analyze here')
+    def test_systemd_takes_them(self) -> None:
+        """`systemd-analyze verify` finds no fault, with programs that are here."""
+        with tempfile.TemporaryDirectory() as folder:
+            for name in NAMES:
+                text = text_of(name).replace('/usr/lib/nulvrader/desk', PROGRAM)
+                with open(os.path.join(folder, name), 'w', encoding='utf-8') as file:
+                    file.write(
+                        text.replace(
+                            '/usr/bin/nulvrader', os.path.abspath(f'{TOOLS}/nulvrader-cli')
+                        )
+                    )
+            units = [os.path.join(folder, name) for name in os.listdir(folder)]
+            env = {**os.environ, 'SYSTEMD_UNIT_PATH': f'{folder}:'}
+            line = ['systemd-analyze', 'verify', '--man=no', *units]
+            done = subprocess.run(line, capture_output=True, text=True, check=False, env=env)
+        lines = [one for one in done.stderr.splitlines() if folder in one or 'nulvrader' in one]
+        self.assertEqual(lines, [])
+
+
+if __name__ == '__main__':
+    unittest.main()

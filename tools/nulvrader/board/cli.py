@@ -1,0 +1,149 @@
+"""The command line of the board: reads it, starts all parts, and ends them."""
+from __future__ import annotations
+
+import argparse
+import signal
+import socket
+import sqlite3
+import threading
+
+from ..common import entry
+from ..desk import arguments
+from ..desk.client import Desk
+from .poller import Asker, Followers
+from .commands import Commands
+from .fleet import Fleet
+from .floor import Floor
+from .command_log import Given
+from .guard import Guard
+from .journal import log
+from .news import News
+from .pages import Board, Pages
+from .record import NoRecord, Record
+from .same_desk import Same
+from .server import Server, listening_at, listening_in
+from .page_state import Shown
+from .stock import Stores
+
+PATIENCE = 0.5  # seconds for an answer of the desk, at the end
+
+
+def words(text: str) -> argparse.ArgumentParser:
+    """What the line may say. `text` is the head of the help."""
+    line = entry.parser(text, 'board')
+    arguments.add_desk(line, front='desk-')
+    add = line.add_argument
+    add(
+        '--db',
+        default='board.db',
+        metavar='FILE',
+        help='where it keeps what it saw (default: board.db)',
+    )
+    add('--port', type=int, default=8081, help='the port of the page, 0 for any (default: 8081)')
+    socket_text = (
+        'listen on this socket in the place of a port, for a proxy: its group alone may open it'
+    )
+    add('--socket', metavar='FILE', help=socket_text)
+    add('--days', type=int, default=30, help='how many days it keeps changes (default: 30)')
+    silent = 'a vehicle of which no state has come for so long is shown as silent (default: 10)'
+    add('--silent', type=arguments.seconds, default=10.0, metavar='SECONDS', help=silent)
+    add('--read-only', action='store_true', help='no commands')
+    name = (
+        'a host name that a proxy uses for it, as desk.example or desk.example:8443; may be'
+        ' repeated'
+    )
+    add('--name', action='append', default=[], metavar='HOST', help=name)
+    user = 'the header in which a proxy names the user, for the record of commands'
+    add('--user-header', metavar='NAME', help=user)
+    return line
+
+
+class Unready(Exception):
+    """What can't be had, or not any more. Its `str()` is a sentence."""
+
+
+def listener_of(said: argparse.Namespace) -> socket.socket:
+    """What the board listens on: a port of this machine, or a socket in a folder."""
+    try:
+        return listening_at(said.port) if said.socket is None else listening_in(said.socket)
+    except (OSError, OverflowError) as fault:
+        raise Unready(
+            f'{f"port {said.port}" if said.socket is None else said.socket}: {fault}'
+        ) from None
+
+
+def signalled() -> threading.Event:
+    """What is set once SIGINT or SIGTERM has come."""
+    over = threading.Event()
+    for number in (signal.SIGINT, signal.SIGTERM):
+        signal.signal(number, lambda *_: over.set())
+    return over
+
+
+def wait_for_the_end(over: threading.Event, asker: Asker, server: Server) -> bool:
+    """Waits for a signal. False where a thread has ended by itself."""
+    while not over.wait(1):
+        if not (asker.is_alive() and server.is_alive()):
+            return False
+    return True
+
+
+def commands_of(
+    said: argparse.Namespace, desk: Desk, floor: Floor, news: News, asker: Asker
+) -> Commands | None:
+    """The commands, None where there are none. What an earlier run has sent without hearing of it
+    is told."""
+    if said.read_only:
+        return None
+    commands = Commands(desk, floor, news.shown, Given(said.db), asker)
+    try:
+        commands.tell_left()
+    except NoRecord as fault:
+        log(f'the commands of an earlier run can not be told: {fault}')
+    return commands
+
+
+def serve(said: argparse.Namespace) -> bool:
+    """Asks the desk and serves pages until a signal comes. False where it ends by a fault."""
+    listener = listener_of(said)
+    try:
+        desks = arguments.desk_of(said), arguments.desk_of(said)
+        record = Record(said.db)
+        news = News(Shown(), record)
+        floor = Floor(news)
+        asker = Asker(desks[0], news, floor, lambda: followers_of(news, said.silent), said.days)
+        commands = commands_of(said, desks[1], floor, news, asker)
+    except (NoRecord, OSError, ValueError, sqlite3.Error) as fault:
+        raise Unready(str(fault)) from None
+    port = int(listener.getsockname()[1]) if said.socket is None else None
+    guard = Guard(port, said.name)
+    board = Board(news.shown, record, asker, guard, commands, said.user_header)
+    server = Server(listener, Pages(board))
+    over = signalled()
+    asker.start()
+    server.start()
+    print(f'listening on {said.socket or f"http://127.0.0.1:{port}/"}', flush=True)
+    told = wait_for_the_end(over, asker, server)
+    server.stop()
+    asker.stop(PATIENCE)
+    if commands is not None:
+        commands.given.close()
+    record.close()
+    return told
+
+
+def followers_of(news: News, silent: float) -> Followers:
+    """Those that take the answers, by what the record has."""
+    stores, fleet = Stores(news), Fleet(news, int(silent * 1000))
+    news.record.commit()
+    return Followers(stores, fleet, Same(news.record))
+
+
+def run(line: list[str], text: str) -> int:
+    """Runs the board; `text` is the head of its help. The status: 1 where something can't be had or
+    fails, 2 where the line is wrong."""
+    try:
+        return 0 if serve(words(text).parse_args(line)) else 1
+    except Unready as fault:
+        log(str(fault))
+        return 1

@@ -1,0 +1,66 @@
+"""Follows the jobs by the export of the live ones, and by where the load of one stands that is no
+longer there."""
+from __future__ import annotations
+
+from collections.abc import Callable, Iterable, Mapping
+from dataclasses import dataclass, replace
+
+from ..desk.client import Job
+
+LIVE = ('waiting', 'riding')
+
+
+@dataclass(frozen=True)
+class LiveJob:
+    """A job: `phase` is `waiting`, `riding`, `done` or `stopped`. The moments are those at which
+    the board saw it come (None where it was there at the first look), begin to ride, and end."""
+
+    name: str
+    load: str
+    origin: str
+    target: str
+    phase: str
+    order: str | None = None
+    vehicle: str | None = None
+    added: int | None = None
+    began: int | None = None
+    ended: int | None = None
+
+
+class Jobs:
+    """The live jobs by their names. `told` is called with each job that came to be so."""
+
+    def __init__(self, told: Callable[[LiveJob], None]):
+        self.told = told
+        self.live: dict[str, LiveJob] = {}
+        self.ended: list[LiveJob] = []  # which have ended, it is not known yet how
+
+    def restore(self, jobs: Iterable[LiveJob]) -> None:
+        """The live jobs of an earlier run."""
+        self.live = {job.name: job for job in jobs}
+
+    def take(self, jobs: Mapping[str, Job], at: int, is_first: bool) -> None:
+        """The export of jobs, at a moment; at the first look it isn't known since when they are."""
+        for name in self.live.keys() - jobs.keys():
+            self.ended.append(replace(self.live.pop(name), ended=at))
+        for name, job in jobs.items():
+            before = self.live.get(name)
+            added = None if is_first else at
+            now = LiveJob(
+                name, job.load, job.origin, job.target, job.phase, job.order,
+                vehicle=None if job.vehicle is None else str(job.vehicle),
+                added=before.added if before else added,
+            )  # fmt: skip
+            if now.order is not None:
+                is_same = before is not None and before.order == now.order
+                now = replace(now, began=before.began if before and is_same else at)
+            if now != before:
+                self.live[name] = now
+                self.told(now)
+
+    def take_places(self, places: Mapping[str, str]) -> None:
+        """A later stock report: the load of a job that was done stands where the job led."""
+        ended, self.ended = self.ended, []
+        for job in ended:
+            is_done = places.get(job.load) == f'station {job.target}'
+            self.told(replace(job, phase='done' if is_done else 'stopped'))

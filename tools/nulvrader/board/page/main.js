@@ -1,0 +1,257 @@
+// The page: asks the board for what is newer than it has, and brings all that is seen up to date.
+
+import { Commands } from './commands.js';
+import { button, el, keyed, set, show, text } from './dom.js';
+import { Events } from './events.js';
+import { Jobs } from './jobs.js';
+import { alarmsOf } from './looks.js';
+import { Plan } from './map.js';
+import { Stock } from './stock.js';
+import { Store } from './store.js';
+import { Vehicles } from './vehicles.js';
+import { clock, day, many, ordered, span } from './words.js';
+
+const EVERY = 400; // milliseconds from one question to the next
+const HIDDEN = 5000; // while the page is not seen
+const TABS = ['vehicles', 'stock', 'jobs', 'events'];
+
+const byId = (id) => document.getElementById(id);
+let token = document.querySelector('meta[name=token]').content;
+const store = new Store();
+
+const view = {
+  layout: null, // until the desk has told it
+  mayCommand: false,
+  picked: null,
+  tab: 'vehicles',
+
+  /** Picks a thing, of which its list is shown then; no name picks nothing. */
+  pick(kind, name) {
+    view.picked = name === null ? null : { kind, name };
+    const tabs = { vehicle: 'vehicles', load: 'stock', station: 'stock' };
+    if (view.picked && tabs[kind]) openTab(tabs[kind]);
+    if (view.picked) lookAt(kind, name);
+    view.redraw();
+    const chosen = document.querySelector('.panel .chosen');
+    if (chosen && view.picked) chosen.scrollIntoView({ block: 'nearest' });
+  },
+
+  /** Picks a thing, or where it is picked nothing. */
+  toggle(kind, name) {
+    view.pick(kind, view.isPicked(kind, name) ? null : name);
+  },
+
+  isPicked(kind, name) {
+    return Boolean(view.picked) && view.picked.kind === kind && view.picked.name === name;
+  },
+
+  async command(name, values) {
+    try {
+      await commands.open(name, values, await answerOf('commands'));
+    } catch {
+      commands.fail('The board does not answer: nothing was done.');
+    }
+  },
+
+  history: (load) => answerOf(`history?load=${encodeURIComponent(load)}`),
+
+  /** Brings all up to date; where only some kinds have changed, of the map only what they are. */
+  redraw(changed = null) {
+    if (!store.told) return;
+    drawHeader();
+    plan?.update(store, view.picked ? mapPick(view.picked) : null, changed);
+    lists[view.tab].update(store, view.picked);
+  },
+};
+
+const lists = {
+  vehicles: new Vehicles(byId('vehicles'), view),
+  stock: new Stock(byId('stock'), view),
+  jobs: new Jobs(byId('jobs'), view),
+  events: new Events(byId('events'), view),
+};
+const commands = new Commands(byId('command'), post, optionsOf);
+let plan = null;
+
+async function answerOf(path) {
+  const answer = await fetch(path, { headers: { Accept: 'application/json' } });
+  if (!answer.ok) throw new Error(`${path}: ${answer.status}`);
+  return answer.json();
+}
+
+/** Asks the board for a look or a command. Where nothing can be had, the answer has a `fault`. */
+async function post(path, body) {
+  try {
+    const answer = await fetch(path, {
+      method: 'POST',
+      headers: { 'Content-Type': 'application/json', 'X-Board-Token': token },
+      body: JSON.stringify(body),
+    });
+    if (answer.status === 401 || answer.status === 403) {
+      const told = await answer.json().catch(() => ({}));
+      return { fault: told.fault ?? 'You may look, but not give commands.' };
+    }
+    return await answer.json();
+  } catch {
+    return { fault: 'The board does not answer. Check whether the command was carried out before you send it again.' };
+  }
+}
+
+/** What a field of a command may be filled with. */
+function optionsOf(kind) {
+  if (kind === 'vehicle') return store.vehicles();
+  if (kind === 'station') return (view.layout?.stations ?? []).map(([name]) => name);
+  if (kind === 'node') return (view.layout?.nodes ?? []).map(([name]) => name);
+  if (kind === 'load') return store.loads();
+  if (kind !== 'job' && kind !== 'stops') return [];
+  return ordered([...store.kind('job')].filter(([, job]) => job.phase === 'waiting').map(([name]) => name));
+}
+
+/** What is marked on the map for what is picked: of a load the place where it is. */
+function mapPick(picked) {
+  if (picked.kind !== 'load') return picked;
+  const [kind, name] = (store.get('load', picked.name)?.place ?? '').split(' ');
+  return name ? { kind, name } : null;
+}
+
+function lookAt(kind, name) {
+  const at = mapPick({ kind, name });
+  if (at && plan) plan.lookAt(at.kind, at.name, store);
+}
+
+function openTab(name) {
+  view.tab = name;
+  for (const tab of TABS) {
+    const chosen = tab === name;
+    set(byId(`tab-${tab}`), 'aria-selected', String(chosen));
+    set(byId(`tab-${tab}`), 'tabindex', chosen ? 0 : -1);
+    show(byId(tab), chosen);
+  }
+  view.redraw();
+}
+
+function drawHeader() {
+  const desk = store.get('desk', '');
+  const silent = Date.now() - store.told > 4000;
+  const waiting = silent ? 0 : store.waiting();
+  const words = silent
+    ? 'The board does not answer'
+    : !desk
+      ? 'Asking the desk'
+      : waiting
+        ? `Waiting for the desk for ${span(waiting)}`
+        : desk.up
+          ? 'The desk answers'
+          : desk.other
+            ? 'Another desk answers'
+            : `The desk has not answered for ${span(store.now() - desk.since)}`;
+  set(byId('desk'), 'class', `desk ${silent || (desk && !desk.up) ? 'bad' : desk && !waiting ? 'good' : 'warn'}`);
+  text(byId('desk').querySelector('.words'), words);
+  set(byId('desk'), 'title', desk ? `${desk.up ? '' : `${desk.fault}; `}since ${day(desk.since)}` : '');
+  document.body.classList.toggle('stale', silent || waiting > 0 || Boolean(desk && !desk.up));
+  text(byId('clock'), clock(store.now()));
+  drawCounts();
+  drawAlarms(silent, desk);
+}
+
+function drawCounts() {
+  const counts = store.get('counts', '') ?? { loads: 0, checking: 0, left: 0, jobs: 0 };
+  const vehicles = store.vehicles();
+  const orders = vehicles.filter((name) => store.get('vehicle', name).order_name !== null).length;
+  const rows = [
+    { key: 'Vehicles', number: vehicles.length },
+    { key: 'Orders', number: orders },
+    { key: 'Live jobs', number: counts.jobs },
+    { key: 'Loads', number: counts.loads },
+    { key: 'To check', number: counts.checking },
+  ];
+  const made = (row) => el('div', {}, el('dt', {}, row.key), el('dd'));
+  keyed(byId('counts'), rows, made, (item, row) => {
+    text(item.lastChild, row.number.toLocaleString('en'));
+    set(item, 'class', row.key === 'To check' && row.number ? 'look' : '');
+  });
+  text(byId('tab-vehicles').lastChild, String(vehicles.length));
+  text(byId('tab-stock').lastChild, counts.loads.toLocaleString('en'));
+  text(byId('tab-jobs').lastChild, String(counts.jobs));
+}
+
+function drawAlarms(silent, desk) {
+  const rows = [];
+  const old = 'what is seen here is old';
+  if (silent) {
+    rows.push({ key: 'board', words: `The board has not answered for ${span(Date.now() - store.told)}: ${old}` });
+  } else if (desk?.other) {
+    const aside = 'If this is right, move board.db away and start the board again.';
+    const words = `Another desk answers since ${day(desk.since)}: nothing is recorded, and ${old}. ${desk.fault} ${aside}`;
+    rows.push({ key: 'desk', words });
+  } else if (desk && !desk.up) {
+    rows.push({ key: 'desk', words: `The desk has not answered since ${day(desk.since)}: ${old}. ${desk.fault}` });
+  }
+  if (!silent) rows.push(...alarmsOf(store));
+  const made = (row) => button('', () => row.vehicle && view.pick('vehicle', row.vehicle));
+  keyed(byId('alarms'), rows, made, (alarm, row) => text(alarm, row.words));
+}
+
+/** Whether commands may be given, and the token for them: another one once the board was started again. */
+async function askWhether(again) {
+  if (again) {
+    const page = new DOMParser().parseFromString(await (await fetch('./')).text(), 'text/html');
+    token = page.querySelector('meta[name=token]').content;
+  }
+  view.mayCommand = token ? !(await post('may', {})).fault : false;
+  document.body.classList.toggle('may', view.mayCommand);
+}
+
+/** Draws the map by the layout of the desk, which is the same for good once there is one. */
+function takeLayout(layout) {
+  if (!layout || JSON.stringify(layout) === JSON.stringify(view.layout)) return;
+  if (view.layout) {
+    location.reload();
+    return;
+  }
+  view.layout = layout;
+  plan = new Plan(byId('plan'), layout, view.toggle);
+}
+
+let askedOf = ''; // the run of the board that was asked whether commands may be given
+
+async function turn() {
+  try {
+    const changed = store.take(await answerOf(`data?run=${store.run}&since=${store.version}`));
+    if (changed.has('layout')) takeLayout(store.get('layout', ''));
+    if (changed.size) view.redraw(changed);
+    if (askedOf !== store.run) {
+      await askWhether(askedOf !== '');
+      askedOf = store.run;
+    }
+  } catch {
+    if (store.told) drawHeader();
+  }
+  setTimeout(turn, document.hidden ? HIDDEN : EVERY);
+}
+
+function listen() {
+  for (const tab of TABS) byId(`tab-${tab}`).addEventListener('click', () => openTab(tab));
+  document.querySelector('.tabs').addEventListener('keydown', (event) => {
+    const step = { ArrowRight: 1, ArrowLeft: -1 }[event.key];
+    if (!step) return;
+    const next = TABS[(TABS.indexOf(view.tab) + step + TABS.length) % TABS.length];
+    openTab(next);
+    byId(`tab-${next}`).focus();
+  });
+  byId('closer').addEventListener('click', () => plan?.camera.zoom(1 / 1.4));
+  byId('farther').addEventListener('click', () => plan?.camera.zoom(1.4));
+  byId('whole').addEventListener('click', () => plan?.camera.all());
+  document.addEventListener('keydown', (event) => {
+    if (event.key !== '/' || event.target.closest('input, dialog')) return;
+    event.preventDefault();
+    openTab('stock');
+    byId('search').focus();
+  });
+  document.addEventListener('visibilitychange', () => view.redraw());
+}
+
+openTab('vehicles');
+listen();
+setInterval(() => view.redraw(new Set(['time'])), 1000);
+turn();

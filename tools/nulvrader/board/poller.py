@@ -1,0 +1,294 @@
+"""Asks the desk in turn, in a thread of its own: the export of vehicles and the hold report twice a
+second, the export of jobs and the stock report once, and the message of each order that is new.
+The layout is asked for once. A desk that has not answered is asked first whether it is still the
+same."""
+from __future__ import annotations
+
+import functools
+import sqlite3
+import threading
+import time
+from collections.abc import Callable
+from dataclasses import dataclass
+from typing import TypeVar
+
+from ..desk.client import Desk, NoAnswer, NotADesk, Refused
+from ..common.names import VehicleKey
+from ..desk.exports import read_loads
+from ..desk.reports import read_holds, read_stock
+from ..common.text import shown as printable
+from .fleet import Fleet
+from .floor import Floor
+from .journal import log
+from .news import News
+from .same_desk import OtherDesk, Same
+from .stock import Stores
+from .progress import way_of
+
+SLOT = 0.05  # seconds from one request to the next, at least: at most 20 a second
+OFTEN, SOMETIMES, RARELY = 0.5, 1.0, 10.0  # seconds from one question of a kind to the next
+SHARE = 10  # times as long as an answer took, the board waits until it asks for it again
+AGAIN = 1.0  # seconds from a question that was not answered to the next
+WRITE_AGAIN = 2.0  # seconds from one attempt to write to the record to the next
+OLD_EVERY = 3600.0
+DAY = 86_400_000
+MOST = 300  # characters of what is wrong with an answer
+ASIDE = (
+    'Nothing is recorded. If this is right, stop the board, move board.db away, and start it again.'
+)
+
+Question = Callable[[], None]
+T = TypeVar('T')
+
+
+def now() -> int:
+    """The moment, in milliseconds since 1970."""
+    return time.time_ns() // 1_000_000
+
+
+@dataclass
+class Turn:
+    """A question that is asked in turn: at most every so many seconds, and less often where the
+    answer takes long. `due` is of `time.monotonic`."""
+
+    question: Question
+    every: float
+    due: float = 0.0
+
+    def ask(self) -> None:
+        """Asks it, and notes how long that took."""
+        begun = time.monotonic()
+        self.question()
+        ended = time.monotonic()
+        self.due = max(begun + self.every, ended + SHARE * (ended - begun))
+
+
+@dataclass
+class Followers:
+    """Those that take the answers, and what tells whether these are of the same desk."""
+
+    stores: Stores
+    fleet: Fleet
+    same: Same
+
+
+class Ended(Exception):
+    """The board is stopped: an answer that comes now is not taken."""
+
+
+class Asker(threading.Thread):
+    """The one that asks, whatever the number of pages. `follow` makes the followers by the record,
+    and `days` is how long the record keeps changes."""
+
+    def __init__(
+        self, desk: Desk, news: News, floor: Floor, follow: Callable[[], Followers], days: int
+    ):
+        super().__init__(name='asker', daemon=True)
+        self.desk, self.news, self.floor, self.follow, self.days = desk, news, floor, follow, days
+        self._take_up()
+        # Jobs come before the stock report, by which it is known how one has ended.
+        self.turns = (
+            Turn(self.ask_vehicles, OFTEN),
+            Turn(self.ask_holds, OFTEN),
+            Turn(self.ask_jobs, SOMETIMES),
+            Turn(self.ask_stock, SOMETIMES),
+        )
+        self.layout, self.export = Turn(self.ask_layout, RARELY), Turn(self.ask_export, RARELY)
+        self.asking: int | None = None  # since when the desk is asked what it has not yet answered
+        self.asked = 0  # how many requests the last turn took
+        self.up: bool | None = None
+        self.other = False  # whether it is known that another desk answers
+        self.since = 0  # since when it is so
+        self.failed: Question | None = None  # what was not answered last, and is asked again first
+        self.old_due = 0.0
+        self.over = threading.Event()
+        self._woken = threading.Event()
+
+    def _take_up(self) -> None:
+        self.floor.show()
+        followers = self.follow()
+        self.stores, self.fleet, self.same = followers.stores, followers.fleet, followers.same
+
+    def hurry(self) -> None:
+        """A command was carried out: all that may have changed is asked for at once."""
+        self._woken.set()
+
+    def stop(self, patience: float) -> None:
+        """Ends the thread. An answer for which it still waits after so many seconds is not taken
+        any more."""
+        self.over.set()
+        self._woken.set()
+        self.join(patience)
+
+    def run(self) -> None:
+        while not self.over.is_set():
+            try:
+                self._ask_on()
+            except Ended:
+                return
+            except sqlite3.Error as fault:
+                self._wait_for_the_record(str(fault))
+
+    def _ask_on(self) -> None:
+        while not self.over.is_set():
+            begun = time.monotonic()
+            rest = self.turn(begun)
+            if self._woken.wait(max(0.0, begun + rest - time.monotonic())):
+                self._woken.clear()
+                self._all_are_due()
+                self.over.wait(SLOT)
+        self.news.record.commit()
+
+    def _wait_for_the_record(self, fault: str) -> None:
+        """The record can't be written: pages are told so, until it can."""
+        old = 'What is seen here is old, and no command is sent.'
+        words = f'board.db can not be written: {fault}. {old}'
+        log(words)
+        while True:
+            self.news.record.roll_back()
+            self.news.shown.put('fault', 'record', words)
+            if self.over.wait(WRITE_AGAIN):
+                return
+            try:
+                self.news.record.check_writing()
+                self._begin_anew()
+            except sqlite3.Error:
+                continue
+            log('board.db can be written again')
+            self.up = None
+            return
+
+    def _begin_anew(self) -> None:
+        """Follows the desk by what the record has, as after a start."""
+        self.news.record.roll_back()
+        self.news.shown.clear()
+        self._take_up()
+        self._all_are_due()
+        self.export.due = 0.0
+
+    def _all_are_due(self) -> None:
+        for turn in self.turns:
+            turn.due = 0.0
+
+    def turn(self, begun: float) -> float:
+        """One question, and what its answer changes. How many seconds after its beginning the next
+        one may be asked."""
+        question = self.next_question(begun)
+        if question is None:
+            return SLOT
+        self.asking, self.asked = now(), 0
+        try:
+            question()
+            self.news.record.commit()
+            return SLOT * self.asked
+        except (NoAnswer, Refused, OtherDesk) as fault:
+            self.news.record.roll_back()
+            self._is_unanswered(question, fault)
+        except (Ended, sqlite3.Error):
+            raise
+        except Exception as fault:  # an answer that no follower could take: nothing of it is kept
+            self._begin_anew()
+            self._is_unanswered(question, NotADesk(repr(fault)))
+        finally:
+            self.asking = None
+        return AGAIN
+
+    def _is_unanswered(self, question: Question, fault: Exception) -> None:
+        if question != self.ask_first:
+            self.failed = question
+        self._fails(fault)
+        self.news.record.commit()
+
+    def next_question(self, at: float) -> Question | None:
+        """What to ask next, or None where nothing is due."""
+        if at >= self.old_due:
+            self.old_due = at + OLD_EVERY
+            self.news.record.remove_old(now() - self.days * DAY)
+        if self.up is not True:
+            return self.ask_first
+        for turn in self.turns:
+            if at >= turn.due:
+                return turn.ask
+        if not self.floor.layout.nodes and at >= self.layout.due:
+            return self.layout.ask
+        if self.stores.needs_export and at >= self.export.due:
+            return self.export.ask
+        order = self.fleet.next_order()
+        return None if order is None else functools.partial(self.ask_order, order)
+
+    def _told(self, question: Callable[[], T]) -> T:
+        """What the desk answers. From now on the news are of this moment."""
+        self.asked += 1
+        answer = question()
+        if self.over.is_set():
+            raise Ended
+        self.news.at = now()
+        return answer
+
+    def _fails(self, fault: Exception) -> None:
+        words, other = printable(str(fault), MOST), isinstance(fault, OtherDesk)
+        if self.up is not False or self.other != other:
+            self.news.at = self.since = now()
+            front = 'Another desk answers' if other else 'The desk does not answer'
+            self.news.event('desk', f'{front}: {words}')
+            self.news.record.desk(self.since, words)
+            if other or isinstance(fault, NotADesk):
+                log(f'{front}: {words} {ASIDE}' if other else words)
+        self._show_desk(False, words, other)
+
+    def _show_desk(self, up: bool, fault: str | None, other: bool = False) -> None:
+        self.up, self.other = up, other
+        told = {'up': up, 'since': self.since, 'fault': fault, 'other': other}
+        self.news.shown.put('desk', '', told)
+
+    def ask_first(self) -> None:
+        """Asks a desk that has not answered whether it is the one of the record, and then what it
+        did not answer."""
+        stock = read_stock(self._told(self.desk.stock_report))
+        self.same.check(stock, self.stores.places)
+        self.same.check_holds(read_holds(self._told(self.desk.hold_report)))
+        self.ask_layout()
+        self.news.record.commit()
+        if self.failed is not None:
+            self.failed()
+            self.failed = None
+        if self.up is False:
+            self.news.event('desk', 'The desk answers again')
+        self.since = self.news.at
+        self.news.record.desk(self.since, None)
+        self._show_desk(True, None)
+        self.stores.needs_export = True
+        self.fleet.again()
+
+    def ask_layout(self) -> None:
+        layout = self._told(self.desk.layout)
+        self.same.check_layout(layout)
+        self.floor.take(layout)
+
+    def ask_vehicles(self) -> None:
+        rows = self._told(self.desk.vehicles)
+        self.same.check_vehicles(rows)
+        self.fleet.take_vehicles(rows)
+
+    def ask_holds(self) -> None:
+        holds = read_holds(self._told(self.desk.hold_report))
+        self.same.check_holds(holds)
+        self.fleet.take_holds(holds)
+
+    def ask_jobs(self) -> None:
+        self.stores.take_jobs(self._told(self.desk.jobs))
+
+    def ask_stock(self) -> None:
+        report = read_stock(self._told(self.desk.stock_report))
+        self.same.check(report, self.stores.places)
+        self.stores.take_stock(report)
+        self.fleet.take_stock(report)
+
+    def ask_export(self) -> None:
+        loads = read_loads(self._told(self.desk.loads_export))
+        self.same.check_export(loads)
+        self.stores.take_export(loads)
+
+    def ask_order(self, vehicle: VehicleKey) -> None:
+        message = self._told(lambda: self.desk.order_message(vehicle))
+        self.fleet.take_order(vehicle, None if message is None else way_of(message))

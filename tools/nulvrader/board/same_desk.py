@@ -1,0 +1,85 @@
+"""Whether the desk that answers is still the one that `board.db` tells of. The layout of a desk is
+set once, its vehicles are never removed, and a load that is gone has left, which the desk counts:
+so a desk that says less than it has said is another one, or has got an older file."""
+from __future__ import annotations
+
+from collections.abc import Iterable, Mapping
+
+from ..common.layouts import Layout
+from ..common.names import VehicleKey
+from ..desk.reports import Holds, Stock
+from .record import Record
+from .sentences import count
+
+
+class OtherDesk(Exception):
+    """Another desk answers. Its `str()` is a sentence that says how that is known."""
+
+
+class Same:
+    """What the desk has said that stays so, by the record and by each report since."""
+
+    def __init__(self, record: Record):
+        self.record = record
+        rows = record.rows('SELECT station, node, capacity FROM stations')
+        self.stations = {str(name): (str(node), int(capacity)) for name, node, capacity in rows}
+        self.vehicles = {str(name) for (name,) in record.rows('SELECT vehicle FROM vehicles')}
+        self.left = int(record.rows("SELECT count(*) FROM loads WHERE place = 'left'")[0][0])
+        self.things = int(record.meta('things') or 0)
+
+    def check_layout(self, layout: Layout | None) -> None:
+        """Checks the layout."""
+        kept = self.record.meta('layout')
+        if kept is not None and (layout is None or layout.csv().decode() != f'{kept}\n'):
+            raise OtherDesk('It has another layout than it had.')
+
+    def check(self, stock: Stock, places: Mapping[str, str]) -> None:
+        """Checks a stock report by the loads that were there, and learns from it."""
+        stations = {
+            name: (station.node, station.capacity) for name, station in stock.stations.items()
+        }
+        if self.stations and stations != self.stations:
+            apart = [
+                name
+                for name in stations.keys() | self.stations.keys()
+                if stations.get(name) != self.stations.get(name)
+            ]
+            raise OtherDesk(f'Station {min(apart)} is another one than it was, or is missing.')
+        vehicles = self.check_vehicles(stock.vehicles)
+        if stock.left < self.left:
+            raise OtherDesk(f'{count(self.left, "load")} had left, and now it says {stock.left}.')
+        gone, left = places.keys() - stock.places().keys(), stock.left - self.left
+        if left < len(gone):
+            missing = (
+                f'{count(len(gone), "load")} of those that were here are missing, as {min(gone)}'
+            )
+            raise OtherDesk(f'{missing}, and only {left} have left since.')
+        self.stations, self.left = stations, stock.left
+        self.vehicles |= vehicles
+
+    def check_holds(self, holds: Holds) -> None:
+        """Checks a hold report, and learns from it: each vehicle holds at least its node."""
+        if self.things and holds.things != self.things:
+            raise OtherDesk(f'It has {holds.things} nodes and edges, and it had {self.things}.')
+        self.check_vehicles(holds.nodes.values())
+        if holds.things != self.things:
+            self.things = holds.things
+            self.record.set_meta('things', str(holds.things))
+
+    def check_export(self, loads: Iterable[str]) -> None:
+        """Checks an export: each load that was ever seen is in it."""
+        known = {str(name) for (name,) in self.record.rows('SELECT load FROM loads')}
+        missing = known - set(loads)
+        if missing:
+            raise OtherDesk(
+                f'{count(len(missing), "load")} of those that were here are not in its export, '
+                f'as {min(missing)}.'
+            )
+
+    def check_vehicles(self, told: Iterable[VehicleKey]) -> set[str]:
+        """Checks which vehicles there are, and returns their names."""
+        vehicles = {str(key) for key in told}
+        missing = self.vehicles - vehicles
+        if missing:
+            raise OtherDesk(f'Vehicle {min(missing)} is missing.')
+        return vehicles

@@ -1,0 +1,99 @@
+"""The one command, `nulvrader`: runs the program of the desk, or a program of `tools/`."""
+from __future__ import annotations
+
+import os
+import pathlib
+import sys
+
+from .admin import conf
+from .common import entry
+
+HELP = """usage: nulvrader COMMAND ..
+
+The control desk of a warehouse. Each command has a --help.
+
+the desk:
+  serve         answers requests over the network
+  replay        answers the requests of standard input
+  report        prints a report of a file
+  migrate       migrates a file of the first schema
+
+a desk that runs:
+  ask           asks it: a command for each of its calls
+  board         shows it at work on a page
+  dispatch      gives its waiting jobs to vehicles
+  gateway       carries messages between it and the vehicles of a broker
+  map           draws its warehouse
+
+files:
+  check-layout  names the errors of a layout file
+  check-count   names the errors of a stocktake file
+  new-file      carries a warehouse to a new file
+
+an installed desk:
+  init          makes its file with a layout, and starts it
+  backup        copies its file
+  restore       puts a copy back
+  why           says why it does not start
+  standby       serves its file on a volume that machines share
+
+options:
+  -h, --help    show this help message and exit
+  --version     print the version, and end
+
+What is not said by options is read from /etc/nulvrader/nulvrader.conf, if that is there."""
+PROGRAM = ('serve', 'replay', 'report', 'migrate')
+TOOLS = pathlib.Path(__file__).resolve().parent.parent
+WRONG = 2
+
+
+def tool(name: str) -> pathlib.Path | None:
+    """Returns a program of `tools/`: beside the package, or where a package manager puts it."""
+    for folder in (TOOLS, pathlib.Path(sys.argv[0]).resolve().parent):
+        if (folder / name).is_file() and f'\n  {name} ' in HELP and name not in PROGRAM:
+            return folder / name
+    return None
+
+
+def run_program(words: list[str]) -> int:
+    """Runs the program of the desk in the place of this one."""
+    program = TOOLS.parent / 'desk'
+    if words[1:] in (['--help'], ['-h']):
+        path = TOOLS.parent / 'docs' / 'help' / f'{words[0]}.txt'
+        print(path.read_text(encoding='utf-8'), end='')
+        return 0
+    if words[0] == 'serve' and not any(word.startswith('--connections') for word in words):
+        words = [*words, '--connections', '4294967295']
+    try:
+        os.execv(program, [str(program), *words])
+    except OSError as fault:
+        print(f'nulvrader: {program}: {fault.strerror}', file=sys.stderr)
+        return 1
+
+
+def run(words: list[str]) -> int:
+    """Runs a command, and returns its status."""
+    name = words[0] if words else '--help'
+    if name in ('-h', '--help', 'help'):
+        print(HELP)
+        return 0 if words else WRONG
+    if name == '--version':
+        print(entry.VERSION)
+        return 0
+    for variable, value in conf.read().items():
+        os.environ.setdefault(variable, value)
+    if name in PROGRAM:
+        return run_program(words)
+    path = tool(name)
+    if path is None:
+        print(f'nulvrader: there is no command {name!a}\nTry: nulvrader --help', file=sys.stderr)
+        return WRONG
+    sys.argv = [entry.ONE + name, *words[1:]]
+    code = compile(path.read_bytes(), str(path), 'exec')
+    exec(code, {'__name__': '__main__', '__file__': str(path)})
+    return 0
+
+
+def main() -> None:
+    """Runs the command that the arguments name, and ends with its status."""
+    sys.exit(entry.run(lambda: run(sys.argv[1:])))

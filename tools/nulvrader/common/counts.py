@@ -1,0 +1,202 @@
+"""Stocktake files: the stations that were counted and the loads that were found, read from the file
+that `POST /stocktakes/{ref}` takes, with each fault and its line, and what a desk makes of it."""
+from __future__ import annotations
+
+from collections.abc import Mapping
+from dataclasses import dataclass, field
+from typing import NamedTuple
+
+from .names import NAME_RULE, is_name, natural
+from .tables import TableFile, quoted, records_of, said
+from .text import shown
+
+HEADER = [b'station', b'load']
+# The refusals of a stocktake, in the order in which a desk looks for them.
+REFUSALS = ('TooLarge', 'BadCsv', 'NoStation', 'CountTwice', 'OnVehicle', 'InJob', 'Full')
+
+
+class Row(NamedTuple):
+    """A row: its line, the station that was counted, and the load that was found there, if any."""
+
+    line: int
+    station: str
+    load: str | None
+
+
+@dataclass(frozen=True)
+class Records:
+    """What the desk has: by its name the capacity of each station, the place of each load as `GET
+    /loads/{load}` has it, by the load of each live job the job, and how many live jobs go to each
+    station."""
+
+    capacities: Mapping[str, int]
+    places: Mapping[str, str]
+    jobs: Mapping[str, str] = field(default_factory=dict)
+    reserved: Mapping[str, int] = field(default_factory=dict)
+
+
+@dataclass(frozen=True)
+class Move:
+    """A load that a stocktake would move, from one place to another one; without a line where it
+    was not found."""
+
+    line: int | None
+    load: str
+    before: str
+    after: str
+
+
+class CountFile(TableFile):
+    """A stocktake file."""
+
+    def __init__(self, data: bytes) -> None:
+        super().__init__(data, REFUSALS, ': count some of the stations by another file')
+        self.rows: list[Row] = []
+        records = records_of(data)
+        for line, fields in records[1:] if self.has_header(data, records) else records:
+            self.read(line, fields)
+        self.check_twice()
+
+    def has_header(self, data: bytes, records: list[tuple[int, list[bytes]]]) -> bool:
+        """Whether the first record is no row, be it the header or something else in its place."""
+        line, fields = records[0] if records else (1, [])
+        if fields == HEADER:
+            return True
+        rule = f'the first line has to be station,load, and is {said(fields)}'
+        if data.startswith((b'\xff\xfe', b'\xfe\xff')):
+            rule = 'the file is UTF-16: save it as CSV in UTF-8'
+        elif len(fields) == 1 and b';' in fields[0]:
+            rule += ': write commas for the semicolons, here and in each row'
+        elif len(fields) == 1 and b'\t' in fields[0]:
+            rule += ': write commas for the tabs, here and in each row'
+        self.fault(line, 'BadCsv', rule)
+        is_header = fields[:1] and fields[0].lower() == HEADER[0]
+        return bool(
+            is_header or len(fields) != len(HEADER) or not is_name(fields[0].decode('latin-1'))
+        )
+
+    def read(self, line: int, fields: list[bytes]) -> None:
+        """A record that should be a row."""
+        if len(fields) != len(HEADER):
+            rule = f'{len(fields)} field{"s" * (len(fields) != 1)}, and not the two of station,load'
+            if len(fields) == 1:
+                mark = next((mark for mark in (b';', b'\t') if fields[0].count(mark) == 1), None)
+                if mark is not None:
+                    rule += f': write {shown(fields[0].replace(mark, b","))}'
+                elif is_name(fields[0].decode('latin-1')):
+                    rule += f': write {fields[0].decode() + ","}, where no load was found there'
+            elif any(fields[2:]):
+                rule += ': write one load a row, and nothing behind it'
+            else:
+                rule += f': write {shown(b",".join(fields[:2]))}'
+            self.fault(line, 'BadCsv', rule)
+            return
+        station, load = (one.decode('latin-1') for one in fields)
+        for what, text, one in (('station', station, fields[0]), ('load', load, fields[1])):
+            if not is_name(text) and not (what == 'load' and text == ''):
+                rule = f'the {what} is {quoted(one)}, and no name: {NAME_RULE}'
+                if is_name(text.strip()):
+                    rule += f': write {text.strip()} without blanks'
+                elif b'\n' in one or b'\r' in one:
+                    rule += ': is there a quote in this line that nothing closes?'
+                self.fault(line, 'BadCsv', rule)
+                return
+        self.rows.append(Row(line, station, load or None))
+
+    def check_twice(self) -> None:
+        """Each load stands on one row at most."""
+        first: dict[str, Row] = {}
+        for row in self.rows:
+            if row.load is not None:
+                before = first.setdefault(row.load, row)
+                if before is not row:
+                    rule = (
+                        'load %s stands in line %d already, at station %s: strike out one of'
+                        ' the two'
+                    )
+                    self.fault(
+                        row.line, 'CountTwice', rule % (row.load, before.line, before.station)
+                    )
+
+    def stations(self) -> dict[str, int]:
+        """The counted stations, each with the line on which it stands first."""
+        found: dict[str, int] = {}
+        for row in self.rows:
+            found.setdefault(row.station, row.line)
+        return found
+
+    def found(self) -> dict[str, Row]:
+        """By its name the row on which a load stands first."""
+        return {row.load: row for row in reversed(self.rows) if row.load is not None}
+
+    def moves(self, records: Records) -> list[Move]:
+        """What a stocktake would move: a found load that is recorded elsewhere to where it was
+        found, and a load that is recorded at a counted station and was not found to the checking
+        place."""
+        found, counted = self.found(), self.stations()
+        moves = []
+        for load, row in sorted(found.items(), key=lambda pair: pair[1].line):
+            place, here = records.places.get(load, 'left'), f'station {row.station}'
+            if place != here and (place == 'checking' or place.startswith('station ')):
+                moves.append(Move(row.line, load, place, here))
+        for load, place in sorted(records.places.items(), key=lambda pair: natural(pair[0])):
+            if (
+                place.partition(' ')[0] == 'station'
+                and place.partition(' ')[2] in counted
+                and load not in found
+            ):
+                moves.append(Move(None, load, place, 'checking'))
+        return moves
+
+    def unknown(self, records: Records) -> list[Row]:
+        """The rows of loads that the desk doesn't have, or that have left by its records."""
+        return [
+            row for row in self.rows if row.load and records.places.get(row.load, 'left') == 'left'
+        ]
+
+    def check(self, records: Records) -> None:
+        """Adds the faults that the file has by the records of a desk."""
+        for station, line in self.stations().items():
+            if station not in records.capacities:
+                known = ', '.join(sorted(records.capacities, key=natural)[:10])
+                more = ', ..' if len(records.capacities) > 10 else ''
+                self.fault(
+                    line, 'NoStation', f'there is no station {station}: the desk has {known}{more}'
+                )
+        for load, row in self.found().items():
+            place = records.places.get(load, '')
+            if place.startswith('vehicle '):
+                rule = (
+                    'load %s is recorded on %s: once it has no live job, `tools/ask correct %s'
+                    ' --station %s`'
+                )
+                self.fault(row.line, 'OnVehicle', rule % (load, place, load, row.station))
+        for move in self.moves(records):
+            if move.load in records.jobs:
+                job = records.jobs[move.load]
+                where = 'was not found at' if move.line is None else 'is recorded at'
+                rule = (
+                    'load %s %s %s, and would move, but has the live job %s: `tools/ask stop-job'
+                    ' %s` while it waits'
+                )
+                line = move.line or self.stations()[move.before.partition(' ')[2]]
+                self.fault(line, 'InJob', rule % (move.load, where, move.before, job, job))
+        self.check_room(records)
+        self.faults.sort(key=lambda fault: fault.line or 0)
+
+    def check_room(self, records: Records) -> None:
+        """At a counted station the found loads that the desk has and the live jobs to it have
+        room."""
+        for station, line in self.stations().items():
+            loads = [
+                row.load
+                for row in self.rows
+                if row.station == station and row.load in records.places
+            ]
+            here = sum(1 for load in loads if records.places[str(load)] != 'left')
+            coming, capacity = records.reserved.get(station, 0), records.capacities.get(station)
+            if capacity is not None and here + coming > capacity:
+                rule = 'station %s has room for %d; found there: %d; live jobs to it: %d: %s'
+                stop = 'stop one of these jobs, or ' if here <= capacity else ''
+                do = stop + 'carry a load elsewhere and write it there'
+                self.fault(line, 'Full', rule % (station, capacity, here, coming, do))

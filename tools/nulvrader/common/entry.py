@@ -1,0 +1,63 @@
+"""What all programs have in common as commands: their head, `--version`, and a quiet end if nobody
+reads what they print."""
+from __future__ import annotations
+
+import argparse
+import os
+import pathlib
+import sys
+from collections.abc import Callable
+
+from .. import __version__
+
+ONE = 'nulvrader '  # how the name of a program begins that the one command runs
+VERSION = f'Nulvrader {__version__}'
+# The program of a desk: beside `tools/` in an installed package, and `./desk` in a checkout.
+PROGRAM = str(pathlib.Path(__file__).resolve().parents[3] / 'desk')
+CLOSED = 141  # the status of a program that wrote to a closed pipe, as shells have it
+
+
+def program(name: str) -> str:
+    """Returns the name of a program: `nulvrader NAME` if the one command runs it."""
+    return sys.argv[0] if sys.argv[0].startswith(ONE) else name
+
+
+def told(text: str) -> str:
+    """Returns a text with the programs named as they were called."""
+    return text.replace('tools/', ONE) if sys.argv[0].startswith(ONE) else text
+
+
+def add_version(parser: argparse.ArgumentParser) -> None:
+    """Adds `--version`."""
+    text = 'print the version, and end'
+    parser.add_argument('--version', action='version', version=VERSION, help=text)
+
+
+def parser(text: str | None, name: str | None = None) -> argparse.ArgumentParser:
+    """Returns the parser of a program; `text` is the head of its help."""
+    made = argparse.ArgumentParser(
+        prog=program(name) if name else None,
+        description=told(text or ''),
+        formatter_class=argparse.RawDescriptionHelpFormatter,
+    )
+    add_version(made)
+    return made
+
+
+def run(main: Callable[[], int | None]) -> int | str | None:
+    """Runs a program and returns its status. If nobody reads what it prints any more it ends
+    without a word."""
+    status: int | str | None
+    try:
+        try:
+            status = main()
+        except SystemExit as ended:
+            status = ended.code
+        sys.stdout.flush()
+    except BrokenPipeError:
+        # Python writes what is left as it ends.
+        nowhere = os.open(os.devnull, os.O_WRONLY)
+        for file in (sys.stdout, sys.stderr):
+            os.dup2(nowhere, file.fileno())
+        return CLOSED
+    return status

@@ -1,0 +1,221 @@
+"""What of the machine keeps a desk from its file or its port, as Linux tells it: the programs that
+have them, by /proc; rights, by the bits of the files; and the room on the disk. Nothing is changed.
+And a port that nobody has."""
+import dataclasses
+import grp
+import os
+import pwd
+import random
+import socket
+import stat
+from collections.abc import Iterator
+
+from ..common.text import shown
+
+WORDS = 400  # the most characters of the words of a program that are told
+
+
+@dataclasses.dataclass(frozen=True)
+class Program:
+    """A running program: its number and the words by which it was started, which are its own
+    choice."""
+
+    pid: int
+    words: str
+
+    def __str__(self) -> str:
+        return f'the program {self.pid} ({shown(self.words, WORDS)})'
+
+
+@dataclasses.dataclass(frozen=True)
+class User:
+    """Whose rights are asked for."""
+
+    uid: int
+    gids: frozenset[int]
+
+    @staticmethod
+    def of_this_program() -> 'User':
+        return User(os.geteuid(), frozenset([os.getegid(), *os.getgroups()]))
+
+    @staticmethod
+    def named(name: str) -> 'User':
+        """The user of this name; KeyError where there is none."""
+        found = pwd.getpwnam(name)
+        return User(found.pw_uid, frozenset(os.getgrouplist(name, found.pw_gid)))
+
+    def __str__(self) -> str:
+        try:
+            return pwd.getpwuid(self.uid).pw_name
+        except KeyError:
+            return f'with the number {self.uid}'
+
+    def may(self, path: str, bit: int) -> bool:
+        """Whether the bits of the file allow it: `os.R_OK`, `os.W_OK`, or `os.X_OK`, which for a
+        folder is to look up what lies in it. The superuser may, but for writing where all is
+        mounted to be read."""
+        if bit == os.W_OK and os.statvfs(path).f_flag & os.ST_RDONLY:
+            return False
+        if self == User.of_this_program():
+            return os.access(path, bit, effective_ids=True)
+        found = os.stat(path)
+        part = 6 if found.st_uid == self.uid else 3 if found.st_gid in self.gids else 0
+        return self.uid == 0 or bool(stat.S_IMODE(found.st_mode) >> part & bit)
+
+
+def owner(path: str) -> str:
+    """The user, the group and the bits of a file, as `ls -l` has them."""
+    found = os.stat(path)
+    group: str | int = found.st_gid
+    try:
+        group = grp.getgrgid(found.st_gid).gr_name
+    except KeyError:
+        pass
+    return f'{stat.filemode(found.st_mode)} {User(found.st_uid, frozenset())}:{group}'
+
+
+def programs() -> Iterator[int]:
+    """The numbers of all programs but this one."""
+    for name in os.listdir('/proc'):
+        if name.isdigit() and int(name) != os.getpid():
+            yield int(name)
+
+
+def words_of(pid: int) -> str:
+    """The first words by which a program was started."""
+    try:
+        with open(f'/proc/{pid}/cmdline', 'rb') as file:
+            said = file.read(4 * WORDS).rstrip(b'\0').replace(b'\0', b' ')
+            return said.decode(errors='surrogateescape') or 'without words'
+    except OSError:
+        return 'that has ended since'
+
+
+def open_files(pid: int) -> Iterator[str]:
+    """The paths of what a program has open, as far as they may be seen."""
+    folder = f'/proc/{pid}/fd'
+    try:
+        numbers = os.listdir(folder)
+    except OSError:
+        return
+    yield from (os.path.join(folder, number) for number in numbers)
+
+
+def who_has(path: str) -> list[Program]:
+    """The programs that have the file open, as far as their files may be seen."""
+    wanted = os.stat(path)
+    found = (pid for pid in sorted(programs()) if any(_is(one, wanted) for one in open_files(pid)))
+    return [Program(pid, words_of(pid)) for pid in found]
+
+
+def _is(path: str, wanted: os.stat_result) -> bool:
+    try:
+        return os.path.samestat(os.stat(path), wanted)
+    except OSError:
+        return False
+
+
+def is_locked(path: str) -> bool:
+    """Whether a program has a lock on the file, seen or not."""
+    found = os.stat(path)
+    wanted = f'{os.major(found.st_dev):02x}:{os.minor(found.st_dev):02x}:{found.st_ino}'
+    try:
+        with open('/proc/locks') as lines:
+            return any(wanted in line.split() for line in lines)
+    except OSError:
+        return False
+
+
+@dataclasses.dataclass(frozen=True)
+class Listener:
+    """Who listens on a port: the address, the user, and the program, where it may be seen."""
+
+    address: str
+    user: User
+    program: Program | None
+
+
+def given_ports() -> range:
+    """The ports of which the system gives one to each connection."""
+    try:
+        with open('/proc/sys/net/ipv4/ip_local_port_range') as file:
+            least, most = map(int, file.read().split())
+    except (OSError, ValueError):
+        least, most = 32768, 60999
+    return range(least, most + 1)
+
+
+def free_port() -> int:
+    """A port of 127.0.0.1 that nobody has. It is none that the system gives to a connection: so
+    nobody gets it while a program that listens on it is started again, not even who connects to it
+    meanwhile."""
+    given = given_ports()
+    ports = (
+        range(max(1024, given.start - 20000), given.start)
+        if given.start > 2048
+        else range(given.stop, 65536)
+    )
+    for port in random.sample(ports, min(100, len(ports))):
+        with socket.socket() as one:
+            try:
+                one.bind(('127.0.0.1', port))
+            except OSError:
+                continue
+            return port
+    raise OSError('no port of 127.0.0.1 is free')
+
+
+def who_listens(port: int) -> list[Listener]:
+    """Those that listen on the port, of 127.0.0.1 or of all addresses."""
+    sockets = list(_listening(port))
+    found = {f'socket:[{inode}]': (address, user) for address, user, inode in sockets}
+    told: dict[str, Program] = {}
+    for pid in sorted(programs()) if found else ():
+        for path in open_files(pid):
+            try:
+                link = os.readlink(path)
+            except OSError:
+                continue
+            if link in found:
+                told.setdefault(link, Program(pid, words_of(pid)))
+    return [Listener(address, user, told.get(link)) for link, (address, user) in found.items()]
+
+
+# How /proc/net/tcp and tcp6 write 127.0.0.1, all addresses, all of both kinds, and 127.0.0.1 as an
+# address of IPv6.
+ADDRESSES = {
+    '0100007F': '127.0.0.1',
+    '00000000': '0.0.0.0',
+    '0' * 32: '[::]',
+    '0000000000000000FFFF00000100007F': '127.0.0.1',
+}
+
+
+def _listening(port: int) -> Iterator[tuple[str, User, str]]:
+    """Of each socket that listens there: its address, its user, and the number of its inode."""
+    for name in ('tcp', 'tcp6'):
+        try:
+            with open('/proc/net/' + name) as file:
+                lines = file.read().splitlines()[1:]
+        except OSError:
+            continue
+        for line in lines:
+            parts = line.split()
+            address, number = parts[1].split(':')
+            if parts[3] == '0A' and int(number, 16) == port and address in ADDRESSES:
+                yield ADDRESSES[address], User(int(parts[7]), frozenset()), parts[9]
+
+
+def first_port() -> int:
+    """The first port that a program without special rights may have."""
+    try:
+        with open('/proc/sys/net/ipv4/ip_unprivileged_port_start') as file:
+            return int(file.read())
+    except (OSError, ValueError):
+        return 1024
+
+
+def free_bytes(path: str, user: User) -> int:
+    """How many bytes the user may still write on the disk of this file or folder."""
+    found = os.statvfs(path)
+    return (found.f_bfree if user.uid == 0 else found.f_bavail) * found.f_frsize

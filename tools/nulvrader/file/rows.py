@@ -1,0 +1,423 @@
+"""The rows of a desk's file as docs/TABLES.md has them: a type for the rows of each table, all rows
+of a file, and what follows from them that more than one rule asks for: the way of each open order,
+and what each vehicle holds. A file may have anything in the place of these rows: they are read one
+by one, and no more than a desk has."""
+from __future__ import annotations
+
+import collections
+import dataclasses
+import functools
+import itertools
+import sqlite3
+import typing
+from collections.abc import Callable, Iterable, Iterator
+from typing import Any, NamedTuple, TypeVar
+
+MANY = 1_000_000  # the most loads, jobs, orders and references, of each
+LIVE = ('waiting', 'riding')
+Of = TypeVar('Of', bound=type[tuple[Any, ...]])
+
+
+def told_as(form: str) -> Callable[[Of], Of]:
+    """Has `str()` of a row tell its table and its key, which are its first columns."""
+    columns_told = form.count('%')
+
+    def with_text(of: Of) -> Of:
+        setattr(of, '__str__', lambda row: form % row[:columns_told])
+        return of
+
+    return with_text
+
+
+@told_as('meta %d, %d')
+class Meta(NamedTuple):
+    id: int
+    schema: int
+
+
+@told_as('node %s')
+class Node(NamedTuple):
+    id: str
+
+
+@told_as('edge %s')
+class Edge(NamedTuple):
+    id: str
+    start: str
+    finish: str
+
+
+@told_as('station %s')
+class Station(NamedTuple):
+    id: str
+    node: str
+    capacity: int
+
+
+@told_as('vehicle %s/%s')
+class Vehicle(NamedTuple):
+    manufacturer: str
+    serial: str
+    node: str
+    rest_edge: str | None
+    rest_node: str | None
+    last_header: int | None
+    reported: str | None
+    ready: int
+    paused: int
+    order_header: int
+    order_at: int
+    instant_header: int
+    instant_at: int
+    pending: str | None
+
+
+@told_as('trip %s')
+class Trip(NamedTuple):
+    """An open order as the first schema has it; in the second one this table is empty."""
+
+    order_id: str
+    manufacturer: str
+    serial: str
+    job: str
+    start: str
+    first: int
+    base: int
+    sent: int
+    confirmed: int | None
+    seen: int
+    pick_at: int
+    drop_at: int
+    pick_status: str
+    drop_status: str
+
+
+@told_as('leg %s, %d')
+class Leg(NamedTuple):
+    order_id: str
+    k: int
+    edge: str
+
+
+@told_as('load %s')
+class Load(NamedTuple):
+    id: str
+    kind: str
+    station: str | None
+    manufacturer: str | None
+    serial: str | None
+
+
+@told_as('job %s')
+class Job(NamedTuple):
+    id: str
+    load: str
+    origin: str
+    target: str
+    phase: str
+
+
+@told_as('hold %s %s')
+class Hold(NamedTuple):
+    kind: str
+    id: str
+    manufacturer: str
+    serial: str
+
+
+@told_as('used %s %s')
+class Used(NamedTuple):
+    kind: str
+    id: str
+
+
+@told_as('capacity %s/%s')
+class Capacity(NamedTuple):
+    manufacturer: str
+    serial: str
+    capacity: int
+
+
+@told_as('journey %s')
+class Journey(NamedTuple):
+    order_id: str
+    manufacturer: str
+    serial: str
+    start: str
+    first: int
+    base: int
+    sent: int
+    confirmed: int | None
+    seen: int
+
+
+@told_as('act %s, %d')
+class Act(NamedTuple):
+    order_id: str
+    n: int
+    job: str
+    kind: str
+    place_at: int
+    status: str
+
+
+Row = (
+    Meta
+    | Node
+    | Edge
+    | Station
+    | Vehicle
+    | Trip
+    | Leg
+    | Load
+    | Job
+    | Hold
+    | Used
+    | Capacity
+    | Journey
+    | Act
+)  # a row of any table; its text names the table and the key
+Key = tuple[str, str]  # a vehicle's manufacturer and serial number
+Thing = tuple[str, str]  # `node` or `edge`, and its name
+
+
+def key_of(row: Vehicle | Capacity | Journey | Hold) -> Key:
+    """The vehicle that the row is about."""
+    return row.manufacturer, row.serial
+
+
+@dataclasses.dataclass(frozen=True)
+class Way:
+    """An open order: its journey, its legs and its acts in their order, and the nodes of its way. A
+    node is None where the layout doesn't have the edge before it."""
+
+    journey: Journey
+    legs: list[Leg]
+    acts: list[Act]
+    nodes: list[str | None]
+
+    def node(self, k: int) -> str | None:
+        return self.nodes[k] if 0 <= k < len(self.nodes) else None
+
+    def released(self) -> Iterator[Thing]:
+        """The node that the vehicle has reached, and each edge and node that is released ahead of
+        it."""
+        journey = self.journey
+        for k in range(max(journey.seen, 0), min(journey.base, len(self.legs)) + 1):
+            node = self.node(k)
+            if node is not None:
+                yield 'node', node
+            if k < min(journey.base, len(self.legs)):
+                yield 'edge', self.legs[k].edge
+
+
+Named = TypeVar('Named', Edge, Station, Load, Job)
+
+
+def by_name(rows_of: Callable[[Rows], list[Named]]) -> functools.cached_property[dict[str, Named]]:
+    """The rows of a table by their names, made when they are first asked for."""
+    return functools.cached_property(lambda rows: {row.id: row for row in rows_of(rows)})
+
+
+@dataclasses.dataclass(frozen=True)
+class Rows:
+    """All rows of a file of the second schema."""
+
+    meta: list[Meta]
+    node: list[Node]
+    edge: list[Edge]
+    station: list[Station]
+    vehicle: list[Vehicle]
+    trip: list[Trip]
+    leg: list[Leg]
+    load: list[Load]
+    job: list[Job]
+    hold: list[Hold]
+    used: list[Used]
+    capacity: list[Capacity]
+    journey: list[Journey]
+    act: list[Act]
+
+    def all(self) -> Iterator[Row]:
+        """All rows, table by table."""
+        for table in TABLES:
+            yield from getattr(self, table)
+
+    @functools.cached_property
+    def nodes(self) -> set[str]:
+        return {row.id for row in self.node}
+
+    edges = by_name(lambda rows: rows.edge)
+    stations = by_name(lambda rows: rows.station)
+    loads = by_name(lambda rows: rows.load)
+    jobs = by_name(lambda rows: rows.job)
+
+    @functools.cached_property
+    def vehicles(self) -> dict[Key, Vehicle]:
+        return {key_of(row): row for row in self.vehicle}
+
+    @functools.cached_property
+    def capacities(self) -> dict[Key, int]:
+        return {key_of(row): row.capacity for row in self.capacity}
+
+    @functools.cached_property
+    def ways(self) -> dict[Key, Way]:
+        """The open order of each vehicle that has one."""
+        legs: dict[str, list[Leg]] = collections.defaultdict(list)
+        acts: dict[str, list[Act]] = collections.defaultdict(list)
+        for leg in sorted(self.leg, key=lambda row: row.k):
+            legs[leg.order_id].append(leg)
+        for act in sorted(self.act, key=lambda row: row.n):
+            acts[act.order_id].append(act)
+        found = {}
+        for journey in self.journey:
+            way = legs.get(journey.order_id, [])
+            ends = [self.edges[leg.edge].finish if leg.edge in self.edges else None for leg in way]
+            found[key_of(journey)] = Way(
+                journey, way, acts.get(journey.order_id, []), [journey.start, *ends]
+            )
+        return found
+
+    @functools.cached_property
+    def to_drop(self) -> dict[str, Act]:
+        """By job, the drop of an open order that is not finished."""
+        acts = (act for way in self.ways.values() for act in way.acts)
+        return {act.job: act for act in acts if act.kind == 'drop' and act.status != 'FINISHED'}
+
+    @functools.cached_property
+    def held(self) -> dict[Thing, list[Key]]:
+        """Each node and edge that is held, with the vehicles that hold it: of one without an order
+        the node where it stands and its rest, of one with an order what is released to it."""
+        found: dict[Thing, list[Key]] = collections.defaultdict(list)
+        for key, vehicle in self.vehicles.items():
+            things: Iterable[Thing] = (
+                self.ways[key].released() if key in self.ways else _without_order(vehicle)
+            )
+            for thing in dict.fromkeys(things):
+                found[thing].append(key)
+        return found
+
+
+def _without_order(vehicle: Vehicle) -> Iterator[Thing]:
+    yield 'node', vehicle.node
+    if vehicle.rest_edge is not None:
+        yield 'edge', vehicle.rest_edge
+    if vehicle.rest_node is not None:
+        yield 'node', vehicle.rest_node
+
+
+TABLES: dict[str, type[Row]] = {
+    'meta': Meta,
+    'node': Node,
+    'edge': Edge,
+    'station': Station,
+    'vehicle': Vehicle,
+    'trip': Trip,
+    'leg': Leg,
+    'load': Load,
+    'job': Job,
+    'hold': Hold,
+    'used': Used,
+    'capacity': Capacity,
+    'journey': Journey,
+    'act': Act,
+}
+SECOND = ('capacity', 'journey', 'act')  # the tables that the first schema lacks
+
+
+def columns(table: str) -> tuple[str, ...]:
+    """The columns of a table, in their order."""
+    return TABLES[table]._fields
+
+
+# The most rows of each table by the limits of README.md.
+MOST = {
+    'meta': 1,
+    'node': 500,
+    'edge': 1500,
+    'station': 500,
+    'vehicle': 100,
+    'trip': 100,
+    'leg': 100 * 200,
+    'load': MANY,
+    'job': MANY,
+    'hold': 500 + 1500,
+    'used': 2 * MANY,
+    'capacity': 100,
+    'journey': 100,
+    'act': 100 * 2 * 4,
+}
+
+
+LONGEST = 64  # the most characters of a text that is read: a name has 32 bytes
+VALUE = 1000  # the most bytes of one that SQLite reads, where it lies in more than a page
+
+
+class BadRows(Exception):
+    """Rows that no table of a desk's has, which no rule can be asked about. Its `str()` says what
+    is wrong."""
+
+
+def rows_in(base: sqlite3.Connection, table: str, most: int | None = None) -> Iterator[Any]:
+    """The rows of a table, past its indexes, at most `MOST` or as many as is said. Bytes that are
+    no UTF-8 become characters that no name has. A row whose values are not of the types of its
+    columns, or one with a text of more than `LONGEST` characters, is a `BadRows`."""
+    base.text_factory = any_text
+    base.setlimit(sqlite3.SQLITE_LIMIT_LENGTH, VALUE)
+    allowed, make = _types_of(table), TABLES[table]._make
+    most = MOST[table] if most is None else most
+    names = ', '.join(f'"{name}"' for name in columns(table))
+    for number, values in enumerate(base.execute(f'SELECT {names} FROM "{table}" NOT INDEXED')):
+        if number >= most:
+            raise BadRows(f'the table {table} has more than {most} rows')
+        if tuple(map(type, values)) not in allowed:
+            raise BadRows(f'the table {table} has a value that is not of the type of its column')
+        if any(isinstance(value, str) and len(value) > LONGEST for value in values):
+            raise BadRows(f'the table {table} has a text of more than {LONGEST} characters')
+        yield make(values)
+
+
+@functools.cache
+def _types_of(table: str) -> frozenset[tuple[type, ...]]:
+    """The types that the values of a row may have."""
+    hints = typing.get_type_hints(TABLES[table]).values()
+    return frozenset(itertools.product(*(typing.get_args(hint) or (hint,) for hint in hints)))
+
+
+def read_rows(base: sqlite3.Connection) -> Rows:
+    """All rows of a file of the second schema."""
+    return Rows(**{table: _read(base, table) for table in TABLES})
+
+
+def read_first_rows(base: sqlite3.Connection) -> Rows:
+    """All rows of a file of the first schema, as `migrate` makes them rows of the second one."""
+    found = {table: _read(base, table) for table in TABLES if table not in SECOND}
+    trips: list[Trip] = found.pop('trip')
+    found['meta'] = [Meta(row.id, row.schema + 1) for row in found['meta']]
+    return Rows(
+        **found,
+        trip=[],
+        capacity=[Capacity(*key_of(row), 1) for row in found['vehicle']],
+        journey=[_journey_of(trip) for trip in trips],
+        act=[act for trip in trips for act in _acts_of(trip)],
+    )
+
+
+def _journey_of(trip: Trip) -> Journey:
+    walk = trip.start, trip.first, trip.base, trip.sent, trip.confirmed, trip.seen
+    return Journey(trip.order_id, trip.manufacturer, trip.serial, *walk)
+
+
+def _acts_of(trip: Trip) -> Iterator[Act]:
+    yield Act(trip.order_id, 0, trip.job, 'pick', trip.pick_at, trip.pick_status)
+    yield Act(trip.order_id, 1, trip.job, 'drop', trip.drop_at, trip.drop_status)
+
+
+def any_text(data: bytes) -> str:
+    """A text of SQLite, also where it is no UTF-8."""
+    return data.decode('utf-8', 'surrogateescape')
+
+
+def _read(base: sqlite3.Connection, table: str) -> list[Any]:
+    """The rows of a table, and some more than there may be, so that a rule tells that."""
+    return list(rows_in(base, table, MOST[table] + 1000))
