@@ -431,6 +431,7 @@ class Keeps(Watching):
         self.desk.add_job('J1', 'L1', 'B')
         self.wait('job', 'J1', target='B')
         self.desk.start_order('O1', ONE, job='J1', edges=0)
+        self.wait('job', 'J1', phase='riding')
         self.plant.state(ONE, 'N1', 'O1', 0, 0, (PICKED,))
         self.wait('wait', 'KIT/0001', name='N2', stands=True)
         self.wait('load', 'L1', place='vehicle KIT/0001')
