@@ -8,6 +8,7 @@ import random
 import sqlite3
 import tempfile
 import unittest
+from typing import Any
 
 from tests.support import calls
 from tests.support.answers import answers_of
@@ -23,7 +24,7 @@ LIVE = 300
 JOBS_HEAD = b'job,load,from,to,phase,manufacturer,serialNumber,order\n'
 
 
-def answered(db, *asked):
+def answered(db: str, *asked: bytes) -> list[Any]:
     """What the program answers, each with the status 200."""
     status, out, said = run('replay', '--db', db, '--at', AT, stdin=b''.join(asked), limit=600)
     if (status, said) != (0, b''):
@@ -35,18 +36,18 @@ def answered(db, *asked):
 
 
 class Layouts(unittest.TestCase):
-    def setUp(self):
+    def setUp(self) -> None:
         folder = tempfile.TemporaryDirectory(dir=FOLDER)
         self.addCleanup(folder.cleanup)
         self.folder = folder.name
 
-    def exported(self, name, rows):
+    def exported(self, name: str, rows: Any) -> tuple[Any, Any]:
         """What a desk exports to which these rows were given as its layout, and its file."""
         db = os.path.join(self.folder, name)
         _, export = answered(db, calls.layout(rows).to_bytes(), calls.LAYOUT_EXPORT.to_bytes())
         return export, db
 
-    def test_what_is_exported_gives_the_same_layout(self):
+    def test_what_is_exported_gives_the_same_layout(self) -> None:
         """The rows of a file may be in any order, and the names in quotes; a desk that is given
         what another one exports has the same rows in its file and exports the same bytes."""
         head, *rows = LAYOUT.splitlines()
@@ -68,7 +69,7 @@ class Layouts(unittest.TestCase):
                 self.assertEqual(export, read_layout(text.encode()).csv())
         self.assertEqual(self.exported('mixed twice', mixed)[0].decode(), LAYOUT)
 
-    def test_a_desk_with_an_exported_layout_answers_the_same(self):
+    def test_a_desk_with_an_exported_layout_answers_the_same(self) -> None:
         """As one with the file that the first was given: the worked examples are answered as they
         say."""
         export, _ = self.exported('plant', LAYOUT)
@@ -84,7 +85,7 @@ class Layouts(unittest.TestCase):
                 told = [(answer.status, answer.body.decode()) for answer in answers_of(out)[0]]
                 self.assertEqual(told, [line[2:] for line in lines])
 
-    def test_the_largest_layout(self):
+    def test_the_largest_layout(self) -> None:
         """A file may end without a line end, and an export does not. So that of a file of 65,536
         bytes is a byte too long for a body, and is taken without its last line end."""
         rows = ['kind,id,from,to', *(f'node,N{at:03d},,' for at in range(500))]
@@ -99,14 +100,14 @@ class Layouts(unittest.TestCase):
         again, other = self.exported('largest again', export[:-1])
         self.assertEqual((again, rows_of(other)), (export, rows_of(db)))
 
-    def test_a_desk_without_a_layout(self):
+    def test_a_desk_without_a_layout(self) -> None:
         (told,) = answered('memory', calls.LAYOUT_EXPORT.to_bytes())
         self.assertEqual(told, b'kind,id,from,to\n')
         refused = run('replay', '--db', 'memory', '--at', AT, stdin=calls.layout(told).to_bytes())
         self.assertIn(b'{"name":"LayoutBad","refusal":32}', refused[1])
 
 
-def filled(db, ended):
+def filled(db: str, ended: Any) -> Any:
     """A file with so many ended jobs beside the live ones, whose names stand between theirs.
     Returns the rows of the live ones by name."""
     answered(
@@ -133,14 +134,14 @@ def filled(db, ended):
     return live
 
 
-def told_of(rows, riding=None):
+def told_of(rows: Any, riding: Any = None) -> bytes:
     """The export of these jobs, of which one may ride by the order O1."""
     ends = {riding: ',KIT,0001,O1'}
     lines = (','.join(row) + ends.get(row[0], ',,,') for row in rows)
     return JOBS_HEAD + ''.join(line + '\n' for line in lines).encode()
 
 
-def bytes_read(desk):
+def bytes_read(desk: Any) -> int:
     """How many bytes a process has read so far, from files and from sockets."""
     with open('/proc/%d/io' % desk.process.pid) as file:
         return int(dict(line.split(': ') for line in file)['rchar'])
@@ -148,7 +149,7 @@ def bytes_read(desk):
 
 @over_sockets
 class LiveJobs(unittest.TestCase):
-    def look(self, ended):
+    def look(self, ended: Any) -> Any:
         """The export of jobs as some begin to ride, are stopped and are added. Returns how many
         bytes the desk reads for the last one."""
         with tempfile.TemporaryDirectory(dir=FOLDER) as folder:
@@ -158,7 +159,7 @@ class LiveJobs(unittest.TestCase):
                 line = desk.connect()
                 self.addCleanup(line.close)
 
-                def ask(call):
+                def ask(call: Any) -> Any:
                     status, body = desk.ask(call.method, call.target, call.body and call.data, line)
                     self.assertEqual(status, 200, body)
                     return body
@@ -182,7 +183,7 @@ class LiveJobs(unittest.TestCase):
     @unittest.skipUnless(
         os.access('/proc/self/io', os.R_OK), 'what a program reads is not told here'
     )
-    def test_ended_jobs_cost_nothing(self):
+    def test_ended_jobs_cost_nothing(self) -> None:
         """Beside 100,000 ended jobs the desk reads as many bytes for the export as beside 100."""
         self.assertEqual(self.look(100_000), self.look(100))
 

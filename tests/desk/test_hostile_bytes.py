@@ -10,6 +10,7 @@ import random
 import socket
 import tempfile
 import unittest
+from typing import Any
 
 from tests.support.calls import request, state
 from tests.support.answers import LONG, REFUSALS, answers_of, refusal
@@ -20,7 +21,7 @@ STREAM = 6_000  # bytes of noise in one stream, about
 
 # Each call with a JSON body, as a new desk is asked it: its body, and which refusal it then earns,
 # or none.
-CALLS = [
+CALLS: list[tuple[str, Any, str]] = [
     (
         'POST /vehicles',
         {'manufacturer': 'KIT', 'serialNumber': '0001', 'node': 'N1', 'capacity': 1},
@@ -44,6 +45,11 @@ CALLS = [
             'serialNumber': '0001',
             'edges': 1,
         },
+        'NoVehicle',
+    ),
+    (
+        'POST /drives',
+        {'order': 'O1', 'manufacturer': 'KIT', 'serialNumber': '0001', 'to': 'N1', 'edges': 1},
         'NoVehicle',
     ),
     (
@@ -74,7 +80,7 @@ EXPORTS = {
 NUMBERS = {'headerId', 'orderUpdateId', 'lastNodeSequenceId', 'edges', 'capacity'}
 
 
-def places_in(value, path=()):
+def places_in(value: Any, path: Any = ()) -> Any:
     """The path of each member of a body, in arrays and objects too."""
     items = (
         value.items()
@@ -89,7 +95,7 @@ def places_in(value, path=()):
     return found
 
 
-def with_text(value, path, text):
+def with_text(value: Any, path: Any, text: str) -> Any:
     """The body as JSON, with a text in the place of one member."""
     mark = 'here goes the text'
     copy = json.loads(json.dumps(value))
@@ -100,8 +106,12 @@ def with_text(value, path, text):
     return json.dumps(copy).replace(f'"{mark}"', text)
 
 
+# The status and the body of an answer.
+Answer = tuple[int, bytes]
+
+
 class Bytes(unittest.TestCase):
-    def replay(self, stdin):
+    def replay(self, stdin: bytes) -> Any:
         status, out, said = run('replay', '--db', 'memory', '--at', AT, stdin=stdin)
         self.assertEqual((status, said), (0, b''))
         found, left = answers_of(out)
@@ -109,7 +119,7 @@ class Bytes(unittest.TestCase):
         self.assertFalse(any(answer.closes for answer in found[:-1]))
         return found
 
-    def check(self, pairs):
+    def check(self, pairs: Any) -> Any:
         """Requests with what each is answered, in one stream; the last one may end it."""
         found = self.replay(b''.join(data for data, _ in pairs))
         self.assertEqual(len(found), len(pairs))
@@ -119,7 +129,7 @@ class Bytes(unittest.TestCase):
 
 
 class Bodies(Bytes):
-    def test_nesting(self):
+    def test_nesting(self) -> None:
         """A member that nobody reads, in an object: 127 deep in all, and 128 deep."""
         pairs = []
         for line, body, name in CALLS:
@@ -137,7 +147,7 @@ class Bodies(Bytes):
             pairs.append((request(line, '[' * 60_000), refusal('BadJson')))
         self.check(pairs)
 
-    def test_numbers_that_are_not_whole(self):
+    def test_numbers_that_are_not_whole(self) -> None:
         """As any member of every body, and as one that nobody reads."""
         for text in ('1e0', '-0.0', '18446744073709551616', '-9223372036854775809', '0.5', '-0'):
             pairs = []
@@ -149,7 +159,7 @@ class Bodies(Bytes):
             self.assertGreater(len(pairs), 60)
             self.check(pairs)
 
-    def test_the_ends_of_the_ranges(self):
+    def test_the_ends_of_the_ranges(self) -> None:
         """Of 64 bits in a member that nobody reads; of 32 bits in each number that is read."""
         pairs = []
         for line, body, name in CALLS:
@@ -174,7 +184,7 @@ class Bodies(Bytes):
         )
         self.check(pairs)
 
-    def test_numbers_in_tables(self):
+    def test_numbers_in_tables(self) -> None:
         """A capacity is one to three digits."""
         rows = 'kind,id,from,to\nnode,N1,,\nstation,A,N1,%s\n'
         self.check(
@@ -196,7 +206,7 @@ class Bodies(Bytes):
             + [(request('PUT /layout', rows % '999'), (200, b'{}'))]
         )
 
-    def test_bodies_that_nobody_looks_at(self):
+    def test_bodies_that_nobody_looks_at(self) -> None:
         """Of a call without a body in the table."""
         pairs = []
         for text in ('1e0', '-0.0', '18446744073709551616', '[' * 200, '\0', '{"ref":'):
@@ -210,7 +220,7 @@ class Bodies(Bytes):
             ]
         self.check(pairs)
 
-    def test_the_longest_body(self):
+    def test_the_longest_body(self) -> None:
         long = '{"load":"L1","x":"%s"}'
         room = 65_536 - len(long % '')
         self.check(
@@ -222,18 +232,18 @@ class Bodies(Bytes):
 
 
 class Heads(Bytes):
-    def ends(self, data, name):
+    def ends(self, data: bytes, name: str) -> None:
         """A head that is refused, which ends the stream: what comes behind it is not answered."""
         found = self.check([(request('GET /loads/L1'), refusal('NoLoad')), (data, refusal(name))])
         self.assertTrue(found[-1].closes)
         self.assertEqual(len(self.replay(data + request('GET /loads/L1'))), 1)
 
-    def test_lines(self):
+    def test_lines(self) -> None:
         self.check([(request('GET /loads/L1', more='a: b\r\n' * 32), refusal('NoLoad'))])
         self.ends(request('GET /loads/L1', more='a: b\r\n' * 33), 'BadHead')
         self.ends(b'GET /loads/L1 HTTP/1.1\r\n' + b'a: b\r\n' * 33, 'BadHead')
 
-    def test_length(self):
+    def test_length(self) -> None:
         empty = len(request('GET /loads/L1', more='a: \r\n'))
         self.check(
             [(request('GET /loads/L1', more=f'a: {"b" * (8_192 - empty)}\r\n'), refusal('NoLoad'))]
@@ -242,7 +252,7 @@ class Heads(Bytes):
         self.ends(b'GET /' + b'a' * 8_192, 'BadHead')
         self.ends(b'a' * 100_000, 'BadHead')
 
-    def test_content_length(self):
+    def test_content_length(self) -> None:
         line = 'POST /loads HTTP/1.1\r\n'
         body = '{"load":"L1"}'
         for two in (
@@ -266,7 +276,7 @@ class Heads(Bytes):
         for value in ('13', '0013', '0' * 100 + '13'):
             self.check([((f'{line}content-LENGTH: {value}\r\n\r\n{body}').encode(), (200, b'{}'))])
 
-    def test_ends_in_the_middle(self):
+    def test_ends_in_the_middle(self) -> None:
         for data in (
             b'\0',
             b'G',
@@ -286,134 +296,171 @@ class Broken:
     """Requests at random, each with what it is answered by a desk that was new and has been asked
     what came before."""
 
-    def __init__(self, seed):
+    def __init__(self, seed: int) -> None:
         self.chance, self.count, self.seed = random.Random(seed), 0, seed
 
-    def word(self, most=20):
+    def word(self, most: int = 20) -> str:
         return ''.join(
             self.chance.choice('abcXYZ019_.:-') for _ in range(self.chance.randint(1, most))
         )
 
-    def junk(self, most=300):
+    def junk(self, most: int = 300) -> Any:
         return self.chance.randbytes(self.chance.randint(0, most))
 
-    def goes_on(self):
-        """A request that does not end the stream."""
+    def goes_on(self) -> tuple[bytes, Answer]:
+        """A request that does not end the stream, and its answer."""
+        if self.count == 0:
+            return self.new_load()
+        return self.chance.choice(
+            (
+                self.new_load,
+                self.known_load,
+                self.place_of_known_load,
+                self.no_path,
+                self.other_target,
+                self.bad_method,
+                self.bad_json,
+                self.fraction,
+                self.bad_body,
+                self.bad_csv,
+                self.export,
+                self.unknown_thing,
+            )
+        )()
+
+    def new_load(self) -> tuple[bytes, Answer]:
+        self.count += 1
+        return request('POST /loads', f'{{"load":"N{self.seed}.{self.count}"}}'), (200, b'{}')
+
+    def known(self) -> str:
+        """The name of a load that is registered."""
+        return f'N{self.seed}.{self.chance.randint(1, self.count)}'
+
+    def known_load(self) -> tuple[bytes, Answer]:
+        return request('POST /loads', f'{{"load":"{self.known()}"}}'), refusal('Exists')
+
+    def place_of_known_load(self) -> tuple[bytes, Answer]:
+        known = self.known()
+        place = f'{{"job":null,"load":"{known}","place":"checking"}}'
+        return request('GET /loads/' + known), (200, place.encode())
+
+    def no_path(self) -> tuple[bytes, Answer]:
         chance = self.chance
-        kind = chance.randrange(12)
-        if kind == 0 or self.count == 0:
-            self.count += 1
-            return request('POST /loads', f'{{"load":"N{self.seed}.{self.count}"}}'), (200, b'{}')
-        known = f'N{self.seed}.{chance.randint(1, self.count)}'
-        if kind == 1:
-            return request('POST /loads', f'{{"load":"{known}"}}'), refusal('Exists')
-        if kind == 2:
-            return request('GET /loads/' + known), (
-                200,
-                b'{"job":null,"load":"%s","place":"checking"}' % known.encode(),
+        path = '/~' + ''.join(
+            chr(chance.randint(0x21, 0x7E)) for _ in range(chance.randint(0, 200))
+        )
+        return request(f'{chance.choice(("GET", "POST", "BREW"))} {path}', ''), refusal('NoPath')
+
+    def other_target(self) -> tuple[bytes, Answer]:
+        chance = self.chance
+        target = chance.choice(
+            (
+                f'/loads/{self.word()}~',
+                '/loads/' + 'a' * 33,
+                '/loads/',
+                '/loads//leave',
+                '/LOADS',
+                '/loads/%41',
+                '/vehicles/a/b/c',
+                '/export/jobs/' + self.word(),
+                '/export/%s' % chance.choice(('', 'Jobs', 'holds', 'vehicle', 'layout/')),
             )
-        if kind == 3:
-            path = '/~' + ''.join(
-                chr(chance.randint(0x21, 0x7E)) for _ in range(chance.randint(0, 200))
-            )
-            return request(f'{chance.choice(("GET", "POST", "BREW"))} {path}', ''), refusal(
-                'NoPath'
-            )
-        if kind == 4:
-            target = chance.choice(
+        )
+        return request('GET ' + target), refusal('NoPath')
+
+    def bad_method(self) -> tuple[bytes, Answer]:
+        chance = self.chance
+        number, status = REFUSALS['BadMethod']
+        methods = ('GET', 'PUT', 'DELETE', 'HEAD', 'PATCH', 'TRACE', 'BREW', 'post')
+        line = f'{chance.choice(methods)} /loads?{self.word()}'
+        return request(line, self.junk()), (
+            status,
+            b'{"name":"BadMethod","refusal":%d}' % number,
+        )
+
+    def bad_json(self) -> tuple[bytes, Answer]:
+        chance = self.chance
+        return request(
+            'POST /loads',
+            chance.choice(
                 (
-                    f'/loads/{self.word()}~',
-                    '/loads/' + 'a' * 33,
-                    '/loads/',
-                    '/loads//leave',
-                    '/LOADS',
-                    '/loads/%41',
-                    '/vehicles/a/b/c',
-                    '/export/jobs/' + self.word(),
-                    '/export/%s' % chance.choice(('', 'Jobs', 'holds', 'vehicle', 'layout/')),
+                    b'',
+                    b'\xff' + self.junk(),
+                    b'{' + self.junk(),
+                    b'{"load":"L1",}',
+                    b'{"load":"a\nb"}',
+                    b'nul',
+                    b'1e400',
+                    b'{"load":"\\ud800"}',
+                    b'[' * chance.randint(128, 5_000),
+                    b'{} {}',
                 )
+            ),
+        ), refusal('BadJson')
+
+    def fraction(self) -> tuple[bytes, Answer]:
+        chance = self.chance
+        number = chance.choice(
+            (
+                f'{chance.randrange(10**6)}.{chance.randrange(10**6)}',
+                f'{chance.randrange(10**6)}e{chance.randrange(200)}',
+                '-0',
+                str(2**64 + chance.randrange(10**9)),
+                str(-(2**63) - 1 - chance.randrange(10**9)),
             )
-            return request('GET ' + target), refusal('NoPath')
-        if kind == 5:
-            number, status = REFUSALS['BadMethod']
-            methods = ('GET', 'PUT', 'DELETE', 'HEAD', 'PATCH', 'TRACE', 'BREW', 'post')
-            line = f'{chance.choice(methods)} /loads?{self.word()}'
-            return request(line, self.junk()), (
-                status,
-                b'{"name":"BadMethod","refusal":%d}' % number,
+        )
+        return request(
+            'POST /loads', f'{{"load":"{self.word()}","a":{{"b":[{number}]}}}}'
+        ), refusal('Fraction')
+
+    def bad_body(self) -> tuple[bytes, Answer]:
+        chance = self.chance
+        wrong = chance.choice(
+            (
+                '1',
+                'true',
+                '[]',
+                '{}',
+                '"a b"',
+                '""',
+                f'"{"x" * 33}"',
+                '"\\u00e9"',
+                'null',
+                '"a/b"',
+                '"\\u0000"',
             )
-        if kind == 6:
-            return request(
-                'POST /loads',
-                chance.choice(
-                    (
-                        b'',
-                        b'\xff' + self.junk(),
-                        b'{' + self.junk(),
-                        b'{"load":"L1",}',
-                        b'{"load":"a\nb"}',
-                        b'nul',
-                        b'1e400',
-                        b'{"load":"\\ud800"}',
-                        b'[' * chance.randint(128, 5_000),
-                        b'{} {}',
-                    )
-                ),
-            ), refusal('BadJson')
-        if kind == 7:
-            number = chance.choice(
+        )
+        return request(
+            'POST /loads',
+            chance.choice(
                 (
-                    f'{chance.randrange(10**6)}.{chance.randrange(10**6)}',
-                    f'{chance.randrange(10**6)}e{chance.randrange(200)}',
-                    '-0',
-                    str(2**64 + chance.randrange(10**9)),
-                    str(-(2**63) - 1 - chance.randrange(10**9)),
-                )
-            )
-            return request(
-                'POST /loads', f'{{"load":"{self.word()}","a":{{"b":[{number}]}}}}'
-            ), refusal('Fraction')
-        if kind == 8:
-            wrong = chance.choice(
-                (
-                    '1',
-                    'true',
+                    f'{{"load":{wrong}}}',
                     '[]',
-                    '{}',
-                    '"a b"',
-                    '""',
-                    f'"{"x" * 33}"',
-                    '"\\u00e9"',
+                    '"load"',
+                    '1',
                     'null',
-                    '"a/b"',
-                    '"\\u0000"',
+                    'true',
+                    '{}',
+                    '{"Load":"L1"}',
                 )
-            )
-            return request(
-                'POST /loads',
-                chance.choice(
-                    (
-                        f'{{"load":{wrong}}}',
-                        '[]',
-                        '"load"',
-                        '1',
-                        'null',
-                        'true',
-                        '{}',
-                        '{"Load":"L1"}',
-                    )
-                ),
-            ), refusal('BadBody')
-        if kind == 9:
-            return request(
-                chance.choice(('PUT /layout', 'POST /stocktakes/' + self.word())),
-                b'x' + self.junk(),
-            ), refusal('BadCsv')
-        if kind == 10:
-            name, head = chance.choice(list(EXPORTS.items()))
-            asked = 'GET /export/%s%s' % (name, chance.choice(('', '?' + self.word())))
-            return request(asked, self.junk()), (200, head + b'\n')
-        return chance.choice(
+            ),
+        ), refusal('BadBody')
+
+    def bad_csv(self) -> tuple[bytes, Answer]:
+        chance = self.chance
+        return request(
+            chance.choice(('PUT /layout', 'POST /stocktakes/' + self.word())),
+            b'x' + self.junk(),
+        ), refusal('BadCsv')
+
+    def export(self) -> tuple[bytes, Answer]:
+        chance = self.chance
+        name, head = chance.choice(list(EXPORTS.items()))
+        asked = 'GET /export/%s%s' % (name, chance.choice(('', '?' + self.word())))
+        return request(asked, self.junk()), (200, head + b'\n')
+
+    def unknown_thing(self) -> tuple[bytes, Answer]:
+        return self.chance.choice(
             (
                 (request(*CALLS[0][:1], json.dumps(CALLS[0][1])), refusal('NoNode')),
                 (request('DELETE /jobs/' + self.word()), refusal('NoJob')),
@@ -426,7 +473,7 @@ class Broken:
             )
         )
 
-    def ends(self):
+    def ends(self) -> Any:
         """The last bytes of a stream: nothing, a request that ends it, or what is no request."""
         chance = self.chance
         behind = self.junk()
@@ -469,7 +516,7 @@ class Broken:
             )
         )
 
-    def stream(self):
+    def stream(self) -> tuple[Any, Any, bool]:
         """Requests up to the length of a stream, and its end; what is answered, and whether the
         last answer closes."""
         data, wanted = b'', []
@@ -480,7 +527,7 @@ class Broken:
         last, answer = self.ends()
         return data + last, wanted + ([answer] if answer else []), answer is not None
 
-    def changed(self):
+    def changed(self) -> bytes:
         """A stream with a few bytes changed, dropped, doubled or put in."""
         data = bytearray(self.stream()[0])
         for _ in range(self.chance.randint(1, 4)):
@@ -497,7 +544,7 @@ class Broken:
         return bytes(data)
 
 
-def talk(desk, data):
+def talk(desk: Any, data: bytes) -> tuple[Any, bool]:
     """One connection: what it is answered, and whether the desk has closed it without a reset, by
     which answers may be lost."""
     plain, out = desk.plain(), b''
@@ -516,7 +563,7 @@ def talk(desk, data):
 
 
 class Noise(Bytes):
-    def check_stream(self, out, wanted, closes, seed):
+    def check_stream(self, out: Any, wanted: Any, closes: Any, seed: int) -> None:
         found, left = answers_of(out)
         self.assertEqual(left, b'', seed)
         self.assertEqual([(answer.status, answer.body) for answer in found], wanted, seed)
@@ -526,7 +573,7 @@ class Noise(Bytes):
             seed,
         )
 
-    def check_changed(self, found, seed):
+    def check_changed(self, found: Any, seed: int) -> None:
         """Answers to requests that may mean anything: a refusal that ends a stream is the last one,
         and none is for want of the machine."""
         for number, answer in enumerate(found):
@@ -536,11 +583,11 @@ class Noise(Bytes):
             elif answer.status in (411, 413, 501):
                 self.fail(f'{answer.status} goes on, seed {seed}')
 
-    def tell(self, what, *counts):
+    def tell(self, what: str, *counts: Any) -> None:
         if LONG:
             print(what % tuple('{:,}'.format(count) for count in counts))
 
-    def test_replay(self):
+    def test_replay(self) -> None:
         sent, streams, answers, ended = 0, 0, 0, set()
         while sent < NOISE:
             streams += 1
@@ -559,7 +606,7 @@ class Noise(Bytes):
         )
         self.assertGreaterEqual(len(ended), 4)
 
-    def test_replay_of_changed_streams(self):
+    def test_replay_of_changed_streams(self) -> None:
         sent, streams, answers = 0, 0, 0
         while sent < NOISE:
             streams += 1
@@ -574,7 +621,7 @@ class Noise(Bytes):
         self.assertGreater(answers, sent / 2_000)
 
     @over_sockets
-    def test_serve(self):
+    def test_serve(self) -> None:
         """A connection for each stream whose answers are reckoned, and one behind it for a changed
         stream, over one desk on a file. Where the desk closes with bytes unread the answers may be
         cut. The bytes of the reckoned streams alone count."""
@@ -621,7 +668,7 @@ class Noise(Bytes):
 
 
 class Checker(unittest.TestCase):
-    def test_what_is_no_answer(self):
+    def test_what_is_no_answer(self) -> None:
         """Outputs that must not pass for answers."""
         good = (
             b'HTTP/1.1 404 Not Found\r\nContent-Length: 30\r\nContent-Type:'

@@ -7,6 +7,8 @@ import os
 import sqlite3
 import tempfile
 import unittest
+from collections.abc import Iterator
+from typing import Any
 
 from tests.support.calls import REPORTS, Call, request
 from tests.support.records import FOLDER
@@ -24,13 +26,13 @@ LAYOUT = 'kind,id,from,to\nnode,N1,,\n' + ''.join(
 )
 
 
-def place_of(number):
+def place_of(number: int) -> Any:
     """The station of a load by its number; none where it is at the checking place."""
     turn = number % (STATIONS + 1)
     return f'S{turn:03d}' if turn < STATIONS else None
 
 
-def jobs():
+def jobs() -> Iterator[Any]:
     """The row of each job, by name."""
     for number in range(LOADS):
         if place_of(number):
@@ -39,11 +41,12 @@ def jobs():
             ), 'waiting'
 
 
-def stock():
-    here, coming = {}, collections.Counter(target for _, _, _, target, _ in jobs())
+def stock() -> bytes:
+    here: dict[Any, Any] = {}
+    coming = collections.Counter(target for _, _, _, target, _ in jobs())
     for number in range(LOADS):
         here.setdefault(place_of(number), []).append('  L%06d\n' % number)
-    heads = [
+    heads: list[tuple[str | None, str]] = [
         (
             'S%03d' % at,
             'station S%03d at N1: %%d of 999, reserved %d\n' % (at, coming['S%03d' % at]),
@@ -57,7 +60,7 @@ def stock():
     ).encode()
 
 
-def export():
+def export() -> bytes:
     places = ((number, place_of(number)) for number in range(LOADS))
     return (
         'load,place,at\n'
@@ -68,7 +71,7 @@ def export():
     ).encode()
 
 
-def jobs_export():
+def jobs_export() -> bytes:
     return (
         'job,load,from,to,phase,manufacturer,serialNumber,order\n'
         + ''.join(','.join(row) + ',,,\n' for row in jobs())
@@ -76,7 +79,7 @@ def jobs_export():
 
 
 class LargeReports(unittest.TestCase):
-    def test_all_stations_full(self):
+    def test_all_stations_full(self) -> None:
         with tempfile.TemporaryDirectory(dir=FOLDER) as folder:
             db = os.path.join(folder, 'large.db')
             self.assertEqual(
@@ -113,9 +116,9 @@ class LargeReports(unittest.TestCase):
             self.assertEqual(
                 (left, [answer.status for answer in found]), (b'', [200] * len(REPORTS))
             )
-            wanted = stock(), b'held 0 of 1\n', export(), jobs_export(), VEHICLES, LAYOUT.encode()
-            for answer, wanted in zip(found, wanted, strict=True):
-                self.assertTrue(answer.body == wanted)
+            bodies = stock(), b'held 0 of 1\n', export(), jobs_export(), VEHICLES, LAYOUT.encode()
+            for answer, body in zip(found, bodies, strict=True):
+                self.assertTrue(answer.body == body)
             self.assertTrue(run('report', '--db', db, 'stock') == (0, stock(), b''))
 
 

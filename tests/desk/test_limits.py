@@ -308,7 +308,7 @@ class FullFile(unittest.TestCase):
                     )
                 steps.end('reports told')
                 most = memory(desk.process.pid)
-            self.assertEqual((desk.process.wait(SECONDS), desk.process.stderr.read()), (0, b''))
+            self.assertEqual((desk.process.wait(SECONDS), desk.said.read()), (0, b''))
             steps.end('closed')
         self.check_rows()
         steps.end('rows read')
@@ -419,7 +419,7 @@ class LongStreams(unittest.TestCase):
                         needed.append(memory(desk.process.pid))
                 stands = answer(200, b'{"job":null,"load":"L1","place":"checking"}')
                 self.assertEqual(self.told(line, calls.get_load('L1').to_bytes(), stands), stands)
-            self.assertEqual((desk.process.wait(SECONDS), desk.process.stderr.read()), (0, b''))
+            self.assertEqual((desk.process.wait(SECONDS), desk.said.read()), (0, b''))
         self.assertLess(needed[-1] - needed[0], 256)
 
     def told(self, line: socket.socket, asked: bytes, wanted: bytes) -> bytes:

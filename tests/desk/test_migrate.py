@@ -7,8 +7,10 @@ import shutil
 import sqlite3
 import tempfile
 import unittest
+from collections.abc import Iterator
+from typing import Any
 
-from nulvrader.file.rows import SECOND, TABLES, columns
+from nulvrader.file.tables import SECOND, TABLES, columns
 from tests.support.records import FOLDER, broken, copied, rows_of
 from tests.support.first_schema import (
     BEGUN,
@@ -66,23 +68,25 @@ MOVED = {
 LOGS = ((0, 0), (20, 0), (0, 1000))
 
 
-def for_more(lines):
-    """Whether a vehicle gets a capacity of more than one load."""
+def is_new(lines: Any) -> bool:
+    """Whether there is what no desk of the first schema has: a vehicle for more than one load, or a
+    drive."""
     return any(
-        isinstance(body, dict) and body.get('capacity', 1) > 1 and status == 200
-        for _, body, status, _ in lines
+        status == 200
+        and (line == 'POST /drives' or isinstance(body, dict) and body.get('capacity', 1) > 1)
+        for line, body, status, _ in lines
     )
 
 
 class Migrate(unittest.TestCase):
-    def setUp(self):
+    def setUp(self) -> None:
         self.folder = tempfile.TemporaryDirectory(dir=FOLDER)
         self.db = os.path.join(self.folder.name, 'first.db')
 
-    def tearDown(self):
+    def tearDown(self) -> None:
         self.folder.cleanup()
 
-    def write(self, *texts):
+    def write(self, *texts: Any) -> None:
         """Has these statements carried out by another SQLite, in a file of the first schema if
         there is none yet."""
         first = [] if os.path.exists(self.db) else [FIRST]
@@ -92,7 +96,7 @@ class Migrate(unittest.TestCase):
         base.close()
 
     @contextlib.contextmanager
-    def other(self, log=True):
+    def other(self, log: bool = True) -> Iterator[Any]:
         """Another SQLite over a copy of the file, and of the log beside it: the files stay as they
         are."""
         with tempfile.TemporaryDirectory(dir=FOLDER) as folder:
@@ -102,12 +106,12 @@ class Migrate(unittest.TestCase):
             with contextlib.closing(sqlite3.connect(copy)) as base:
                 yield base
 
-    def dump(self, log=True):
+    def dump(self, log: bool = True) -> Any:
         """All that is in the database, as statements."""
         with self.other(log) as base:
             return list(base.iterdump())[1:-1]
 
-    def put_in_log(self, inside=0, commits=0):
+    def put_in_log(self, inside: int = 0, commits: int = 0) -> None:
         """Writes the file anew, with all but the first statements `inside` in the log alone, and so
         many commits more behind them: both files are copied while a connection is open that never
         copies its log, and so are as a desk leaves them.
@@ -129,7 +133,7 @@ class Migrate(unittest.TestCase):
         self.assertEqual((self.dump(log=False) == [], self.dump()), (inside == 0, statements))
         self.assertNotEqual(self.dump(log=False), statements)
 
-    def bytes(self):
+    def bytes(self) -> Any:
         found = {}
         for end in FILES:
             if os.path.exists(self.db + end):
@@ -137,7 +141,7 @@ class Migrate(unittest.TestCase):
                     found[end] = file.read()
         return found
 
-    def rows(self):
+    def rows(self) -> Any:
         """The rows of the first schema."""
         with self.other() as base:
             return {
@@ -146,7 +150,7 @@ class Migrate(unittest.TestCase):
                 if table not in SECOND
             }
 
-    def moved(self):
+    def moved(self) -> Any:
         """The file is moved: what the old tables had is there still but for `trip` and `meta`, and
         breaks no rule."""
         before = self.rows()
@@ -160,7 +164,7 @@ class Migrate(unittest.TestCase):
         self.assertEqual((rows['meta'], rows['trip']), ([(1, 2)], []))
         return {table: rows[table] for table in SECOND}
 
-    def refused(self):
+    def refused(self) -> None:
         """The file is damaged to `migrate`, and stays the same to the byte. So does the log beside
         it, but for a byte behind its frames, the ninth, which tells that they end; where there is
         none, one is made that has no frames and ends with this byte.
@@ -181,7 +185,7 @@ class Migrate(unittest.TestCase):
         self.assertEqual(self.dump(), statements)
         self.assertEqual(sorted(os.listdir(self.folder.name)), ['first.db', 'first.db-wal'])
 
-    def check(self, *lines):
+    def check(self, *lines: Any) -> None:
         """Requests with the answers that are wanted, to a program over the file."""
         status, out, said = run(
             'replay', '--db', self.db, '--at', AT, stdin=b''.join(map(bytes_of, lines))
@@ -189,7 +193,7 @@ class Migrate(unittest.TestCase):
         self.assertEqual((status, said), (0, b''))
         self.assertEqual(answers_of(out), [line[2:] for line in lines])
 
-    def test_an_open_order(self):
+    def test_an_open_order(self) -> None:
         """It is moved once, its message is the same to the byte, and the vehicle carries it out."""
         self.write(BEGUN)
         self.assertEqual(run('report', '--db', self.db, 'stock'), (1, b'', b'fault: Damaged\n'))
@@ -199,7 +203,7 @@ class Migrate(unittest.TestCase):
         self.assertEqual(self.bytes(), moved)
         self.goes_on()
 
-    def goes_on(self):
+    def goes_on(self) -> None:
         """The order that is begun has its message, and is carried out."""
         self.check(
             ok('GET /uagv/v2/KIT/0001/order', None, MESSAGE),
@@ -211,21 +215,21 @@ class Migrate(unittest.TestCase):
             stands('L1', 'station B'),
         )
 
-    def test_a_vehicle_that_is_astray(self):
+    def test_a_vehicle_that_is_astray(self) -> None:
         self.write(CANCELLED)
         self.assertEqual(self.moved(), {'capacity': [('KIT', '0001', 1)], 'journey': [], 'act': []})
         self.check(holds('node N1 KIT/0001', 'node N2 KIT/0001', 'edge E12 KIT/0001'))
 
-    def test_no_vehicle(self):
+    def test_no_vehicle(self) -> None:
         self.write(LAYOUT)
         self.assertEqual(self.moved(), {'capacity': [], 'journey': [], 'act': []})
         self.check(stands('L1', 'station A'))
 
-    def test_nothing_yet(self):
+    def test_nothing_yet(self) -> None:
         self.write()
         self.assertEqual(self.moved(), {'capacity': [], 'journey': [], 'act': []})
 
-    def test_tables_of_others(self):
+    def test_tables_of_others(self) -> None:
         """They stay, rows and all."""
         self.write(
             BEGUN,
@@ -242,7 +246,7 @@ class Migrate(unittest.TestCase):
             self.assertEqual(base.execute('PRAGMA integrity_check').fetchall(), [('ok',)])
         self.check(ok('GET /uagv/v2/KIT/0001/order', None, MESSAGE))
 
-    def test_rows_in_the_log(self):
+    def test_rows_in_the_log(self) -> None:
         """They are moved as those in the file are."""
         for inside, commits in LOGS:
             with self.subTest(inside=inside, commits=commits):
@@ -256,7 +260,7 @@ class Migrate(unittest.TestCase):
                 self.assertEqual(self.bytes()[''] != before[''], commits > 0)
                 self.goes_on()
 
-    def test_a_log_that_is_refused(self):
+    def test_a_log_that_is_refused(self) -> None:
         """Both files stay as they are; a second refusal changes no byte."""
         for inside, commits in LOGS:
             with self.subTest(inside=inside, commits=commits):
@@ -267,7 +271,7 @@ class Migrate(unittest.TestCase):
                 self.refused()
                 self.assertEqual(self.bytes(), once)
 
-    def test_a_file_that_is_not_there(self):
+    def test_a_file_that_is_not_there(self) -> None:
         """Nor is an empty one of the first schema. What is left, as by any opening, is a database
         without a table, in which a desk begins."""
         for made in (False, True):
@@ -280,7 +284,7 @@ class Migrate(unittest.TestCase):
                 self.refused()
                 self.check(load('L1'), stands('L1', 'checking'))
 
-    def take_back(self, second):
+    def take_back(self, second: Any) -> list[Any]:
         """Writes a file of the first schema with the rows of one of the second, in which each
         vehicle carries one load. It gives its trips."""
         rows, base = {}, sqlite3.connect(second)
@@ -301,7 +305,7 @@ class Migrate(unittest.TestCase):
         base.close()
         return [dict(zip(columns('trip'), row)) for row in rows['trip']]
 
-    def tells_all(self, lines):
+    def tells_all(self, lines: Any) -> Any:
         """All that can be asked is answered over the file as in memory after these requests."""
         rows = rows_of(self.db)
         names = ['%s/%s' % row[:2] for row in rows['vehicle']]
@@ -315,7 +319,7 @@ class Migrate(unittest.TestCase):
         self.answers_as_in_memory(lines, [('GET', path, b'') for path in asked], {200, 204})
         return names
 
-    def changes_all(self, lines):
+    def changes_all(self, lines: Any) -> None:
         """Each vehicle is told to pause and is asked again, a load comes and goes, and all is told:
         over the file as in memory."""
         more = [('POST', '/loads', b'{"load":"more"}')]
@@ -340,7 +344,7 @@ class Migrate(unittest.TestCase):
             self.answers_as_in_memory(lines, more, {200, 204, 409})
             self.assertEqual(rows_of(self.db), rows_of(first))
 
-    def answers_as_in_memory(self, lines, requests, statuses):
+    def answers_as_in_memory(self, lines: Any, requests: Any, statuses: Any) -> list[Any]:
         """Requests are answered over the file as in memory after these lines, with no other
         statuses."""
         asked = b''.join(
@@ -358,7 +362,7 @@ class Migrate(unittest.TestCase):
         self.assertLessEqual({status for status, _ in told}, statuses)
         return [status for status, _ in told]
 
-    def test_each_script(self):
+    def test_each_script(self) -> None:
         """What a script has come to after its last request, and after every second one before (of a
         long one eight), is moved, each second time out of the log: it tells what it tells in
         memory, and goes on as it would have gone on, the last with calls that change something.
@@ -366,7 +370,7 @@ class Migrate(unittest.TestCase):
         moved, ended, trips = 0, set(), []
         for title, lines in MOVED.items():
             for cut in (*range(1, len(lines), max(2, len(lines) // 8)), len(lines)):
-                if for_more(lines[:cut]):
+                if is_new(lines[:cut]):
                     break
                 with (
                     self.subTest(title, cut=cut),
@@ -387,12 +391,12 @@ class Migrate(unittest.TestCase):
                         self.tells_all(lines[:cut])
                         self.check(*lines[cut:])
                     moved += 1
-        self.assertEqual(ended, {title for title, lines in MOVED.items() if not for_more(lines)})
+        self.assertEqual(ended, {title for title, lines in MOVED.items() if not is_new(lines)})
         of_messages = {(trip['sent'], trip['first'], trip['confirmed']) for trip in trips}
         self.assertLessEqual({(0, 0, None), (0, 0, 0), (1, 1, 0), (1, 1, 1)}, of_messages)
         self.assertLessEqual({0, 1, 2}, {trip['seen'] for trip in trips})
 
-    def test_no_rows_of_a_trip(self):
+    def test_no_rows_of_a_trip(self) -> None:
         """Rows of an open order that break a rule, and a vehicle with more loads than one place
         holds."""
         self.refuse_each(
@@ -417,7 +421,7 @@ class Migrate(unittest.TestCase):
             ),
         )
 
-    def test_what_is_not_moved(self):
+    def test_what_is_not_moved(self) -> None:
         """Rows that break a rule, a table that is missing or has the number of another schema, and
         names that are taken."""
         self.refuse_each(
@@ -443,16 +447,16 @@ class Migrate(unittest.TestCase):
             ),
         )
 
-    def remove(self):
+    def remove(self) -> None:
         for end in FILES:
             if os.path.exists(self.db + end):
                 os.remove(self.db + end)
 
-    def write_anew(self, *texts):
+    def write_anew(self, *texts: Any) -> None:
         self.remove()
         self.write(*texts)
 
-    def refuse_each(self, rows, texts):
+    def refuse_each(self, rows: Any, texts: Any) -> None:
         """With each of these statements besides, a file of these rows isn't moved, nor where they
         are in the log."""
         for text in texts:

@@ -1,15 +1,24 @@
 """docs/openapi.json against the table of calls and a running desk: each path and method of the
 table is described and no other, each example is answered as it stands there, each answer fits its
 schema, and so do the answers to requests that can't be read."""
+import contextlib
+import importlib
 import json
 import os
 import re
 import tempfile
 import unittest
+from typing import Any
 
+from tests.support.programs import matched
 from tests.support.openapi import Asked, DOCUMENT, body_of, operations, requests_before, text_of
 from tests.support.desks import AT, Serving, over_sockets, run, without_moments
 from tests.support.scripts import answers_of
+
+# A checker that others have written: Debian's python3-jsonschema, where it is installed.
+jsonschema: Any = None
+with contextlib.suppress(ImportError):
+    jsonschema = importlib.import_module('jsonschema')
 
 # Refusals of a body that doesn't fit its schema.
 UNFIT = ('BadBody', 'Position', 'Version')
@@ -19,23 +28,23 @@ KINDS = {'object': dict, 'array': list, 'string': str, 'boolean': bool, 'null': 
 SCHEMAS = DOCUMENT['components']['schemas']
 
 
-def is_kind(value, kind):
+def is_kind(value: Any, kind: str) -> bool:
     if kind == 'integer':
         return type(value) is int
     return isinstance(value, KINDS[kind])
 
 
-def same(one, other):
+def same(one: str, other: str) -> bool:
     """JSON equality, in which true is not 1."""
     return json.dumps(one, sort_keys=True) == json.dumps(other, sort_keys=True)
 
 
-def faults(value, schema, at='$'):
+def faults(value: Any, schema: Any, at: Any = '$') -> Any:
     """What of a value doesn't fit a schema. A word of the schema that isn't known here is an
     error."""
     if '$ref' in schema:
         return faults(
-            value, SCHEMAS[re.fullmatch('#/components/schemas/(\\w+)', schema['$ref']).group(1)], at
+            value, SCHEMAS[matched('^#/components/schemas/(\\w+)$', schema['$ref'])[1]], at
         )
     found = []
     for word, said in schema.items():
@@ -78,7 +87,15 @@ def faults(value, schema, at='$'):
     return found
 
 
-def wanted_of(operation, status):
+def is_valid_elsewhere(value: Any, schema: Any) -> bool:
+    """Whether a value fits a schema by a checker of others, jsonschema, where it is installed."""
+    if jsonschema is None:
+        return True
+    checker = jsonschema.Draft202012Validator({**schema, 'components': DOCUMENT['components']})
+    return bool(checker.is_valid(value))
+
+
+def wanted_of(operation: Any, status: int) -> tuple[Any, Any, Any] | None:
     """Of the answer with a status: its type, its schema, and its examples; none where it has no
     body."""
     content = operation['responses'][str(status)].get('content')
@@ -88,7 +105,7 @@ def wanted_of(operation, status):
     return kind, media['schema'], media.get('examples', {})
 
 
-def fits(test, operation, answer):
+def fits(test: Any, operation: Any, answer: Any) -> None:
     """The answer is one that the operation has for its status."""
     wanted = wanted_of(operation, answer.status)
     if wanted is None:
@@ -96,10 +113,28 @@ def fits(test, operation, answer):
     else:
         test.assertEqual(answer.kind, wanted[0])
         test.assertEqual(faults(answer.value(), wanted[1]), [])
+        test.assertTrue(is_valid_elsewhere(answer.value(), wanted[1]), answer.data)
+
+
+# Values that do not fit, by each rule of a schema once.
+WRONG: tuple[tuple[Any, Any], ...] = (
+    ({}, {'$ref': '#/components/schemas/NewLoad'}),
+    ({'load': 'a b'}, {'$ref': '#/components/schemas/NewLoad'}),
+    ({'load': 'L1', 'station': 1}, {'$ref': '#/components/schemas/NewLoad'}),
+    ('L1\n', {'$ref': '#/components/schemas/Name'}),
+    ({'a': 1}, {'$ref': '#/components/schemas/Done'}),
+    (1.0, {'type': 'integer'}),
+    (True, {'type': 'integer'}),
+    (-1, {'$ref': '#/components/schemas/Number'}),
+    (4294967296, {'$ref': '#/components/schemas/Number'}),
+    ([1, 'a'], {'type': 'array', 'items': {'type': 'integer'}}),
+    (1, {'enum': [True]}),
+    (1, {'oneOf': [{'type': 'integer'}, {'enum': [1]}]}),
+)
 
 
 class Document(unittest.TestCase):
-    def test_the_paths_are_those_of_the_table(self):
+    def test_the_paths_are_those_of_the_table(self) -> None:
         described = {(method, path) for method, path, _, _ in operations()}
         page = text_of('docs', 'HTTP.md')
         page = page[page.index('## The table of calls') : page.index('## Answers')]
@@ -109,7 +144,7 @@ class Document(unittest.TestCase):
         self.assertEqual(described, {(verb.upper(), path) for verb, path in lines})
         self.assertEqual(len(lines), len(operations()))
 
-    def test_the_parameters_are_those_of_the_path(self):
+    def test_the_parameters_are_those_of_the_path(self) -> None:
         for _, path, _, parameters in operations():
             self.assertEqual(re.findall(r'\{(\w+)\}', path), [one['name'] for one in parameters])
             for one in parameters:
@@ -120,7 +155,7 @@ class Document(unittest.TestCase):
         names = [operation['operationId'] for _, _, operation, _ in operations()]
         self.assertEqual(len(names), len(set(names)))
 
-    def test_the_refusals_are_those_of_the_page(self):
+    def test_the_refusals_are_those_of_the_page(self) -> None:
         """Each refusal has its number in its schema, and is answered with its status alone."""
         page = text_of('docs', 'HTTP.md')
         rows = re.findall(
@@ -142,12 +177,12 @@ class Document(unittest.TestCase):
                 for name in self.refusals(operation, status):
                     self.assertEqual(status_of[name], status, (path, name))
 
-    def refusals(self, operation, status):
+    def refusals(self, operation: Any, status: Any) -> Any:
         wanted = wanted_of(operation, status)
         said = json.dumps(wanted[1]) if wanted else ''
         return re.findall(r'#/components/schemas/Refusal(\w+)', said)
 
-    def test_the_checks_are_those_of_the_page(self):
+    def test_the_checks_are_those_of_the_page(self) -> None:
         """Each call's refusals of the statuses 404 and 409, but that for a path, are those which
         docs/CALLS.md names for it."""
         page = text_of('docs', 'CALLS.md')
@@ -168,7 +203,7 @@ class Document(unittest.TestCase):
             'Release more': ['advance'],
             'A state': ['postState'],
         }.items():
-            said = re.search(fr'^\*\*{re.escape(title)}\*\*(.*?)\n\n', page, re.S | re.M).group(1)
+            said = matched(fr'^\*\*{re.escape(title)}\*\*(.*?)\n\n', page, re.S | re.M)[1]
             for first, last in re.findall(r'from (\w+) to (\w+)\)', said):
                 said += ' ' + ' '.join(names[names.index(first) : names.index(last) + 1])
             wanted = {name for name in names if re.search(fr'\b{name}\b', said)}
@@ -187,7 +222,7 @@ class Document(unittest.TestCase):
                         title,
                     )
 
-    def test_the_examples_fit(self):
+    def test_the_examples_fit(self) -> None:
         """A body that is refused for what its schema says doesn't fit it, and each other one does;
         each answer's example fits."""
         for _, path, operation, _ in operations():
@@ -201,37 +236,33 @@ class Document(unittest.TestCase):
                 if body and body[0] == 'application/json':
                     found = faults(body[2][name]['value'], body[1])
                     self.assertEqual(bool(found), name in UNFIT, (title, name, found))
+                    if not found:
+                        value = body[2][name]['value']
+                        self.assertTrue(is_valid_elsewhere(value, body[1]), (title, name))
             for status in operation['responses']:
-                wanted = wanted_of(operation, status)
+                wanted: Any = wanted_of(operation, status)
                 for name, said in wanted[2].items() if wanted else ():
                     self.assertEqual(examples[name]['status'], int(status))
                     self.assertEqual(faults(said['value'], wanted[1]), [], (title, name))
 
-    def test_the_checker_finds_faults(self):
-        """What must not fit: each rule of a schema once."""
-        for value, schema in (
-            ({}, {'$ref': '#/components/schemas/NewLoad'}),
-            ({'load': 'a b'}, {'$ref': '#/components/schemas/NewLoad'}),
-            ({'load': 'L1', 'station': 1}, {'$ref': '#/components/schemas/NewLoad'}),
-            ('L1\n', {'$ref': '#/components/schemas/Name'}),
-            ({'a': 1}, {'$ref': '#/components/schemas/Done'}),
-            (1.0, {'type': 'integer'}),
-            (True, {'type': 'integer'}),
-            (-1, {'$ref': '#/components/schemas/Number'}),
-            (4294967296, {'$ref': '#/components/schemas/Number'}),
-            ([1, 'a'], {'type': 'array', 'items': {'type': 'integer'}}),
-            (1, {'enum': [True]}),
-            (1, {'oneOf': [{'type': 'integer'}, {'enum': [1]}]}),
-        ):
+    def test_the_checker_finds_faults(self) -> None:
+        for value, schema in WRONG:
             self.assertNotEqual(faults(value, schema), [], (value, schema))
+
+    @unittest.skipIf(jsonschema is None, 'jsonschema is not here')
+    def test_a_checker_of_others_finds_them_too(self) -> None:
+        """But for two: it takes 1.0 for a whole number, and a line feed behind the end."""
+        taken = [value for value, schema in WRONG if is_valid_elsewhere(value, schema)]
+        self.assertEqual(taken, ['L1\n', 1.0])
 
 
 @over_sockets
 class Answers(unittest.TestCase):
-    def test_each_example(self):
+    def test_each_example(self) -> None:
         """Over a new desk with what the example needs. What is refused or only asked changes
         nothing, so such examples share a desk."""
-        shared, alone = {}, []
+        shared: dict[Any, Any] = {}
+        alone: list[Any] = []
         for method, _, operation, _ in operations():
             for name, said in operation['x-examples'].items():
                 line = method, operation, name, said
@@ -252,7 +283,7 @@ class Answers(unittest.TestCase):
                     with self.subTest(line[1]['operationId'] + ' ' + line[2]):
                         self.check(desk, *line)
 
-    def check(self, desk, method, operation, name, said):
+    def check(self, desk: Any, method: Any, operation: Any, name: str, said: Any) -> None:
         body = body_of(operation)
         sent = body[2][name]['value'] if body else ('' if method == 'POST' else None)
         answer = Asked(desk, method, said['path'], sent)
@@ -275,7 +306,7 @@ class Answers(unittest.TestCase):
                 ),
             )
 
-    def test_other_methods_and_paths(self):
+    def test_other_methods_and_paths(self) -> None:
         with (
             tempfile.TemporaryDirectory() as folder,
             Serving(os.path.join(folder, 'desk.db')) as desk,
@@ -299,15 +330,16 @@ class Answers(unittest.TestCase):
 
 
 class Raw(unittest.TestCase):
-    def check(self, operation, data, name):
+    def check(self, operation: Any, data: bytes, name: str) -> None:
         """One request as bytes, which is answered by a refusal that the operation has."""
         status, out, said = run('replay', '--db', 'memory', '--at', AT, stdin=data)
         self.assertEqual((status, said), (0, b''))
         ((code, body),) = answers_of(out)
         self.assertEqual(json.loads(body)['name'], name, data)
-        self.assertEqual(faults(json.loads(body), wanted_of(operation, code)[1]), [])
+        wanted: Any = wanted_of(operation, code)
+        self.assertEqual(faults(json.loads(body), wanted[1]), [])
 
-    def test_bodies_that_are_refused(self):
+    def test_bodies_that_are_refused(self) -> None:
         for method, path, operation, _ in operations():
             body = body_of(operation)
             if not body:
@@ -323,7 +355,7 @@ class Raw(unittest.TestCase):
             ):
                 self.check(operation, (head % len(text) + text).encode(), name)
 
-    def test_heads_that_are_refused(self):
+    def test_heads_that_are_refused(self) -> None:
         for method, path, operation, _ in operations():
             line = '%s %s HTTP/1.1\r\n' % (method, re.sub(r'\{\w+\}', 'X1', path))
             self.check(operation, (line + 'Content-Length: x\r\n\r\n').encode(), 'BadHead')

@@ -10,6 +10,7 @@ import subprocess
 import sys
 import tempfile
 import unittest
+from typing import Any
 
 from tests.support import calls
 from tests.support import records
@@ -26,12 +27,12 @@ PLAIN = os.path.join(ROOT, 'bench', 'plain_desk.py')
 REQUESTS = int(os.environ.get('REQUESTS', '1500'))
 
 
-def as_bytes(method, path, body):
+def as_bytes(method: str, path: str, body: Any) -> Any:
     return request(f'{method} {path}', body)
 
 
 class BesideAPlainDesk(unittest.TestCase):
-    def check(self, stdin, db='memory', plain=':memory:'):
+    def check(self, stdin: bytes, db: str = 'memory', plain: str = ':memory:') -> Any:
         """One stream through both; the answers, which are the same."""
         status, out, said = run('replay', '--db', db, '--at', AT, stdin=stdin, limit=300)
         self.assertEqual((status, said), (0, b''))
@@ -45,12 +46,12 @@ class BesideAPlainDesk(unittest.TestCase):
         self.assertEqual(len(ours), len(theirs))
         return ours[1:]
 
-    def test_scripts(self):
+    def test_scripts(self) -> None:
         for title, lines in SCRIPTS.items():
             with self.subTest(title):
                 self.assertEqual(len(self.check(b''.join(map(bytes_of, lines)))), len(lines))
 
-    def test_examples_of_the_description(self):
+    def test_examples_of_the_description(self) -> None:
         """What is refused or only asked goes behind its setup in one stream; each other example has
         a stream of its own."""
         for before in SETUPS:
@@ -78,21 +79,21 @@ class BesideAPlainDesk(unittest.TestCase):
                         len(self.check(b''.join(front + lines))), len(front) + len(lines)
                     )
 
-    def traffic(self, seed, vehicles, count):
+    def traffic(self, seed: int, vehicles: int, count: int) -> tuple[list[Any], Any]:
         """Random requests, and the model after them."""
         model = Model()
         traffic = Traffic(model, Streets(6, 5), random.Random(seed))
         asked = [*traffic.begin(vehicles), *(traffic.next() for _ in range(count))]
         return [call.to_bytes() for call, _ in asked], model
 
-    def test_random_traffic(self):
+    def test_random_traffic(self) -> None:
         for seed, vehicles in ((1, 1), (2, 3), (3, 9)):
             data, model = self.traffic(seed, vehicles, REQUESTS // 3)
             self.assertEqual(len(self.check(b''.join(data))), len(data))
             self.assertIn('done', {row[-1] for row in model.rows()['job']})
             self.assertEqual(records.broken(model.rows()), [])
 
-    def test_random_loads_at_small_stations(self):
+    def test_random_loads_at_small_stations(self) -> None:
         """Loads are put at small stations and taken away again, and jobs to them are added and
         taken back, so that each station is now full and now not: the program keeps the room that it
         counted, the other desk counts each time.
@@ -118,7 +119,7 @@ class BesideAPlainDesk(unittest.TestCase):
         self.assertGreater(sum(b'"Full"' in answer for answer in answers), REQUESTS // 20)
         self.assertGreater(sum(answer.startswith(b'200') for answer in answers), REQUESTS // 5)
 
-    def test_each_goes_on_with_the_file_of_the_other(self):
+    def test_each_goes_on_with_the_file_of_the_other(self) -> None:
         """Both keep the same tables, so that half of the traffic may be served by one and half by
         the other."""
         data, model = self.traffic(4, 4, 300)
@@ -134,7 +135,7 @@ class BesideAPlainDesk(unittest.TestCase):
 
 
 class KindsOfCalls(unittest.TestCase):
-    def test_each_call_is_timed_and_none_is_refused(self):
+    def test_each_call_is_timed_and_none_is_refused(self) -> None:
         """But for those whose name says that they are. So the figures are of the calls, and of all
         of them."""
         left = {
@@ -162,7 +163,7 @@ class KindsOfCalls(unittest.TestCase):
 
 
 class ThingsKnown(unittest.TestCase):
-    def test_each_can_be_taken_out(self):
+    def test_each_can_be_taken_out(self) -> None:
         """By `bench/known`: each text that it replaces stands once in its file. And it counts calls
         that are not refused."""
         known = module('known', 'bench')

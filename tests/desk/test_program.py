@@ -18,9 +18,11 @@ import sys
 import threading
 import time
 import unittest
+from typing import Any
 
 from tests.support import tracing
-from tests.support.programs import ROOT
+from tests.support.heap import Clock as ShownClock, slots_of
+from tests.support.programs import ROOT, matched
 from tests.support.desks import (
     AT,
     DESK,
@@ -37,7 +39,7 @@ from tests.support.desks import (
 )
 
 
-def moment_now():
+def moment_now() -> str:
     """The moment that the clock shows, as messages have it: cut off after the hundredths."""
     seconds, hundredths = divmod(time.time_ns() // 10_000_000, 100)
     moment = datetime.datetime.fromtimestamp(seconds, datetime.timezone.utc)
@@ -45,7 +47,7 @@ def moment_now():
 
 
 class Replay(ProgramTest):
-    def test_a_transport_in_memory_and_in_a_file(self):
+    def test_a_transport_in_memory_and_in_a_file(self) -> None:
         status, memory, said = self.replay(self.transport, 'memory')
         self.assertEqual((status, said), (0, b''))
         self.assertIn(b'"place":"station B"', memory)
@@ -53,7 +55,7 @@ class Replay(ProgramTest):
         self.assertEqual((status, said), (0, b''))
         self.assertEqual(file, memory)
 
-    def test_the_first_load(self):
+    def test_the_first_load(self) -> None:
         head = b'HTTP/1.1 200 OK\r\nContent-Length: %d\r\nContent-Type: application/json\r\n\r\n'
         wanted = head % 2 + b'{}' + head % 43 + b'{"job":null,"load":"L1","place":"checking"}'
         stdin = (
@@ -63,7 +65,7 @@ class Replay(ProgramTest):
         self.assertEqual(self.replay(stdin, 'memory'), (0, wanted, b''))
         self.assertEqual(self.replay(stdin), (0, wanted, b''))
 
-    def test_a_second_run_goes_on(self):
+    def test_a_second_run_goes_on(self) -> None:
         status, out, _ = self.replay(
             b'POST /loads HTTP/1.1\r\nContent-Length: 13\r\n\r\n{"load":"L1"}'
         )
@@ -71,7 +73,7 @@ class Replay(ProgramTest):
         status, out, _ = self.replay(b'GET /loads/L1 HTTP/1.1\r\n\r\n')
         self.assertEqual((status, out[-43:]), (0, b'{"job":null,"load":"L1","place":"checking"}'))
 
-    def test_reports(self):
+    def test_reports(self) -> None:
         """They are the same before the file is closed and once it is opened again, by a request and
         by `report`."""
         stock, holds = (b'GET /report/%s HTTP/1.1\r\n\r\n' % name for name in (b'stock', b'holds'))
@@ -85,7 +87,7 @@ class Replay(ProgramTest):
         self.assertEqual(run('report', '--db', self.db, 'holds'), (0, HOLDS, b''))
 
     @over_sockets
-    def test_the_file_while_a_desk_holds_it(self):
+    def test_the_file_while_a_desk_holds_it(self) -> None:
         """Another SQLite is told that it is locked, and harms nothing; a copy of the two files can
         be read."""
         with Serving(self.db) as desk:
@@ -106,7 +108,7 @@ class Replay(ProgramTest):
             )
             base.close()
 
-    def test_a_copy_by_another_sqlite(self):
+    def test_a_copy_by_another_sqlite(self) -> None:
         """What README says of a backup: a copy by SQLite's own means is a desk's file, with the
         same report."""
         self.replay(self.transport)
@@ -118,7 +120,7 @@ class Replay(ProgramTest):
         for db in (copy, self.db):
             self.assertEqual(run('report', '--db', db, 'stock'), (0, STOCK, b''))
 
-    def test_the_program_is_one_file(self):
+    def test_the_program_is_one_file(self) -> None:
         """A copy in an empty folder runs with an empty environment, and loads nothing of the
         kit."""
         alone = os.path.join(self.folder.name, 'alone')
@@ -128,7 +130,7 @@ class Replay(ProgramTest):
         done = subprocess.run(
             words,
             cwd=alone,
-            env={},
+            env=dict[str, str](),
             input=b'GET /loads/L1 HTTP/1.1\r\n\r\n',
             capture_output=True,
             timeout=600,
@@ -138,7 +140,7 @@ class Replay(ProgramTest):
         loads = subprocess.run(['ldd', DESK], capture_output=True, text=True).stdout
         self.assertNotIn('rattle', loads)
 
-    def test_pages(self):
+    def test_pages(self) -> None:
         """A new file has pages of 512 bytes, and one that is there keeps those that it has: a desk
         goes on with each of them."""
         for number, size in enumerate((512, 1024, 4096, 65536, 512)):
@@ -161,7 +163,7 @@ class Replay(ProgramTest):
                 )
                 base.close()
 
-    def test_the_file_is_a_database(self):
+    def test_the_file_is_a_database(self) -> None:
         self.replay(self.transport)
         base = sqlite3.connect(self.db)
         self.assertEqual(base.execute('PRAGMA integrity_check').fetchall(), [('ok',)])
@@ -173,7 +175,7 @@ class Replay(ProgramTest):
 
 @over_sockets
 class Serve(ProgramTest):
-    def check_transport(self, one):
+    def check_transport(self, one: Any) -> None:
         """Every request of the transport, by one connection or by one for each; the answers are
         those of `replay`."""
         _, wanted, _ = self.replay(self.transport, 'memory')
@@ -192,18 +194,18 @@ class Serve(ProgramTest):
             self.assertEqual(without_moments(wanted[end + 4 : at]), without_moments(body))
         self.assertEqual(at, len(wanted))
 
-    def test_one_connection_for_all(self):
+    def test_one_connection_for_all(self) -> None:
         self.check_transport(True)
 
-    def test_one_connection_for_each(self):
+    def test_one_connection_for_each(self) -> None:
         self.check_transport(False)
 
-    def test_ends_behind_the_last_connection(self):
+    def test_ends_behind_the_last_connection(self) -> None:
         with Serving(self.db, 1) as desk:
             self.assertEqual(desk.ask('GET', '/loads/L1')[0], 404)
             self.assertEqual(desk.process.wait(300), 0)
 
-    def test_a_request_of_http_1_0(self):
+    def test_a_request_of_http_1_0(self) -> None:
         """It is answered to the byte, and the connection ends behind it."""
         with Serving(self.db) as desk:
             plain = desk.plain()
@@ -217,12 +219,12 @@ class Serve(ProgramTest):
             )
             plain.close()
 
-    def test_no_connection_at_all(self):
+    def test_no_connection_at_all(self) -> None:
         status, out, said = run('serve', '--db', self.db, '--port', '0', '--connections', '0')
         self.assertEqual((status, said), (0, b''))
         self.assertRegex(out, rb'^listening on 127\.0\.0\.1:\d+\n$')
 
-    def test_a_byte_at_a_time(self):
+    def test_a_byte_at_a_time(self) -> None:
         with Serving(self.db) as desk:
             plain = desk.plain()
             for byte in (
@@ -233,7 +235,7 @@ class Serve(ProgramTest):
             self.assertTrue(read_all(plain).endswith(b'\r\n\r\n{}'))
             plain.close()
 
-    def test_a_client_that_leaves(self):
+    def test_a_client_that_leaves(self) -> None:
         with Serving(self.db) as desk:
             for front in (
                 b'',
@@ -249,7 +251,7 @@ class Serve(ProgramTest):
             plain.close()
             self.assertEqual(desk.ask('GET', '/loads/L1')[0], 404)
 
-    def test_a_client_that_says_nothing(self):
+    def test_a_client_that_says_nothing(self) -> None:
         """It keeps the others waiting for ten seconds, in the middle of a request or behind one,
         and is left then."""
         with Serving(self.db) as desk:
@@ -267,14 +269,14 @@ class Serve(ProgramTest):
                 self.assertEqual(read_all(plain).rpartition(b'\r\n')[2], answer)
                 plain.close()
 
-    def test_a_client_that_never_reads(self):
+    def test_a_client_that_never_reads(self) -> None:
         """It keeps the others waiting until the system has taken nothing of an answer for ten
         seconds, or until it leaves."""
         self.assertGreater(self.kept_waiting(False), 9)
         # (where the machine is busy one try may take long for that)
         self.assertTrue(any(self.kept_waiting(True) < 8 for _ in range(3)))
 
-    def kept_waiting(self, leaves):
+    def kept_waiting(self, leaves: Any) -> Any:
         """How many seconds it takes until another client is answered: from the first bytes on of
         the one that never reads, or from that one's end on."""
         with Serving(self.db) as desk:
@@ -294,7 +296,7 @@ class Serve(ProgramTest):
             plain.close()
             return took
 
-    def test_noise(self):
+    def test_noise(self) -> None:
         """Of 20 clients, the last with 10 MB."""
         with Serving(self.db) as desk:
             for seed in range(20):
@@ -310,7 +312,7 @@ class Serve(ProgramTest):
                 plain.close()
             self.assertEqual(desk.ask('GET', '/loads/L1')[0], 404)
 
-    def test_the_clock_gives_the_moment(self):
+    def test_the_clock_gives_the_moment(self) -> None:
         """An order message has the moment at which its connection was begun."""
         requests = requests_of(self.transport)
         order = [target.endswith('/order') for _, target, _ in requests].index(True)
@@ -323,7 +325,7 @@ class Serve(ProgramTest):
         self.assertRegex(said.encode(), b'^%s$' % MOMENT)
         self.assertTrue(before <= said <= moment_now(), (before, said))
 
-    def test_a_connection_has_one_moment(self):
+    def test_a_connection_has_one_moment(self) -> None:
         """An order and an instant action of one connection have its moment, though five hundredths
         of a second lie between them."""
         requests = requests_of(self.transport)
@@ -341,13 +343,13 @@ class Serve(ProgramTest):
             connection.close()
         self.assertEqual(first['timestamp'], second['timestamp'])
 
-    def test_each_connection_has_a_moment_of_its_own(self):
+    def test_each_connection_has_a_moment_of_its_own(self) -> None:
         """An order by one connection and a pause by a later one have the moments at which these
         were begun: none of the desk's start, none of the connection before, and none at which the
         desk began to wait for them."""
         requests = requests_of(self.transport)
         order = [target for _, target, _ in requests].index('/orders')
-        changes = [
+        changes: list[tuple[Any, str]] = [
             (requests[order], '/uagv/v2/KIT/0001/order'),
             (('POST', '/vehicles/KIT/0001/pause'), '/uagv/v2/KIT/0001/instantActions'),
         ]
@@ -368,7 +370,7 @@ class Serve(ProgramTest):
 
 @over_sockets
 class Killed(ProgramTest):
-    def test_each_answered_call_is_kept(self):
+    def test_each_answered_call_is_kept(self) -> None:
         """The program is killed under load, a moment after its second answer; what it had answered
         is in the file."""
         number = 0
@@ -404,13 +406,13 @@ class Killed(ProgramTest):
                 connection.close()
 
 
-def lacks_clock():
+def lacks_clock() -> Any:
     """Why the program's clock can't be set; None where it can."""
     lacks = tracing.lacks()
     if lacks:
         return lacks
     try:
-        slots = tracing.slots_of(DESK, tracing.Clock.NAMES)[1]
+        slots = slots_of(DESK, ShownClock.NAMES)[1]
     except (OSError, ValueError) as error:
         return f'the calls of the clock can not be found: {error}'
     return None if slots else 'the program asks no C library that is loaded beside it for the time'
@@ -420,30 +422,30 @@ def lacks_clock():
 class Clock(ProgramTest):
     """The clock is set, by code in the place of the function that the program asks for the time."""
 
-    def setUp(self):
+    def setUp(self) -> None:
         super().setUp()
         lacks = lacks_clock()
         if lacks:
             self.skipTest(lacks)
 
-    def serve(self, seconds, requests, connections):
+    def serve(self, seconds: Any, requests: Any, connections: int) -> tuple[Any, Any, Any]:
         """How the program ends that is sent each of these by a connection of its own, and what it
         answers there. It asks for the time once for each of them."""
         from tests.support.faults import asks, port_of  # which take from this file themselves
 
-        answers = []
+        answers: list[Any] = []
 
-        def beside(process):
+        def beside(process: Any) -> None:
             port = port_of(process)
             answers.extend(asks(port, request) for request in requests)
 
         words = [DESK, 'serve', '--db', self.db, '--port', '0', '--connections', str(connections)]
-        ended = tracing.run(words, heap=tracing.Clock(DESK, seconds), beside=beside)
+        ended = tracing.run(words, heap=ShownClock(DESK, seconds), beside=beside)
         self.assertRegex(ended.out, rb'^listening on 127\.0\.0\.1:\d+\n$')
         self.assertEqual(ended.asked, len(requests))
         return ended.status, ended.said, answers
 
-    def test_the_first_and_the_last_moment(self):
+    def test_the_first_and_the_last_moment(self) -> None:
         """They are the moments of the connection, which its order message has."""
         order = b'GET /uagv/v2/KIT/0001/order HTTP/1.1\r\n\r\n'
         front = self.transport[: self.transport.index(order)] + order
@@ -456,11 +458,17 @@ class Clock(ProgramTest):
             self.assertEqual((status, said), (0, b''))
             self.assertEqual(re.findall(b'"timestamp":"([^"]*)"', answers[0]), [moment])
 
-    def test_each_connection_asks_once(self):
+    def test_each_connection_asks_once(self) -> None:
         """With no connection there is no need to; one that asks three things asks for the time
         once."""
         request = b'GET /loads/L1 HTTP/1.1\r\n\r\n'
-        for asked in ([], [request], [request, request * 3], [b'', request, request]):
+        streams: list[list[bytes]] = [
+            [],
+            [request],
+            [request, request * 3],
+            [b'', request, request],
+        ]
+        for asked in streams:
             status, said, answers = self.serve(1_700_000_000, asked, len(asked))
             self.assertEqual((status, said), (0, b''))
             self.assertEqual(
@@ -468,7 +476,7 @@ class Clock(ProgramTest):
                 [one.count(b'GET') for one in asked],
             )
 
-    def test_moments_out_of_range(self):
+    def test_moments_out_of_range(self) -> None:
         """From 2100 on, before 1970, and where there is no time to be had: the first connection is
         closed with no answer, and nobody else is served."""
         for seconds in (4_102_444_800, (1 << 63) - 1, -1, -1 << 63, None):
@@ -481,14 +489,14 @@ class Clock(ProgramTest):
         self.assertTrue(out.endswith(b'{"name":"NoLoad","refusal":23}'))
 
 
-def limit_files():
+def limit_files() -> None:
     """The system lets the files of this process grow to 400,000 bytes."""
     signal.signal(signal.SIGXFSZ, signal.SIG_IGN)
     resource.setrlimit(resource.RLIMIT_FSIZE, (400_000, 400_000))
 
 
 class Full(ProgramTest):
-    def test_a_file_that_can_grow_no_more(self):
+    def test_a_file_that_can_grow_no_more(self) -> None:
         """A call that needs more is answered by the store's fault, which ends the stream, and what
         was answered before it is kept."""
         names = [f'L{number:05d}' for number in range(1_000)]
@@ -522,7 +530,7 @@ class Full(ProgramTest):
         self.assertTrue(out.endswith(b'{"name":"NoLoad","refusal":23}'))
 
     @over_sockets
-    def test_connections_over_a_file_that_can_grow_no_more(self):
+    def test_connections_over_a_file_that_can_grow_no_more(self) -> None:
         """The store's fault ends the program, too: nobody is served after it."""
         with Serving(self.db, preexec_fn=limit_files) as desk:
             number, connection = 0, desk.connect()
@@ -533,9 +541,7 @@ class Full(ProgramTest):
                 number += 1
             connection.close()
             self.assertEqual((status, body), (503, b'{"name":"Storage","refusal":91}'))
-            self.assertEqual(
-                (desk.process.wait(300), desk.process.stderr.read()), (1, b'fault: Storage\n')
-            )
+            self.assertEqual((desk.process.wait(300), desk.said.read()), (1, b'fault: Storage\n'))
         self.assertGreater(number, 10)
         status, out, said = self.replay(
             b''.join(b'GET /loads/L%05d HTTP/1.1\r\n\r\n' % n for n in range(number))
@@ -545,7 +551,7 @@ class Full(ProgramTest):
 
 @over_sockets
 class Demo(ProgramTest):
-    def test_a_small_plant(self):
+    def test_a_small_plant(self) -> None:
         """It names the page of the board, gives jobs by orders, and ends with all jobs done, or
         stopped where an action failed, in the words of the plant that looks at every place."""
         demo = os.path.join(ROOT, 'examples', 'demo')
@@ -555,10 +561,10 @@ class Demo(ProgramTest):
         )
         self.assertEqual(done.returncode, 0, done.stdout + done.stderr)
         self.assertRegex(done.stdout, r'the board is at http://127\.0\.0\.1:\d+\n')
-        ended = re.search(
+        ended = matched(
             r'\n(\d) jobs done and (\d) stopped, in \d+ minutes of the plant', done.stdout
         )
-        self.assertEqual(sum(map(int, ended.groups())), 3, done.stdout)
+        self.assertEqual(sum(int(count) for count in ended.groups()), 3, done.stdout)
         self.assertGreater(int(ended.group(1)), 0, done.stdout)
         orders = re.findall(r'takes job-\d .*by order (\S+)', done.stdout)
         self.assertGreater(len(orders), 0)
@@ -569,7 +575,7 @@ class Demo(ProgramTest):
 @over_sockets
 class WithCurl(ProgramTest):
     @unittest.skipUnless(shutil.which('curl'), 'curl is not here')
-    def test_a_transport(self):
+    def test_a_transport(self) -> None:
         script = os.path.join(ROOT, 'examples', 'transport.sh')
         with Serving(self.db) as desk:
             done = subprocess.run([script, str(desk.port)], capture_output=True, timeout=600)
@@ -581,7 +587,7 @@ class WithCurl(ProgramTest):
         self.assertIn('station B at N3: 1 of 1, reserved 0\n  L1\n', told)
 
 
-def refused_value(value, of, why=''):
+def refused_value(value: Any, of: Any, why: str = '') -> str:
     return f"error: invalid value '{value}' for '{of}'{why}"
 
 
@@ -589,7 +595,7 @@ LACKING = 'error: the following required arguments were not provided:'
 MEMORY = ('replay', '--db', 'memory')
 
 # Lines that are refused, each with how the text begins.
-REFUSED = [
+REFUSED: list[tuple[tuple[Any, ...], str]] = [
     ((), "error: 'desk' requires a subcommand but one was not provided"),
     (('start',), "error: unrecognized subcommand 'start'"),
     (('serve',), LACKING + '\n  --db <FILE>\n  --port <P>\n  --connections <N>\n'),
@@ -697,7 +703,7 @@ sqlite3.connect(sys.argv[1]).backup(sqlite3.connect(copy))
 '''
 
 
-def write_first(db):
+def write_first(db: str) -> None:
     """Makes a file of the first schema by another SQLite: KIT/0001 stands at N1 with an order of
     two edges for L1, from A to B."""
     from tests.support.first_schema import BEGUN, FIRST  # which takes from this file itself
@@ -708,7 +714,7 @@ def write_first(db):
 
 
 class Exits(ProgramTest):
-    def fault(self, name, words, **others):
+    def fault(self, name: Any, words: Any, **others: Any) -> None:
         """These words end with this fault: 1, nothing on standard output, and its line on standard
         error."""
         others = {'stdin': subprocess.DEVNULL, 'stdout': subprocess.PIPE, **others}
@@ -719,7 +725,7 @@ class Exits(ProgramTest):
             words,
         )
 
-    def each(self, db):
+    def each(self, db: str) -> list[Any]:
         """A line of each of the three programs that serve or tell of this file."""
         return [
             ('replay', '--db', db, '--at', AT),
@@ -727,11 +733,11 @@ class Exits(ProgramTest):
             ('report', '--db', db, 'stock'),
         ]
 
-    def all(self, db):
+    def all(self, db: str) -> list[Any]:
         """These, and one of the program that moves a file."""
         return [*self.each(db), ('migrate', '--db', db)]
 
-    def test_words_that_are_refused(self):
+    def test_words_that_are_refused(self) -> None:
         for words, wanted in REFUSED:
             done = subprocess.run(
                 [DESK, *words], capture_output=True, timeout=600, cwd=self.folder.name
@@ -740,7 +746,7 @@ class Exits(ProgramTest):
             self.assertEqual(done.stderr.decode()[: len(wanted)], wanted)
             self.assertEqual(os.listdir(self.folder.name), [], words[:4])
 
-    def test_help_ends_with_an_example(self):
+    def test_help_ends_with_an_example(self) -> None:
         for name, example in EXAMPLES.items():
             words = [name, '--help'] if name else ['--help']
             done = subprocess.run(
@@ -749,7 +755,7 @@ class Exits(ProgramTest):
             self.assertEqual((done.returncode, done.stdout), (2, b''), words)
             self.assertEqual(done.stderr.decode().split('\n\n')[-1], f'Example: {example}\n', words)
 
-    def test_help_tells_each_option(self):
+    def test_help_tells_each_option(self) -> None:
         """With the name of its value, and what it is for."""
         for name, options in OPTIONS.items():
             said = subprocess.run(
@@ -758,7 +764,7 @@ class Exits(ProgramTest):
             found = dict(re.findall(r'^ +((?:--\w+ )?<[^>]+>) {2,}(\S.*)$', said, re.M))
             self.assertEqual(found, options, name)
 
-    def test_the_examples_of_the_help(self):
+    def test_the_examples_of_the_help(self) -> None:
         """Each is taken as it stands, `serve` with a free port and for no connection."""
         os.symlink(DESK, os.path.join(self.folder.name, 'desk'))
         with open(os.path.join(self.folder.name, 'requests.txt'), 'wb') as file:
@@ -801,11 +807,11 @@ class Exits(ProgramTest):
         self.assertEqual(base.execute('SELECT * FROM meta').fetchall(), [(1, 1)])
         base.close()
 
-    def test_least_and_greatest_values(self):
+    def test_least_and_greatest_values(self) -> None:
         for at in ('0', '+0', '4102444799999'):
             self.assertEqual(run('replay', '--db', 'memory', '--at', at), (0, b'', b''))
 
-    def test_memory_is_a_file_elsewhere(self):
+    def test_memory_is_a_file_elsewhere(self) -> None:
         for words in self.each('memory')[1:]:
             done = subprocess.run(
                 [DESK, *words], capture_output=True, timeout=600, cwd=self.folder.name
@@ -829,7 +835,7 @@ class Exits(ProgramTest):
         )
         self.assertTrue(done.stdout.endswith(b'{"name":"NoLoad","refusal":23}'))
 
-    def test_files_that_cannot_be_opened(self):
+    def test_files_that_cannot_be_opened(self) -> None:
         """`memory` by another spelling and an empty name are names of files that can't be had."""
         for db in (
             '',
@@ -843,7 +849,7 @@ class Exits(ProgramTest):
                 self.fault(b'Storage', words, cwd=self.folder.name)
         self.assertEqual(os.listdir(self.folder.name), [])
 
-    def test_files_without_rights(self):
+    def test_files_without_rights(self) -> None:
         """Of a file that may not be read or not be written nothing is served or moved, and it is
         left as it is."""
         self.replay(b'POST /loads HTTP/1.1\r\nContent-Length: 13\r\n\r\n{"load":"L1"}')
@@ -855,7 +861,9 @@ class Exits(ProgramTest):
         program = os.path.join(self.folder.name, 'desk')
         shutil.copy(DESK, program)
         os.chmod(program, 0o755)
-        rights = {'preexec_fn': lambda: os.setuid(65534)} if os.getuid() == 0 else {}
+        rights: dict[str, Any] = (
+            {'preexec_fn': lambda: os.setuid(65534)} if os.getuid() == 0 else {}
+        )
         for mode in (0o000, 0o444):
             os.chmod(self.db, mode)
             os.chmod(first, mode)
@@ -875,7 +883,7 @@ class Exits(ProgramTest):
             after = self.files(self.db, first)
             self.assertEqual({name: after[name] for name in before}, before)
 
-    def files(self, *dbs):
+    def files(self, *dbs: Any) -> Any:
         """The bytes of the file, or of these files, and of the log beside each, where there is
         one."""
         found = {}
@@ -886,13 +894,13 @@ class Exits(ProgramTest):
                         found[name] = file.read()
         return found
 
-    def test_an_input_that_cannot_be_read(self):
+    def test_an_input_that_cannot_be_read(self) -> None:
         folder = os.open(self.folder.name, os.O_RDONLY)
         self.fault(b'Read', MEMORY + ('--at', AT), stdin=folder)
         self.fault(b'Read', ('replay', '--db', self.db, '--at', AT), stdin=folder)
         os.close(folder)
 
-    def test_faults_that_nobody_can_be_told(self):
+    def test_faults_that_nobody_can_be_told(self) -> None:
         """The exit status is the same where standard error takes nothing."""
         with open('/dev/full', 'wb') as full:
             for words, status in (
@@ -908,7 +916,7 @@ class Exits(ProgramTest):
                 )
                 self.assertEqual((done.returncode, done.stdout), (status, b''))
 
-    def test_no_database(self):
+    def test_no_database(self) -> None:
         with open(self.db, 'wb') as file:
             file.write(b'this is no database, but a text of some length. ' * 100)
         before = self.files()
@@ -916,7 +924,7 @@ class Exits(ProgramTest):
             self.fault(b'Storage', words)
         self.assertEqual(self.files()[self.db], before[self.db])
 
-    def test_a_database_of_others(self):
+    def test_a_database_of_others(self) -> None:
         base = sqlite3.connect(self.db)
         base.execute('CREATE TABLE load (a)')
         base.commit()
@@ -926,7 +934,7 @@ class Exits(ProgramTest):
             self.fault(b'Damaged', words)
         self.assertEqual(self.files()[self.db], before[self.db])
 
-    def test_a_database_that_breaks_a_rule(self):
+    def test_a_database_that_breaks_a_rule(self) -> None:
         """A load at a station that there is not."""
         self.replay(self.transport)
         base = sqlite3.connect(self.db)
@@ -937,7 +945,7 @@ class Exits(ProgramTest):
             self.fault(b'Damaged', words)
 
     @over_sockets
-    def test_a_port_in_use(self):
+    def test_a_port_in_use(self) -> None:
         with socket.socket() as taken:
             taken.bind(('127.0.0.1', 0))
             taken.listen()
@@ -949,7 +957,7 @@ class Exits(ProgramTest):
                 ('serve', '--db', self.folder.name, '--port', port, '--connections', '1'),
             )
 
-    def test_output_that_nobody_takes(self):
+    def test_output_that_nobody_takes(self) -> None:
         request = os.path.join(self.folder.name, 'request')
         with open(request, 'wb') as file:
             file.write(b'GET /loads/L1 HTTP/1.1\r\n\r\n')
@@ -958,7 +966,7 @@ class Exits(ProgramTest):
                 with open(request, 'rb') as stdin:
                     self.fault(b'Write', words, stdin=stdin, stdout=full)
 
-    def test_a_move_of_no_file(self):
+    def test_a_move_of_no_file(self) -> None:
         """It leaves an empty database, which isn't moved either, and in which a desk begins
         anew."""
         for _ in range(2):
@@ -970,7 +978,7 @@ class Exits(ProgramTest):
             run('report', '--db', self.db, 'stock'), (0, b'checking: 0\nleft: 0\n', b'')
         )
 
-    def test_a_move_whose_word_nobody_takes(self):
+    def test_a_move_whose_word_nobody_takes(self) -> None:
         """The file is moved all the same: a desk starts on it, and it isn't moved once more."""
         write_first(self.db)
         with open('/dev/full', 'wb') as full:
@@ -985,7 +993,7 @@ class Exits(ProgramTest):
         self.fault(b'Damaged', ('migrate', '--db', self.db))
 
     @over_sockets
-    def test_a_second_program_is_told(self):
+    def test_a_second_program_is_told(self) -> None:
         """Whichever it is, of a file that a desk holds: it leaves each byte as it was, and the desk
         goes on with its file."""
         with Serving(self.db, 2) as desk:
@@ -996,7 +1004,7 @@ class Exits(ProgramTest):
                 self.fault(b'Storage', words)
                 self.assertTrue(self.files() == before, words)
             self.assertEqual(desk.ask('POST', '/loads', b'{"load":"L2"}'), (200, b'{}'))
-            self.assertEqual((desk.process.wait(300), desk.process.stderr.read()), (0, b''))
+            self.assertEqual((desk.process.wait(300), desk.said.read()), (0, b''))
         self.assertEqual(
             run('report', '--db', self.db, 'stock'), (0, b'checking: 2\n  L1\n  L2\nleft: 0\n', b'')
         )

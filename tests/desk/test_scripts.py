@@ -4,6 +4,7 @@ and over one connection; the file is then read by another SQLite."""
 import os
 import tempfile
 import unittest
+from typing import Any
 
 from tests.support.programs import ROOT
 from tests.support.records import broken, rows_of
@@ -12,12 +13,12 @@ from tests.support.scripts import CUT, SCRIPTS, answers_of, bytes_of
 
 
 class Scripts(unittest.TestCase):
-    def check(self, lines, told):
+    def check(self, lines: Any, told: Any) -> None:
         self.assertEqual(len(told), len(lines))
         for line, (status, body) in zip(lines, told):
             self.assertEqual((status, body), line[2:], line[:2])
 
-    def test_in_memory(self):
+    def test_in_memory(self) -> None:
         for title, lines in SCRIPTS.items():
             with self.subTest(title):
                 status, out, said = run(
@@ -26,7 +27,7 @@ class Scripts(unittest.TestCase):
                 self.assertEqual((status, said), (0, b''))
                 self.check(lines, answers_of(out))
 
-    def test_each_request_by_a_program_of_its_own(self):
+    def test_each_request_by_a_program_of_its_own(self) -> None:
         for title, lines in SCRIPTS.items():
             with self.subTest(title), tempfile.TemporaryDirectory() as folder:
                 db = os.path.join(folder, 'script.db')
@@ -37,7 +38,7 @@ class Scripts(unittest.TestCase):
                 self.assertEqual(broken(rows_of(db)), [])
 
     @over_sockets
-    def test_over_one_connection(self):
+    def test_over_one_connection(self) -> None:
         for title, lines in SCRIPTS.items():
             with (
                 self.subTest(title),
@@ -45,7 +46,8 @@ class Scripts(unittest.TestCase):
                 Serving(os.path.join(folder, 'script.db')) as desk,
             ):
                 plain = desk.plain()
-                told, found = b'', []
+                told = b''
+                found: list[Any] = []
                 for number, line in enumerate(lines, 1):
                     plain.sendall(bytes_of(line))
                     while found is None or len(found) < number:
@@ -56,27 +58,26 @@ class Scripts(unittest.TestCase):
                 plain.close()
                 self.check(lines, found)
 
-    def test_each_call_of_the_page(self):
+    def check_example(self, name: str) -> list[tuple[int, str]]:
+        """A new desk answers each request of an example with 200; what it answers."""
+        with open(os.path.join(ROOT, 'examples', name), 'rb') as file:
+            data = file.read()
+        status, out, said = run('replay', '--db', 'memory', '--at', AT, stdin=data)
+        self.assertEqual((status, said), (0, b''))
+        told: list[tuple[int, str]] = answers_of(out)
+        self.assertEqual(len(told), len(requests_of(data)))
+        self.assertEqual({status for status, _ in told}, {200})
+        return told
+
+    def test_each_call_of_the_page(self) -> None:
         """`examples/calls.http` has each call in an order in which a new desk answers it with
         200."""
-        with open(os.path.join(ROOT, 'examples', 'calls.http'), 'rb') as file:
-            data = file.read()
-        status, out, said = run('replay', '--db', 'memory', '--at', AT, stdin=data)
-        self.assertEqual((status, said), (0, b''))
-        told = answers_of(out)
-        self.assertEqual(len(told), len(requests_of(data)))
-        self.assertEqual({status for status, _ in told}, {200})
+        self.check_example('calls.http')
 
-    def test_two_loads(self):
+    def test_two_loads(self) -> None:
         """`examples/two-loads.http`: L1 is picked at A, then L2 at C, where L1 is dropped; then L2
         is dropped at B."""
-        with open(os.path.join(ROOT, 'examples', 'two-loads.http'), 'rb') as file:
-            data = file.read()
-        status, out, said = run('replay', '--db', 'memory', '--at', AT, stdin=data)
-        self.assertEqual((status, said), (0, b''))
-        told = answers_of(out)
-        self.assertEqual(len(told), len(requests_of(data)))
-        self.assertEqual({status for status, _ in told}, {200})
+        told = self.check_example('two-loads.http')
         self.assertEqual(told[10][1], '{"job":"J1","load":"L1","place":"vehicle KIT/0001"}')
         stock = (
             'station A at N1: 0 of 1, reserved 0\nstation B at N3: 0 of 1, reserved 1\nstation C at'
@@ -90,7 +91,7 @@ class Scripts(unittest.TestCase):
         )
         self.assertEqual(told[14][1], stock)
 
-    def test_fronts_of_an_input(self):
+    def test_fronts_of_an_input(self) -> None:
         """Of two registrations and a cut one each front is served up to its last whole request, and
         then refused, or at its end."""
         first, second, _ = CUT

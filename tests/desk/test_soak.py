@@ -11,11 +11,12 @@ import sys
 import tempfile
 import unittest
 from unittest import mock
+from typing import Any
 
 from tests.support import calls
 from tests.model import tables
 from tests.model.desk import Model
-from tests.support.programs import ROOT, module
+from tests.support.programs import ROOT, matched, module
 from tests.support.records import FOLDER, broken
 from tests.support.sight import told
 from tests.support.streets import Streets, streets_for
@@ -62,7 +63,7 @@ model.answer = misreporting
 soak = module('soak', 'bench')
 
 
-def run(*words, limit=600):
+def run(*words: Any, limit: Any = 600) -> Any:
     env = dict(os.environ, **({'TMPDIR': FOLDER} if FOLDER else {}))
     return subprocess.run(
         [sys.executable, SOAK, *words], capture_output=True, text=True, timeout=limit, env=env
@@ -71,13 +72,13 @@ def run(*words, limit=600):
 
 @over_sockets
 class Soak(unittest.TestCase):
-    def test_a_short_run(self):
+    def test_a_short_run(self) -> None:
         words = ['--vehicles', '12', '--seconds', SECONDS, '--least', '300', '--seed', '7']
         done = run('--program', DESK, *words, limit=float(SECONDS) + 600)
         self.assertEqual((done.returncode, done.stderr), (0, ''), done.stdout)
         self.check(done.stdout, 300)
 
-    def check(self, text, least):
+    def check(self, text: str, least: int) -> None:
         """What a run says that has found nothing wrong."""
         said = re.search(
             r'^end: (\d+) requests in (\d+) s, (\d+) a second, each answered as the model says, and'
@@ -89,6 +90,7 @@ class Soak(unittest.TestCase):
             re.M,
         )
         self.assertIsNotNone(said, text)
+        assert said
         number, _, rate, share, slow, quick = map(float, said.groups())
         self.assertGreaterEqual(number, least)
         self.assertLessEqual(abs(rate / share - slow), 1 + slow * 0.06)
@@ -98,13 +100,13 @@ class Soak(unittest.TestCase):
 
 @over_sockets
 class OverAStandIn(Soak):
-    def setUp(self):
+    def setUp(self) -> None:
         self.folder = tempfile.TemporaryDirectory(dir=FOLDER)
 
-    def tearDown(self):
+    def tearDown(self) -> None:
         self.folder.cleanup()
 
-    def over(self, fault, vehicles, seconds):
+    def over(self, fault: str, vehicles: Any, seconds: Any) -> Any:
         program = os.path.join(self.folder.name, 'desk')
         with open(program, 'w') as file:
             file.write(STAND_IN % (sys.executable, ROOT, fault))
@@ -122,17 +124,17 @@ class OverAStandIn(Soak):
             '3',
         )
 
-    def test_a_short_run(self):
+    def test_a_short_run(self) -> None:
         done = self.over('', '9', '1')
         self.assertEqual((done.returncode, done.stderr), (0, ''), done.stdout)
         self.check(done.stdout, 100)
 
-    def test_memory_that_grows(self):
+    def test_memory_that_grows(self) -> None:
         done = self.over(LEAKS, '3', '1.5')
         self.assertEqual((done.returncode, done.stderr), (1, ''), done.stdout)
         early, late, more, allowed = map(
             int,
-            re.search(
+            matched(
                 r'^memory: (\d+) kB after a tenth of the run and (\d+) kB at its end, (\d+) kB more'
                 r' where (\d+) may be: '
                 r'it grows$',
@@ -143,7 +145,7 @@ class OverAStandIn(Soak):
         self.assertEqual(late - early, more)
         self.assertGreater(more, allowed)
 
-    def test_a_report_of_the_file_that_is_wrong(self):
+    def test_a_report_of_the_file_that_is_wrong(self) -> None:
         done = self.over(MISREPORTS, '2', '0.5')
         self.assertEqual(done.returncode, 1)
         self.assertRegex(
@@ -153,7 +155,7 @@ class OverAStandIn(Soak):
 
 
 class Words(unittest.TestCase):
-    def test_more_vehicles_than_a_desk_has(self):
+    def test_more_vehicles_than_a_desk_has(self) -> None:
         for number in ('0', '101'):
             done = run('--vehicles', number)
             self.assertEqual((done.returncode, done.stdout), (2, ''))
@@ -163,7 +165,7 @@ class Words(unittest.TestCase):
                 done.stderr,
             )
 
-    def test_help(self):
+    def test_help(self) -> None:
         said = ' '.join(run('--help').stdout.split())
         self.assertIn('1 to 100, the most that a desk has', said)
         self.assertIn(
@@ -173,7 +175,7 @@ class Words(unittest.TestCase):
 
 
 class Growth(unittest.TestCase):
-    def test_what_may_come(self):
+    def test_what_may_come(self) -> None:
         """Some megabytes besides; the pages that the file has more, as far as they are kept; half a
         kB for a load."""
         for early, late, wanted in (
@@ -187,7 +189,7 @@ class Growth(unittest.TestCase):
             self.assertEqual(soak.grown(early, late), wanted)
 
 
-def acted(**statuses):
+def acted(**statuses: Any) -> list[tuple[Any, Any]]:
     """The statuses of actions, `O1_0='FINISHED'` that of `O1.0`."""
     return [(name.replace('_', '.'), status) for name, status in statuses.items()]
 
@@ -204,30 +206,30 @@ class ByHand(unittest.TestCase):
     N02-00 < N02-01 < N02-02
     """
 
-    def setUp(self):
+    def setUp(self) -> None:
         self.model, self.streets = Model(), Streets(3, 3)
         self.done(calls.layout(self.streets.rows()))
 
-    def ask(self, call):
+    def ask(self, call: Any) -> Any:
         return told(self.model, call)
 
-    def done(self, *asked):
+    def done(self, *asked: Any) -> None:
         for call in asked:
             self.assertEqual(self.ask(call)[0], 200, call)
 
-    def refusal(self, call):
+    def refusal(self, call: Any) -> Any:
         """The name of the refusal that a call earns."""
         status, said = self.ask(call)
         self.assertGreaterEqual(status, 400, call)
         return said['name']
 
-    def held(self):
+    def held(self) -> Any:
         return {'%s %s' % row[:2]: row[3] for row in self.model.rows()['hold']}
 
-    def place(self, load):
+    def place(self, load: str) -> Any:
         return self.ask(calls.get_load(load))[1]['place']
 
-    def test_the_layout(self):
+    def test_the_layout(self) -> None:
         self.assertEqual(
             self.model.layout.stations,
             {
@@ -241,7 +243,7 @@ class ByHand(unittest.TestCase):
         route = ['N01-01.N01-00', 'N01-00.N00-00', 'N00-00.B00-00']
         self.assertEqual(self.model.layout.route('N01-01', 'B00-00'), route)
 
-    def test_layouts_for_so_many_vehicles(self):
+    def test_layouts_for_so_many_vehicles(self) -> None:
         """They are within the limits of a desk and of a request, and each of their nodes leads to
         each."""
         for vehicles in (1, 2, 20, 63, 100):
@@ -255,7 +257,7 @@ class ByHand(unittest.TestCase):
             for target in streets.nodes:
                 self.assertEqual(len(streets.hops_to(target)), len(streets.nodes))
 
-    def test_a_transport_by_hand(self):
+    def test_a_transport_by_hand(self) -> None:
         self.done(
             calls.vehicle('0001', 'N00-00'),
             calls.vehicle('0002', 'N00-02'),
@@ -293,7 +295,7 @@ class ByHand(unittest.TestCase):
         self.assertEqual(self.ask(calls.advance('O1', 1, 2)), (409, held))
         self.assertEqual(broken(self.model.rows()), [])
 
-    def test_an_order_of_two_jobs_by_hand(self):
+    def test_an_order_of_two_jobs_by_hand(self) -> None:
         """The loads are picked up at one bay and put down in another order; what is dropped first
         fails."""
         self.done(
@@ -319,7 +321,7 @@ class ByHand(unittest.TestCase):
             [act['actionParameters'][3]['value'] for act in nodes[1]['actions']], ['L1', 'L2']
         )
 
-        def at_the_first_drop(**statuses):
+        def at_the_first_drop(**statuses: Any) -> Any:
             return calls.state(2, 'O1', 0, 'B02-00', 14, acted(**statuses))
 
         self.assertEqual(
@@ -337,7 +339,7 @@ class ByHand(unittest.TestCase):
         self.assertEqual([self.model.coming(station) for station in ('S01-01a', 'S02-00a')], [0, 0])
         self.assertEqual(broken(self.model.rows()), [])
 
-    def test_orders_that_are_refused(self):
+    def test_orders_that_are_refused(self) -> None:
         self.done(calls.vehicle('0001', 'N00-00', 2))
         for number, station in enumerate(('S00-00a', 'S00-00b', 'S01-01a'), 1):
             self.done(
@@ -345,7 +347,7 @@ class ByHand(unittest.TestCase):
             )
         pick, drop = ('pick', 'J1'), ('drop', 'J1')
 
-        def refused(stops):
+        def refused(stops: Any) -> Any:
             return self.refusal(calls.order_of_stops('O1', stops, 0))
 
         for stops in (
@@ -365,7 +367,7 @@ class ByHand(unittest.TestCase):
             self.assertEqual(self.refusal(calls.vehicle('0002', 'N00-01', capacity)), 'Limit')
             self.assertEqual(self.refusal(calls.vehicle('0002', 'N00-00', capacity)), 'Held')
 
-    def test_limits(self):
+    def test_limits(self) -> None:
         """They are the last of the refusals of a call, and nothing is changed."""
         self.done(
             calls.vehicle('0001', 'N00-00'),
@@ -406,7 +408,7 @@ class ByHand(unittest.TestCase):
 class AtRandom(unittest.TestCase):
     """The model and the traffic alone."""
 
-    def requests(self, vehicles, number, seed=1):
+    def requests(self, vehicles: int, number: int, seed: int = 1) -> tuple[Any, Any]:
         """So many requests behind the beginning, each with its answer; and the model after them,
         whose rows break no rule."""
         found = Model()
@@ -415,7 +417,7 @@ class AtRandom(unittest.TestCase):
         self.assertEqual(broken(found.rows()), [])
         return asked, found
 
-    def test_work_flows(self):
+    def test_work_flows(self) -> None:
         """Much of the work is done, although vehicles are in one another's way."""
         for vehicles, number, part, least in ((20, 4000, 0.3, 30), (100, 6000, 0.03, 5)):
             _, found = self.requests(vehicles, number)
@@ -423,7 +425,7 @@ class AtRandom(unittest.TestCase):
             self.assertGreater(phases['done'], phases.total() * part)
             self.assertGreater(phases['done'], least)
 
-    def test_what_occurs(self):
+    def test_what_occurs(self) -> None:
         asked, found = self.requests(12, 10000)
         self.assertEqual({row[-1] for row in found.rows()['capacity']}, {1, 2, 3, 4})
         orders = [
@@ -443,6 +445,14 @@ class AtRandom(unittest.TestCase):
             != [job for kind, job in one if kind == 'drop']
         ]
         self.assertGreater(len(crossed), 5)
+        drives = [answer for call, answer in asked if call.target == '/drives']
+        self.assertGreater(sum(answer[0] == 200 for answer in drives), 20)
+        self.assertIn('Held', {answer[1].get('name') for answer in drives})
+        told_of = [answer[1] for call, answer in asked if call.target.endswith('/phase')]
+        self.assertEqual(
+            {answer.get('phase', answer.get('name')) for answer in told_of},
+            {'waiting', 'riding', 'done', 'stopped', 'NoJob'},
+        )
         taken = [
             call.body
             for call, answer in asked
@@ -455,20 +465,16 @@ class AtRandom(unittest.TestCase):
         self.assertTrue(
             any(act['actionStatus'] == 'FAILED' for body in taken for act in body['actionStates'])
         )
-        for ends in (
-            '/resync',
-            '/cancel',
-            '/pause',
-            '/resume',
-            '/advance',
-            '/place',
-            '/correct',
-            '/leave',
-        ):
+        words = 'resync cancel pause resume advance place correct leave'
+        for ends in [f'/{word}' for word in words.split()]:
             self.assertTrue(
                 any(call.target.endswith(ends) and answer[0] == 200 for call, answer in asked), ends
             )
         self.assertTrue(any(answer == (200, {'accepted': False}) for _, answer in asked))
+        self.check_refusals(asked)
+
+    def check_refusals(self, asked: Any) -> None:
+        """Each refusal that traffic can meet occurs, the rare ones at times."""
         refused = {answer[1]['name'] for _, answer in asked if answer[0] >= 400}
         often = (
             'ActionBackwards ActionEarly ActionTwice Backwards BadStops Beyond BeyondBase Busy'
@@ -483,7 +489,7 @@ class AtRandom(unittest.TestCase):
         )
         self.assertGreater(len(refused & set(rare.split())), 4)
 
-    def test_a_seed_gives_the_same_requests(self):
+    def test_a_seed_gives_the_same_requests(self) -> None:
         one, other = (self.requests(5, 500)[0] for _ in range(2))
         self.assertEqual(one, other)
 

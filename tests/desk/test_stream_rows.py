@@ -10,6 +10,7 @@ import os
 import select
 import subprocess
 import unittest
+from typing import Any
 
 from tests.support import script_texts
 from tests.support import tracing
@@ -27,7 +28,7 @@ STANDARD = {'read': 0, 'write': 1}
 CLOSE = 'Connection: close\r\n'
 
 
-def answer(status, body, kind='application/json', more=''):
+def answer(status: int, body: Any, kind: str = 'application/json', more: str = '') -> Any:
     """The bytes of an answer; `more` are the lines of its head behind those that each has."""
     head = (
         f'HTTP/1.1 {status} {REASONS[status]}\r\nContent-Length: {len(body)}\r\nContent-Type:'
@@ -36,16 +37,16 @@ def answer(status, body, kind='application/json', more=''):
     return (head + body).encode()
 
 
-def refused(status, name, number, more=''):
+def refused(status: int, name: str, number: int, more: str = '') -> Any:
     return answer(status, f'{{"name":"{name}","refusal":{number}}}', more=more)
 
 
-def last(status, name, number):
+def last(status: int, name: str, number: int) -> Any:
     """A refusal that ends its stream."""
     return refused(status, name, number, CLOSE)
 
 
-def head(text):
+def head(text: str) -> bytes:
     """The bytes of a head or of what comes of a request, in which `~` is the end of a line."""
     return text.replace('~', '\r\n').encode()
 
@@ -61,7 +62,7 @@ BAD_HEAD = last(400, 'BadHead', 1)
 
 # Streams that come one after another, each by its requests and its answers. The last answer of one
 # that ends before its input says so.
-INPUTS = {
+INPUTS: dict[str, list[tuple[list[bytes], list[bytes]]]] = {
     'a load is registered and asked for, and both once more': [
         ([L1, GET_L1], [DONE, AT_L1]),
         ([L1, GET_L1], [refused(409, 'Exists', 30), AT_L1]),
@@ -185,16 +186,24 @@ FIRST = Script([L1, GET_L1]), [DONE, AT_L1]
 THREE = Script(CUT, cut=True), [DONE, DONE, BAD_HEAD]
 
 
-@unittest.skipIf(LACKS, LACKS)
+@unittest.skipIf(LACKS is not None, LACKS or '')
 class StreamRows(FaultTest):
     cuts = 0
 
-    def serve(self, stdin, pace, words=None, at=None, told=None):
+    def serve(
+        self,
+        stdin: bytes,
+        pace: Any,
+        words: str | None = None,
+        at: Any = None,
+        told: Any = None,
+    ) -> tuple[Any, Any]:
         """The program serves a stream at this pace; one of its reads or writes, as `('read', 2)`,
         is told something else. It gives how many of each there were."""
-        counts, sizes = collections.Counter(), dict(zip(STANDARD, pace))
+        counts: collections.Counter[Any] = collections.Counter()
+        sizes = dict(zip(STANDARD, pace))
 
-        def on_call(call):
+        def on_call(call: Any) -> Any:
             if call.file != STANDARD[call.name]:
                 return None
             counts[call.name] += 1
@@ -202,7 +211,7 @@ class StreamRows(FaultTest):
 
         return tracing.run(words or self.words, list(STANDARD), on_call, stdin), counts
 
-    def check(self, stdin, answers, pace, words=None):
+    def check(self, stdin: Any, answers: Any, pace: Any, words: Any = None) -> None:
         """The stream is answered so, in pieces of the sizes of this pace."""
         ended, counts = self.serve(stdin, pace, words)
         self.assertEqual((ended.status, ended.out, ended.said), (0, answers, b''))
@@ -210,7 +219,7 @@ class StreamRows(FaultTest):
         if CLOSE.encode() not in answers:
             self.assertGreater(counts['read'] * pace[0], len(stdin))
 
-    def test_inputs(self):
+    def test_inputs(self) -> None:
         for title, streams in INPUTS.items():
             for pace in [None, *PACES]:
                 remove(self.db)
@@ -222,7 +231,7 @@ class StreamRows(FaultTest):
                         else:
                             self.assertEqual(run(*self.words[1:], stdin=stdin), (0, wanted, b''))
 
-    def test_scripts(self):
+    def test_scripts(self) -> None:
         """The scripts of crates/agv_tests_support; where one has several moments, each by a program
         of its own, on one file."""
         scripts = {
@@ -247,7 +256,7 @@ class StreamRows(FaultTest):
                         else:
                             self.assertEqual(run(*words[1:], stdin=stdin), (0, answers, b''))
 
-    def test_beginnings(self):
+    def test_beginnings(self) -> None:
         for reads, stdin, answers, fails in BEGINNINGS:
             with self.subTest(stdin=stdin, reads=reads):
                 ended, counts = self.serve(
@@ -259,7 +268,7 @@ class StreamRows(FaultTest):
                 )
                 self.assertEqual(counts['read'], reads + fails)
 
-    def cut(self, stdin, at, told, out, fault, known):
+    def cut(self, stdin: bytes, at: Any, told: Any, out: Any, fault: Any, known: Any) -> None:
         """A read or a write of a byte fails: what has been answered then, and whether the next
         program on the file knows L1."""
         remove(self.db)
@@ -269,11 +278,11 @@ class StreamRows(FaultTest):
         self.assertEqual(run(*self.words[1:], stdin=GET_L1), (0, AT_L1 if known else NO_LOAD, b''))
         self.cuts += 1
 
-    def tearDown(self):
+    def tearDown(self) -> None:
         if ALL and self.cuts:
             print(f'{self.cuts} streams that were cut')
 
-    def test_reads_that_fail(self):
+    def test_reads_that_fail(self) -> None:
         """Behind each byte, at the last one too: each request that has come whole is answered."""
         for script, answers in (FIRST, THREE):
             stdin = b''.join(script.requests)
@@ -289,7 +298,7 @@ class StreamRows(FaultTest):
                         whole > 0,
                     )
 
-    def test_writes_that_fail(self):
+    def test_writes_that_fail(self) -> None:
         """Before each third byte, or the write takes none: the call whose answer is cut stands. All
         bytes are tried where FAULTS is `all`."""
         for script, answers in (FIRST, THREE):
@@ -301,12 +310,13 @@ class StreamRows(FaultTest):
 
 
 class Patient(FaultTest):
-    def test_an_answer_before_the_next_request(self):
+    def test_an_answer_before_the_next_request(self) -> None:
         """Each request is sent once the whole answer to the one before has come."""
         with subprocess.Popen(
             self.words, stdin=subprocess.PIPE, stdout=subprocess.PIPE, stderr=subprocess.PIPE
         ) as desk:
             try:
+                assert desk.stdin and desk.stdout
                 for asked, answered in zip([L1, GET_L1, GET_L2], [DONE, AT_L1, NO_LOAD]):
                     desk.stdin.write(asked)
                     desk.stdin.flush()

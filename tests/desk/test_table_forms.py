@@ -330,7 +330,7 @@ INSERT INTO act (rowid, order_id, n, job, kind, place_at, status) VALUES
 
 
 class TableForms(FormsTest):
-    def test_the_same_rules(self):
+    def test_the_same_rules(self) -> None:
         """A whole transport is served, and told by the next start."""
         for form, text in {**SAME, **SAME_SECOND}.items():
             with self.subTest(form):
@@ -339,13 +339,13 @@ class TableForms(FormsTest):
                 self.check_transport()
                 self.assertEqual(broken(rows_of(self.db)), [])
 
-    def test_other_rules(self):
+    def test_other_rules(self) -> None:
         for form, text in {**OTHER, **OTHER_SECOND}.items():
             with self.subTest(form):
                 self.write(2, text)
                 self.check_refused('replay', '--db', self.db, '--at', AT)
 
-    def test_the_same_rules_migrated(self):
+    def test_the_same_rules_migrated(self) -> None:
         """A file of the first schema with an open trip has the rows of the second one."""
         for form, text in SAME.items():
             with self.subTest(form):
@@ -357,13 +357,13 @@ class TableForms(FormsTest):
                 self.assertEqual(broken(rows), [])
                 self.assertEqual(told(self.db).reasons, [])
 
-    def test_other_rules_migrated(self):
+    def test_other_rules_migrated(self) -> None:
         for form, text in OTHER.items():
             with self.subTest(form):
                 self.write(1, text)
                 self.check_refused('migrate', '--db', self.db)
 
-    def test_all_tables_typed_by_hand(self):
+    def test_all_tables_typed_by_hand(self) -> None:
         """An open order is told, and carried out."""
         self.execute(BY_HAND)
         self.assertEqual((told(self.db).reasons, broken(rows_of(self.db))), ([], []))

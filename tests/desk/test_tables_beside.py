@@ -5,8 +5,9 @@ import contextlib
 import sqlite3
 import tempfile
 import unittest
+from typing import Any
 
-from nulvrader.file.rows import TABLES
+from nulvrader.file.tables import TABLES
 from tests.support.records import FOLDER, copied
 from tests.support.desks import AT
 from tests.support.forms import FormsTest, plain
@@ -159,7 +160,7 @@ NO_DESK = {
 
 
 class Beside(FormsTest):
-    def made(self):
+    def made(self) -> tuple[Any, Any]:
         """What SQLite lists of the file, and the rows of each table of others."""
         with (
             tempfile.TemporaryDirectory(dir=FOLDER) as folder,
@@ -172,7 +173,7 @@ class Beside(FormsTest):
                 name: base.execute('SELECT * FROM ' + name).fetchall() for name in others
             }
 
-    def test_what_may_be_beside(self):
+    def test_what_may_be_beside(self) -> None:
         """A desk begins beside it, without the index whose name is taken, and serves a transport;
         what others have stays."""
         for what, (before, behind) in BESIDE.items():
@@ -199,7 +200,7 @@ class Beside(FormsTest):
                     [True] * ('UNIQUE' in behind),
                 )
 
-    def test_what_may_not_be_beside(self):
+    def test_what_may_not_be_beside(self) -> None:
         for what, behind in NOT_BESIDE.items():
             with self.subTest(what):
                 self.remove()
@@ -207,12 +208,12 @@ class Beside(FormsTest):
                 self.execute(behind)
                 self.check_refused('replay', '--db', self.db, '--at', AT)
 
-    def test_a_foreign_key_from_the_start(self):
+    def test_a_foreign_key_from_the_start(self) -> None:
         """A table of others that has referred to one of the desk's before that was made."""
         self.write(2, plain('load'), before='CREATE TABLE note (load TEXT REFERENCES load);')
         self.check_refused('replay', '--db', self.db, '--at', AT)
 
-    def test_where_no_desk_begins(self):
+    def test_where_no_desk_begins(self) -> None:
         for what, before in NO_DESK.items():
             with self.subTest(what):
                 self.remove()

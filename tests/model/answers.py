@@ -1,6 +1,7 @@
 """What is only asked: messages, loads, vehicles, the reports and the export."""
 import datetime
 
+from tests.model.bodies import check
 from tests.model.orders import OF_VEHICLE
 
 
@@ -103,6 +104,25 @@ def place_text(row):
 def get_load(desk, load, _):
     row = desk.load(load)
     return {'job': desk.live_job(load), 'load': load, 'place': place_text(row)}
+
+
+def get_job(desk, job, _):
+    row = desk.one('SELECT * FROM job WHERE id = ?', job)
+    check(row is None, 'NoJob')
+    rider = desk.one(
+        "SELECT order_id, manufacturer, serial FROM act JOIN journey USING (order_id)"
+        " WHERE job = ? AND kind = 'drop' AND status <> 'FINISHED'",
+        job,
+    )
+    return {
+        'from': row['origin'],
+        'job': job,
+        'load': row['load'],
+        'order': rider['order_id'] if rider else None,
+        'phase': row['phase'],
+        'to': row['target'],
+        'vehicle': f'{rider["manufacturer"]}/{rider["serial"]}' if rider else None,
+    }
 
 
 def get_vehicle(desk, manufacturer, serial, _):

@@ -54,6 +54,33 @@ def start_order(desk, body):
     check(not vehicle['ready'], 'NotReady')
     check(vehicle['pending'] == 'cancelOrder', 'InstantPending')
     way, places = plan(desk, vehicle['node'], stops, jobs)
+    send(desk, key, vehicle, order, way, edges)
+    acts = [(order, n, job, kind, at) for n, ((kind, job), at) in enumerate(zip(stops, places))]
+    desk.base.executemany("INSERT INTO act VALUES (?, ?, ?, ?, ?, 'WAITING')", acts)
+    desk.base.executemany("UPDATE job SET phase = 'riding' WHERE id = ?", [(job,) for job in jobs])
+    return {'orderUpdateId': 0}
+
+
+def start_drive(desk, body):
+    told = read_body(body)
+    order, *key, to = names(told, 'order', 'manufacturer', 'serialNumber', 'to')
+    key, edges = tuple(key), number(told, 'edges')
+    check(desk.is_used('order', order), 'Exists')
+    vehicle = desk.vehicle(key)
+    check(to not in desk.layout.nodes, 'NoNode')
+    check(vehicle['reported'] == order, 'OrderKnown')
+    check(desk.has_trip(key), 'Busy')
+    check(vehicle['rest_node'] is not None, 'Astray')
+    check(not vehicle['ready'], 'NotReady')
+    check(vehicle['pending'] == 'cancelOrder', 'InstantPending')
+    way = desk.layout.route(vehicle['node'], to)
+    check(not way, 'NoWalk')
+    send(desk, key, vehicle, order, way, edges)
+    return {'orderUpdateId': 0}
+
+
+def send(desk, key, vehicle, order, way, edges):
+    """Sends an order over this way to a vehicle, with so many of its edges released."""
     check(len(way) > 200, 'TooLong')
     check(edges > len(way), 'Beyond')
     wanted = things([vehicle['node']] + [desk.layout.edges[edge][1] for edge in way], way, 0, edges)
@@ -67,16 +94,12 @@ def start_order(desk, body):
         vehicle['node'],
         edges,
     )
-    acts = [(order, n, job, kind, at) for n, ((kind, job), at) in enumerate(zip(stops, places))]
-    desk.base.executemany("INSERT INTO act VALUES (?, ?, ?, ?, ?, 'WAITING')", acts)
     desk.base.executemany(
         'INSERT INTO leg VALUES (?, ?, ?)', [(order, k, edge) for k, edge in enumerate(way)]
     )
-    desk.base.executemany("UPDATE job SET phase = 'riding' WHERE id = ?", [(job,) for job in jobs])
     desk.put(SENT, desk.now, *key)
     desk.use('order', order)
     desk.hold(key, wanted)
-    return {'orderUpdateId': 0}
 
 
 def jobs_of(desk, stops):

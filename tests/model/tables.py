@@ -1,8 +1,7 @@
 """What the model keeps: the fourteen tables with the indexes of docs/TABLES.md, over a connection
 of SQLite, and beside them the layout in memory. And the questions and the writes that several calls
 have in common."""
-from nulvrader.file.database import SHAPES
-from nulvrader.file.rows import TABLES, columns
+from nulvrader.file.tables import KEYS, TABLES, columns, columns_of
 
 from tests.model.bodies import check
 
@@ -20,15 +19,11 @@ INDEXES = {
 def schema():
     """The statements that make the tables, where there are none yet."""
     made = []
-    for table, (names, (primary, *others)) in SHAPES.items():
+    for table, (primary, *others) in KEYS.items():
         parts = [
-            '%s %s%s'
-            % (
-                name.rstrip('#?'),
-                'INT' if '#' in name else 'TEXT',
-                '' if '?' in name else ' NOT NULL',
-            )
-            for name in names.split()
+            f'{column.name} {"INT" if column.is_number else "TEXT"}'
+            f'{"" if column.may_be_null else " NOT NULL"}'
+            for column in columns_of(table)
         ]
         parts += [
             f'PRIMARY KEY ({primary.replace(" ", ", ")})',

@@ -1,18 +1,16 @@
 -- The exact bytes of the exports of jobs and vehicles (this project's formats).
-use Rattle.std.specs.Prelude.{ℕ, Bool, true, false, ◌&&◌, nat_eq, List, [], ◌++◌, map, length, filter, find, codes, decimal, Option, None, Some, is_some}
-use Rattle.std.specs.Cmp.Lexicographic.{pointwise}
+use Rattle.std.specs.Prelude.{ℕ, Bool, true, false, List, [], ◌++◌, map, length, filter, find, codes, decimal, Option, None, Some, is_some}
 use Rattle.std.specs.FinMap as finite
-use Rattle.std.specs.List.{flat_map, list_any}
+use Rattle.std.specs.List.{flat_map}
+use Rattle.std.specs.Option.{option_map}
 use Rattle.agv_header.specs.declared.key.VehicleKey.{VehicleKey}
 use Rattle.agv_message_core.specs.Instant.{instant_name}
 use Rattle.agv_count.specs.Reports.{line}
-use Rattle.agv_order.specs.declared.act.Act.{Act}
 use Rattle.agv_order.specs.declared.trip.Trip.{Trip}
-use Rattle.agv_stock.specs.Phase.{is_live}
-use Rattle.agv_stock.specs.declared.job.Phase.{Phase}
-use Rattle.agv_stock.specs.declared.job.Phase.TheVariants as phase
-use Rattle.agv_world_core.specs.Lawful.{is_to_drop}
+use Rattle.agv_stock.specs.Phase.{is_live, phase_name}
+use Rattle.agv_world_core.specs.Riders.{has_drop_of}
 use Rattle.agv_world_core.specs.Worlds.{Vehicle, World}
+use Rattle.agv_world_core.specs.declared.floor.Rider.{Rider}
 use Rattle.agv_world_core.specs.declared.row.JobRow.{JobRow}
 use Rattle.agv_world_core.specs.declared.row.VehicleRow.{VehicleRow}
 use Rattle.agv_count_exports.specs.declared.told.VehicleTold.{VehicleTold}
@@ -43,27 +41,15 @@ abbrev pub truth_word : Bool → List ℕ
 truth_word true = codes "true"
 truth_word false = codes "false"
 
--- the word for the phase of a job
-abbrev pub phase_word : Phase → List ℕ
-phase_word phase.Waiting = codes "waiting"
-phase_word phase.Riding = codes "riding"
-phase_word phase.Done = codes "done"
-phase_word phase.Stopped = codes "stopped"
-
 -- ---- jobs
-
--- the act is an unfinished drop of the job
-abbrev pub is_drop_of : List ℕ → Act → Bool
-is_drop_of job act = is_to_drop act && pointwise nat_eq act.job job
-
--- the trip, if there is one, has an unfinished drop of the job
-abbrev pub has_drop_of : List ℕ → Option Trip → Bool
-has_drop_of job None = false
-has_drop_of job (Some trip) = list_any (is_drop_of job) trip.acts
 
 -- the vehicle whose open trip has an unfinished drop of the job, if any: the first one of the list
 abbrev pub rider_of : List VehicleTold → List ℕ → Option VehicleTold
 rider_of vehicles job = find (λ (vehicle : VehicleTold). has_drop_of job vehicle.trip) vehicles
+
+-- the vehicle, with the name of its open trip's order; none if it has no open trip
+abbrev pub ride_of : VehicleTold → Option Rider
+ride_of vehicle = option_map (λ (trip : Trip). record { vehicle = vehicle.key; order = trip.order }) vehicle.trip
 
 -- the name of a trip's order, if there is a trip
 abbrev pub order_name : Option Trip → List ℕ
@@ -76,7 +62,7 @@ rider_text (Some vehicle) = vehicle.key.manufacturer ++ (after_comma vehicle.key
 
 -- the fields of a job that its row has, as `J1,L1,A,B,riding`
 abbrev pub job_text : List ℕ × JobRow → List ℕ
-job_text job = job.0 ++ (after_comma job.1.load ++ (after_comma job.1.origin ++ (after_comma job.1.target ++ after_comma (phase_word job.1.phase))))
+job_text job = job.0 ++ (after_comma job.1.load ++ (after_comma job.1.origin ++ (after_comma job.1.target ++ after_comma (phase_name job.1.phase))))
 
 -- the line of a job, as `J1,L1,A,B,riding,KIT,0001,O1` or `J2,L2,A,B,waiting,,,`
 abbrev pub job_line : List VehicleTold → List ℕ × JobRow → List ℕ

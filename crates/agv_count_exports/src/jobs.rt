@@ -1,13 +1,12 @@
 //! The export of jobs.
 ghost use Rattle.std.specs.Prelude.{◌≡◌, ◌++◌, IfOk, OnOk, string_bytes};
-ghost use Rattle.std.specs.List.{list_any};
 ghost use Rattle.std.specs.Option.{option_copied};
-ghost use Rattle.agv_count_exports.specs.Exports.{has_drop_of, is_drop_of, job_line, job_text, jobs_text, order_name, phase_word, rider_of, rider_text};
+ghost use Rattle.agv_count_exports.specs.Exports.{job_line, job_text, jobs_text, order_name, rider_of, rider_text};
 
 use crate::VehicleTold;
+use crate::riders::rider_of;
 use agv_header::{Memory, Name};
-use agv_order::{Act, Trip, is_drop, is_finished};
-use agv_stock::Phase;
+use agv_order::Trip;
 use agv_world_core::JobRow;
 use std::alloc::Global;
 
@@ -57,20 +56,8 @@ fn write_row(out: &mut String, job: Name, row: JobRow) -> Result<(), Memory>
 {
     write!(out, "{job},{},", row.load)?;
     write!(out, "{},{},", row.origin, row.target)?;
-    write!(out, "{}", phase_word(row.phase))?;
+    write!(out, "{}", row.phase.name())?;
     Ok(())
-}
-
-/// Returns the word for a phase.
-fn phase_word(phase: Phase) -> &'static str
-    ensures { result.now ≡ phase_word phase }
-{
-    match phase {
-        Phase::Waiting => "waiting",
-        Phase::Riding => "riding",
-        Phase::Done => "done",
-        Phase::Stopped => "stopped",
-    }
 }
 
 /// Writes the fields of a job's vehicle and of its order, which are empty without a vehicle.
@@ -96,37 +83,4 @@ fn write_order(out: &mut String, trip: &Option<Trip>) -> Result<(), Memory>
         None => {}
     }
     Ok(())
-}
-
-/// Returns the first vehicle whose open trip has an unfinished drop of the job, if any.
-fn rider_of(vehicles: &[VehicleTold], job: Name) -> Option<&VehicleTold>
-    ensures { option_copied result ≡ rider_of vehicles.now job }
-{
-    vehicles
-        .iter()
-        .find(|vehicle| has_drop_of(job, &vehicle.trip))
-}
-
-/// Returns whether there is a trip, and it has an unfinished drop of the job.
-fn has_drop_of(job: Name, trip: &Option<Trip>) -> bool
-    ensures { result ≡ has_drop_of job trip.now }
-{
-    match trip {
-        Some(trip) => has_drop_among(job, trip.acts.as_slice()),
-        None => false,
-    }
-}
-
-/// Returns whether one of the acts is an unfinished drop of the job.
-fn has_drop_among(job: Name, acts: &[Act]) -> bool
-    ensures { result ≡ list_any (is_drop_of job) acts.now }
-{
-    acts.iter().any(|act| is_drop_of(job, act))
-}
-
-/// Returns whether the act is an unfinished drop of the job.
-fn is_drop_of(job: Name, act: &Act) -> bool
-    ensures { result ≡ is_drop_of job act.now }
-{
-    is_drop(act.kind) && !is_finished(act.status) && act.job == job
 }

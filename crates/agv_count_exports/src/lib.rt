@@ -2,13 +2,15 @@
 //!
 //! [`jobs_csv`] writes the live jobs and [`vehicles_csv`] the vehicles as CSV, byte for byte as `specs/Exports.antt`
 //! says, or they return [`Memory`](agv_header::Memory). No field needs quotes: names have no comma, no quote and no
-//! end of a line.
+//! end of a line. [`rider`] finds the vehicle that carries out a job.
 #![tactic(auto)]
 
 mod jobs;
+mod riders;
 mod told;
 mod vehicles;
 
 pub use jobs::jobs_csv;
+pub use riders::rider;
 pub use told::VehicleTold;
 pub use vehicles::vehicles_csv;

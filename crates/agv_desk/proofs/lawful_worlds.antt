@@ -4,6 +4,7 @@ pub mod LawfulSteps
 pub mod LawfulVehicles
 pub mod LawfulVehiclesGiven
 pub mod LawfulVehiclesOrders
+pub mod LawfulVehiclesDrives
 pub mod LawfulVehiclesPlain
 pub mod LawfulVehiclesRows
 pub mod LawfulVehiclesStates

@@ -7,6 +7,7 @@ pub mod Laying
 pub mod LayoutRows
 pub mod MovesTold
 pub mod OrderRows
+pub mod DriveRows
 pub mod PlainSteps
 pub mod StateRows
 pub mod Steps

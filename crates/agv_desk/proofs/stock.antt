@@ -4,6 +4,7 @@ pub mod StockChecks
 pub mod StockInvariantChanges
 pub mod StockInvariantCounts
 pub mod StockInvariantOrders
+pub mod StockInvariantDrives
 pub mod StockInvariantSteps
 pub mod StockInvariantStock
 pub mod StockInvariantTrips

@@ -16,6 +16,7 @@ adds_to (call.CorrectLoad load reference station) = Some counted.References
 adds_to (call.LeaveLoad load reference) = Some counted.References
 adds_to (call.AddJob job load to) = Some counted.Jobs
 adds_to (call.StartOrder order key stops edges) = Some counted.Orders
+adds_to (call.StartDrive order key to edges) = Some counted.Orders
 adds_to (call.PlaceVehicle key reference node) = Some counted.References
 adds_to (call.Stocktake reference rows) = Some counted.References
 adds_to _ = None

@@ -8,6 +8,7 @@ pub mod ActSteps
 pub mod InstantSteps
 pub mod VehicleSteps
 pub mod OrderSteps
+pub mod DriveSteps
 pub mod OrderParts
 pub mod StateSteps
 pub mod StocktakeSteps

@@ -1,9 +1,10 @@
--- Parts of POST /orders, from a later check on, for the functions that carry it out in parts. No public clause cites this.
-use Rattle.std.specs.Prelude.{◌+◌, nat_lt, nat_le, not, is_none, count_by, List, Some}
+-- Parts of POST /orders and POST /drives, from a later check on, for the functions that carry it out in parts. No public clause cites this.
+use Rattle.std.specs.Prelude.{◌+◌, nat_lt, nat_le, not, is_none, count_by, List, [], Some}
 use Rattle.std.specs.List.{list_all}
 use Rattle.agv_header.specs.Count.{next_number}
 use Rattle.agv_header.specs.Limits.{most_records}
 use Rattle.agv_header.specs.declared.refusal.Refusal.TheVariants as refusal
+use Rattle.agv_order.specs.Drives.{drive_planned}
 use Rattle.agv_order.specs.Plans.{planned}
 use Rattle.agv_order.specs.StopPlaces.{stop_picks}
 use Rattle.agv_order.specs.declared.trip.Trip.{Trip}
@@ -13,6 +14,7 @@ use Rattle.agv_world_core.specs.Questions.{trip_of, loads_on, layout_set, count_
 use Rattle.agv_world_core.specs.Worlds.{World}
 use Rattle.agv_world_core.specs.declared.floor.Counted.TheVariants as counted
 use Rattle.agv_world_core.specs.declared.row.VehicleRow.{VehicleRow}
+use Rattle.agv_desk.specs.DriveSteps.{AskedDrive, drive_sent}
 use Rattle.agv_desk.specs.OrderSteps.{AskedOrder, if_planned, is_cancelling, is_reported, order_sent, waits}
 use Rattle.agv_desk.specs.Outcomes.{Outcome, Made, refuse_unless, refuse_if_none}
 use Rattle.agv_desk.specs.Shared.{if_free}
@@ -43,3 +45,34 @@ take_order world asked row jobs =
     (refuse_unless row.ready refusal.NotReady
     (refuse_unless (not (is_cancelling row.pending)) refusal.InstantPending
     (send_order world asked row jobs)))))))
+
+-- ---- drives
+
+-- the order of a drive: it has no stops
+abbrev pub order_of_drive : AskedDrive → AskedOrder
+order_of_drive asked = record { at = asked.at; order = asked.order; key = asked.key; stops = []; edges = asked.edges }
+
+-- from the check of the footprint on, with the drive planned
+abbrev pub send_drive_trip : World → AskedDrive → VehicleRow → Trip → Outcome
+send_drive_trip world asked row trip =
+    if_free world asked.key (footprint_of (record { node = row.node; rest = row.rest; trip = Some trip }))
+    (refuse_if_none (next_number row.orders.count) refusal.Spent (λ number.
+    refuse_unless (nat_lt (count_of world counted.Orders) most_records) refusal.Limit
+    (Made (drive_sent asked row (Some trip) number))))
+
+-- from the plan on, for a vehicle that can take the drive
+abbrev pub send_drive : World → AskedDrive → VehicleRow → Outcome
+send_drive world asked row =
+    refuse_if_none (layout_set world) refusal.NoWalk (λ layout.
+    if_planned (drive_planned layout asked.key asked.order row.node asked.to asked.edges)
+    (send_drive_trip world asked row))
+
+-- from the check of the reported order on, with the vehicle's row found
+abbrev pub take_drive : World → AskedDrive → VehicleRow → Outcome
+take_drive world asked row =
+    refuse_unless (not (is_reported row.reported asked.order)) refusal.OrderKnown
+    (refuse_unless (is_none (trip_of world asked.key)) refusal.Busy
+    (refuse_unless (is_none row.rest) refusal.Astray
+    (refuse_unless row.ready refusal.NotReady
+    (refuse_unless (not (is_cancelling row.pending)) refusal.InstantPending
+    (send_drive world asked row)))))

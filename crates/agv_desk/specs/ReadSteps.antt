@@ -1,5 +1,5 @@
 -- The calls that only read (this project's profile).
-use Rattle.std.specs.Prelude.{ℕ, List, Option, None, Some}
+use Rattle.std.specs.Prelude.{ℕ, Bool, true, false, if◌then◌else◌, List, Option, None, Some}
 use Rattle.std.specs.FinMap as finite
 use Rattle.std.specs.Option.{option_map}
 use Rattle.agv_header.specs.declared.key.VehicleKey.{VehicleKey}
@@ -9,7 +9,12 @@ use Rattle.agv_message_core.specs.declared.instant.InstantKind.{InstantKind}
 use Rattle.agv_order.specs.Messages.{message_of}
 use Rattle.agv_order.specs.declared.trip.Trip.{Trip}
 use Rattle.agv_world_core.specs.Questions.{row_of, trip_of, job_of}
+use Rattle.agv_stock.specs.declared.job.Phase.{Phase}
+use Rattle.agv_stock.specs.declared.job.Phase.TheVariants as phase
+use Rattle.agv_world_core.specs.Riders.{rider_of}
 use Rattle.agv_world_core.specs.Worlds.{World}
+use Rattle.agv_world_core.specs.declared.floor.Rider.{Rider}
+use Rattle.agv_world_core.specs.declared.row.JobRow.{JobRow}
 use Rattle.agv_world_core.specs.declared.row.Sent.{Sent}
 use Rattle.agv_world_core.specs.declared.row.VehicleRow.{VehicleRow}
 use Rattle.agv_desk.specs.Outcomes.{Outcome, Made, refuse_if_none, answer_only}
@@ -48,6 +53,21 @@ abbrev pub get_load : World → List ℕ → Outcome
 get_load world load =
     refuse_if_none (finite.get world.places load) refusal.NoLoad (λ place.
     Made (answer_only (answer.Load load place (job_of world load))))
+
+-- the job rides on a vehicle
+abbrev pub is_riding : Phase → Bool
+is_riding phase.Riding = true
+is_riding _ = false
+
+-- the vehicle that carries the job out, with the name of its order: of a riding job
+abbrev pub rider_told : World → List ℕ → JobRow → Option Rider
+rider_told world job row = if is_riding row.phase then rider_of world job else None
+
+-- GET /jobs/{job}/phase: NoJob
+abbrev pub get_job : World → List ℕ → Outcome
+get_job world job =
+    refuse_if_none (finite.get world.jobs job) refusal.NoJob (λ row.
+    Made (answer_only (answer.Job job row (rider_told world job row))))
 
 -- the open order of a trip
 abbrev pub open_order : Trip → OpenOrder

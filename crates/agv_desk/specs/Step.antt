@@ -1,13 +1,14 @@
 -- The table of calls: the effect and the answer of each call.
 use Rattle.std.specs.Prelude.{ℕ, List, [], ◌∷◌, ◌++◌}
 use Rattle.agv_world_core.specs.Worlds.{World}
+use Rattle.agv_desk.specs.DriveSteps.{start_drive}
 use Rattle.agv_desk.specs.InstantSteps.{cancel, pause, resume}
 use Rattle.agv_desk.specs.JobSteps.{add_job, stop_job}
 use Rattle.agv_desk.specs.LayoutSteps.{set_layout}
 use Rattle.agv_desk.specs.LoadSteps.{register_load, correct_load, leave_load}
 use Rattle.agv_desk.specs.OrderSteps.{start_order, advance}
 use Rattle.agv_desk.specs.Outcomes.{Outcome, Made, Move, answer_only, after, answer_of, moves_of}
-use Rattle.agv_desk.specs.ReadSteps.{get_order, get_instant, get_load, get_vehicle}
+use Rattle.agv_desk.specs.ReadSteps.{get_order, get_instant, get_load, get_job, get_vehicle}
 use Rattle.agv_desk.specs.Reports.{served}
 use Rattle.agv_desk.specs.StateSteps.{take_state}
 use Rattle.agv_desk.specs.StocktakeSteps.{take_stock}
@@ -27,6 +28,7 @@ step seats world at (call.LeaveLoad load reference) = leave_load world load refe
 step seats world at (call.AddJob job load to) = add_job world job load to
 step seats world at (call.StopJob job) = stop_job world job
 step seats world at (call.StartOrder order key stops edges) = start_order world (record { at = at; order = order; key = key; stops = stops; edges = edges })
+step seats world at (call.StartDrive order key to edges) = start_drive world (record { at = at; order = order; key = key; to = to; edges = edges })
 step seats world at (call.Advance key order update edges) = advance world at key order update edges
 step seats world at (call.Cancel key) = cancel world at key
 step seats world at (call.Pause key) = pause world at key
@@ -38,6 +40,7 @@ step seats world at (call.GetOrder key) = get_order world key
 step seats world at (call.GetInstant key) = get_instant world key
 step seats world at (call.Stocktake reference rows) = take_stock world reference rows
 step seats world at (call.GetLoad load) = get_load world load
+step seats world at (call.GetJob job) = get_job world job
 step seats world at (call.GetVehicle key) = get_vehicle world key
 step seats world at (call.Report report) = Made (answer_only (answer.Report report []))
 

@@ -14,6 +14,7 @@ abbrev pub only_tells : Call → Bool
 only_tells (call.GetOrder key) = true
 only_tells (call.GetInstant key) = true
 only_tells (call.GetLoad load) = true
+only_tells (call.GetJob job) = true
 only_tells (call.GetVehicle key) = true
 only_tells (call.Report report) = true
 only_tells _ = false

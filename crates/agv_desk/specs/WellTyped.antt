@@ -16,6 +16,7 @@ IsWellTyped (call.LeaveLoad load reference) = IsName reference
 IsWellTyped (call.AddJob job load to) = IsName job
 IsWellTyped (call.StopJob job) = Unit {0}
 IsWellTyped (call.StartOrder order key stops edges) = IsName order
+IsWellTyped (call.StartDrive order key to edges) = IsName order
 IsWellTyped (call.Advance key order update edges) = Unit {0}
 IsWellTyped (call.Cancel key) = Unit {0}
 IsWellTyped (call.Pause key) = Unit {0}
@@ -27,6 +28,7 @@ IsWellTyped (call.GetOrder key) = Unit {0}
 IsWellTyped (call.GetInstant key) = Unit {0}
 IsWellTyped (call.Stocktake reference rows) = IsName reference
 IsWellTyped (call.GetLoad load) = Unit {0}
+IsWellTyped (call.GetJob job) = Unit {0}
 IsWellTyped (call.GetVehicle key) = Unit {0}
 IsWellTyped (call.Report report) = Unit {0}
 

@@ -4,7 +4,7 @@ use crate::report::Report;
 use agv_header::{Name, Refusal, VehicleKey};
 use agv_message_core::{Header, InstantMessage, OrderMessage, Sequence};
 use agv_stock::Place;
-use agv_world_core::{Change, VehicleRow};
+use agv_world_core::{Change, JobRow, Rider, VehicleRow};
 
 /// The answer to a call.
 #[derive(Debug, Drop)]
@@ -42,6 +42,12 @@ pub enum Answer {
         load: Name,
         place: Place,
         job: Option<Name>,
+    },
+    /// A job's row, and the vehicle that carries it out, if it rides.
+    Job {
+        job: Name,
+        row: JobRow,
+        rider: Option<Rider>,
     },
     /// A vehicle's row, and its open order.
     Vehicle {

@@ -59,6 +59,14 @@ pub enum Call {
         stops: Sequence<Stop>,
         edges: u32,
     },
+    /// Starts an order of a vehicle that leads it to a node, without actions, with the first `edges` edges of its way
+    /// released. The loads that it carries stay on it.
+    StartDrive {
+        order: Name,
+        key: VehicleKey,
+        to: Name,
+        edges: u32,
+    },
     /// Releases this many further edges, by the order update of this number.
     Advance {
         key: VehicleKey,
@@ -110,6 +118,10 @@ pub enum Call {
     GetLoad {
         load: Name,
     },
+    /// Reads a job, ended or not, and which vehicle carries it out.
+    GetJob {
+        job: Name,
+    },
     /// Reads a vehicle: where it stands, its order and its readiness.
     GetVehicle {
         key: VehicleKey,
@@ -143,6 +155,7 @@ impl Call {
             Call::LeaveLoad { reference, .. } => name_law(reference),
             Call::AddJob { job, .. } => name_law(job),
             Call::StartOrder { order, .. } => name_law(order),
+            Call::StartDrive { order, .. } => name_law(order),
             Call::PlaceVehicle { reference, .. } => name_law(reference),
             Call::Stocktake { reference, .. } => name_law(reference),
             Call::StopJob { .. } => {}
@@ -155,6 +168,7 @@ impl Call {
             Call::GetOrder { .. } => {}
             Call::GetInstant { .. } => {}
             Call::GetLoad { .. } => {}
+            Call::GetJob { .. } => {}
             Call::GetVehicle { .. } => {}
             Call::Report(_) => {}
         }

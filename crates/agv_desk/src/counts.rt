@@ -27,6 +27,7 @@ fn adds_to(call: &Call) -> Option<Counted>
         Call::LeaveLoad { .. } => Some(Counted::References),
         Call::AddJob { .. } => Some(Counted::Jobs),
         Call::StartOrder { .. } => Some(Counted::Orders),
+        Call::StartDrive { .. } => Some(Counted::Orders),
         Call::PlaceVehicle { .. } => Some(Counted::References),
         Call::Stocktake { .. } => Some(Counted::References),
         _ => None,

@@ -9,13 +9,14 @@ ghost use Rattle.agv_desk.specs.Outcomes.{after, decided};
 ghost use Rattle.agv_desk.specs.Sizes.{IsWithinTripLimits};
 ghost use Rattle.agv_desk.specs.Step.{step};
 
+use crate::drives::start_drive;
 use crate::instants::{cancel, pause, resume};
 use crate::jobs::{add_job, stop_job};
 use crate::laws::calls::leads_to_the_maps;
 use crate::layouts::set_layout;
 use crate::loads::{correct_load, leave_load, register_load};
 use crate::orders::start_order;
-use crate::reads::{get_instant, get_load, get_order, get_vehicle, name_report};
+use crate::reads::{get_instant, get_job, get_load, get_order, get_vehicle, name_report};
 use crate::states::take_state;
 use crate::stocktake::take_stock;
 use crate::updates::advance;
@@ -86,6 +87,12 @@ fn decide_each<F: Floor>(
             stops,
             edges,
         } => start_order(alloc, floor, at, order, key, stops.as_slice(), *edges),
+        Call::StartDrive {
+            order,
+            key,
+            to,
+            edges,
+        } => start_drive(alloc, floor, at, order, key, *to, *edges),
         Call::Advance {
             key,
             order,
@@ -108,6 +115,7 @@ fn decide_each<F: Floor>(
             take_stock(alloc, floor, *reference, rows.as_slice())
         }
         Call::GetLoad { load } => get_load(alloc, floor, *load),
+        Call::GetJob { job } => get_job(alloc, floor, *job),
         Call::GetVehicle { key } => get_vehicle(alloc, floor, *key),
         Call::Report(report) => Ok(name_report(alloc, *report)),
     }

@@ -23,6 +23,7 @@ mod call;
 mod counts;
 mod decide_call;
 mod decisions;
+mod drives;
 mod holds;
 mod instants;
 mod jobs;

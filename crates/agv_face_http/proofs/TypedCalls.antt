@@ -20,7 +20,7 @@ use Rattle.agv_face_http.specs.declared.routing.route.NamedRoute.TheVariants as 
 use Rattle.agv_face_http.specs.declared.routing.route.Route.{Route}
 use Rattle.agv_face_http.specs.declared.routing.route.Route.TheVariants as route
 use Rattle.agv_face_http.specs.declared.routing.route.VehicleRoute.TheVariants as vehicle
-use Rattle.agv_face_http.proofs.bodies.TypedBodies.{IsTypedIfSaid, reads_advance, reads_correction, reads_count, reads_job, reads_layout, reads_leave, reads_load, reads_order, reads_place, reads_state, reads_vehicle}
+use Rattle.agv_face_http.proofs.bodies.TypedBodies.{IsTypedIfSaid, reads_advance, reads_correction, reads_count, reads_drive, reads_job, reads_layout, reads_leave, reads_load, reads_order, reads_place, reads_state, reads_vehicle}
 
 -- ---- the names in paths
 
@@ -122,6 +122,7 @@ reads_call (route.OfName named.LeaveLoad load) is body = reads_leave load body
 reads_call (route.Fixed fixed.AddJob) is body = reads_job body
 reads_call (route.OfName named.StopJob job) is body = tt
 reads_call (route.Fixed fixed.StartOrder) is body = reads_order body
+reads_call (route.Fixed fixed.StartDrive) is body = reads_drive body
 reads_call (route.OfVehicle vehicle.Advance key) is body = reads_advance key body
 reads_call (route.OfVehicle vehicle.Cancel key) is body = tt
 reads_call (route.OfVehicle vehicle.Pause key) is body = tt
@@ -133,6 +134,7 @@ reads_call (route.OfVehicle vehicle.GetOrder key) is body = tt
 reads_call (route.OfVehicle vehicle.GetInstant key) is body = tt
 reads_call (route.OfName named.Stocktake reference) is body = reads_count reference body is
 reads_call (route.OfName named.GetLoad load) is body = tt
+reads_call (route.OfName named.GetJob job) is body = tt
 reads_call (route.OfVehicle vehicle.GetVehicle key) is body = tt
 reads_call (route.Fixed (fixed.Report report)) is body = tt
 

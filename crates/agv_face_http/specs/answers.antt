@@ -4,4 +4,5 @@ pub mod Given
 pub mod Heads
 pub mod Pieces
 pub mod Sizes
+pub mod JobBody
 pub mod VehicleBody

@@ -1,3 +1,4 @@
+pub mod Driving
 mod StopRoutes
 mod Messaging
 pub mod NewTrips

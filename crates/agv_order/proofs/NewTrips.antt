@@ -8,14 +8,15 @@ use Rattle.agv_header.specs.declared.key.VehicleKey.{VehicleKey}
 use Rattle.agv_layout.specs.Layout.{Layout}
 use Rattle.agv_stock.specs.declared.job.Job.{Job}
 use Rattle.agv_order.specs.Plans.{stop_routes_to, way_of, acts_along, trip_over, trip_along, planned}
-use Rattle.agv_order.specs.Stops.{is_drop, stops_fit}
-use Rattle.agv_order.specs.Trips.{plan_of, stop_of}
-use Rattle.agv_order.specs.WellFormed.{IsRising, IsWellFormed, is_reached, is_in_turn, has_not_begun}
+use Rattle.agv_order.specs.Stops.{is_drop, are_paired, stops_fit}
+use Rattle.agv_order.specs.Trips.{Task, plan_of, stop_of}
+use Rattle.agv_order.specs.WellFormed.{AreInOrder, IsRising, IsWellFormed, is_reached, is_in_turn, has_not_begun}
 use Rattle.agv_order.specs.declared.act.Act.{Act}
 use Rattle.agv_order.specs.declared.fault.PlanFault.TheVariants as fault
 use Rattle.agv_order.specs.declared.stop_route.StopRoute.{StopRoute}
 use Rattle.agv_order.specs.declared.stop.Stop.{Stop}
 use Rattle.agv_order.specs.declared.trip.Trip.{Trip}
+use Rattle.agv_order.proofs.Stopping.{fitting_paired}
 use Rattle.agv_order.proofs.Walked.{AreStopRoutes, are_legs}
 use Rattle.agv_order.proofs.Ways.{tasks_along, way_known, whole_walk, tasks_stops, stations, rising}
 
@@ -36,14 +37,19 @@ all_in_turn : (all : List Act) (from : ℕ) (stop_routes : List StopRoute) → l
 all_in_turn all from [] = refl
 all_in_turn all from (stop_route ∷ stop_routes) = grind (arith, none_finished (is_drop stop_route.stop.kind), all_in_turn all (from + length stop_route.edges) stop_routes)
 
+-- tasks that rise to the end of the way are in order
+in_order : (tasks : List Task) (end : ℕ) → IsRising 0 tasks end → AreInOrder tasks end
+in_order [] end up = tt
+in_order (task ∷ tasks) end up = up
+
 -- ---- the tests of a plan
-by_bools : (long beyond : Bool) (made trip : Trip) → (if long then Err fault.TooLong else (if beyond then Err fault.Beyond else Ok made)) ≡ Ok trip
+pub by_bools : (long beyond : Bool) (made trip : Trip) → (if long then Err fault.TooLong else (if beyond then Err fault.Beyond else Ok made)) ≡ Ok trip
     → (long ≡ false) × (beyond ≡ false) × (made ≡ trip)
 by_bools true beyond made trip e = cc
 by_bools false true made trip e = cc
 by_bools false false made trip e = (refl, refl, cc)
 
-not_above : (n m : ℕ) → nat_lt n m ≡ false → m ≤ n
+pub not_above : (n m : ℕ) → nat_lt n m ≡ false → m ≤ n
 not_above n m e = grind (arith, nat_tests)
 
 module _ (layout : Layout) (jobs : List Job) (vehicle : VehicleKey) (order : List ℕ) (at : List ℕ) (base : ℕ) where
@@ -61,9 +67,9 @@ module _ (layout : Layout) (jobs : List Job) (vehicle : VehicleKey) (order : Lis
           walk = whole_walk layout jobs at stop stops all are;
           edges = way_known layout jobs at (stop ∷ stops) all are;
           short = short;
-          stops = ap stops_fit made ∙ fit;
+          stops = ap are_paired made ∙ fitting_paired (stop ∷ stops) fit;
           few = omega (arith, count, few);
-          rising = subst (IsRising 0 (tasks_along 0 all)) from_zero (rising 0 all);
+          rising = in_order (tasks_along 0 all) (length (way_of all)) (subst (IsRising 0 (tasks_along 0 all)) from_zero (rising 0 all));
           stations = stations layout jobs at (stop ∷ stops) all (plan_of (trip_over vehicle order at base all)) are refl refl;
         };
         under_way = record {

@@ -6,9 +6,9 @@ use Rattle.std.proofs.lemmas.Bool.{eqb-true, eqb-false}
 use Rattle.std.proofs.lemmas.List.Folds.{list_all-map}
 use Rattle.std.proofs.lemmas.Option.{slice_get-map, slice_get-get_or}
 use Rattle.agv_layout.specs.declared.edge.Edge.{Edge}
-use Rattle.agv_order.specs.Stops.{kinds_of, is_pick_then_drop, stops_fit}
+use Rattle.agv_order.specs.Stops.{are_paired, kinds_of, is_pick_then_drop}
 use Rattle.agv_order.specs.Trips.{Task, nodes_on, task_of, stop_of}
-use Rattle.agv_order.specs.WellFormedTest.{stops_of}
+use Rattle.agv_order.specs.WellFormedTest.{are_in_order, is_rising, stops_of}
 use Rattle.agv_order.specs.declared.act.Act.{Act}
 use Rattle.agv_order.specs.declared.stop.Stop.{Stop}
 
@@ -23,17 +23,17 @@ node-after start edges k edge apart within is =
     one_more : suc (k - 1) ≡ k
     one_more = omega arith
 
--- no act, no stop
-pub none_fit : (acts : List Act) → (length acts == 0) ≡ true → stops_fit (stops_of acts) ≡ false
-unfolding stops_fit
-none_fit [] none = refl
-none_fit (act ∷ acts) none = absurd (let h = eqb-true (length (act ∷ acts)) 0 none in omega arith)
+-- each job that an act names is picked and then dropped where the stops of the acts are paired
+pub acts_paired : (acts : List Act) → list_all (λ (act : Act). is_pick_then_drop (kinds_of (stops_of acts) act.job)) acts ≡ are_paired (stops_of acts)
+acts_paired acts =
+    let test : Stop → Bool = λ (one : Stop). is_pick_then_drop (kinds_of (stops_of acts) one.job) in
+    sym (list_all-map test stop_of (map task_of acts) ∙ list_all-map (λ (task : Task). test (stop_of task)) task_of acts)
 
--- the stops of acts fit where the job of each act is picked and then dropped
-pub some_fit : (acts : List Act) → (length acts == 0) ≡ false → list_all (λ (act : Act). is_pick_then_drop (kinds_of (stops_of acts) act.job)) acts ≡ stops_fit (stops_of acts)
-unfolding stops_fit
-some_fit [] some = absurd (eqb-false 0 0 some refl)
-some_fit (act ∷ acts) some =
-    let all : List Act = act ∷ acts in
-    let test : Stop → Bool = λ (one : Stop). is_pick_then_drop (kinds_of (stops_of all) one.job) in
-    sym (list_all-map test stop_of (map task_of all) ∙ list_all-map (λ (task : Task). test (stop_of task)) task_of all)
+-- no act is in order; of some acts the places rise
+pub none_in_order : (acts : List Act) (end : ℕ) → (length acts == 0) ≡ true → are_in_order acts end ≡ true
+none_in_order [] end none = refl
+none_in_order (act ∷ acts) end none = absurd (let h = eqb-true (length (act ∷ acts)) 0 none in omega arith)
+
+pub some_in_order : (acts : List Act) (end : ℕ) → (length acts == 0) ≡ false → is_rising 0 acts end ≡ are_in_order acts end
+some_in_order [] end some = absurd (eqb-false 0 0 some refl)
+some_in_order (act ∷ acts) end some = refl

@@ -11,8 +11,8 @@ use Rattle.std.specs.Cmp.Lexicographic.{pointwise, same_text}
 use Rattle.agv_message_core.specs.declared.order.ActKind.{ActKind}
 use Rattle.agv_message_core.specs.declared.order.ActKind.TheVariants.{Pick, Drop}
 use Rattle.agv_order.specs.declared.stop.Stop.{Stop}
-use Rattle.agv_order.specs.StopPlaces.{IsAt, IsPickedThenDropped, CanBeDone, stop_picks}
-use Rattle.agv_order.specs.Stops.{is_drop, is_of, kinds_of, is_pick_then_drop, stops_fit}
+use Rattle.agv_order.specs.StopPlaces.{ArePaired, IsAt, IsPickedThenDropped, CanBeDone, stop_picks}
+use Rattle.agv_order.specs.Stops.{is_drop, is_of, kinds_of, is_pick_then_drop, are_paired, stops_fit}
 
 -- ---- the stops of one job
 
@@ -210,18 +210,29 @@ module _ (test : Stop → Bool) where
 abbrev is_served : List Stop → Stop → Bool
 is_served stops one = is_pick_then_drop (kinds_of stops one.job)
 
+paired : (stops : List Stop) → IsTrue (are_paired stops) → ArePaired stops
+paired stops fits k stop at = served stop.job stops (all_at (is_served stops) stops fits k stop at)
+
+paired_by : (stops : List Stop) → ArePaired stops → IsTrue (are_paired stops)
+paired_by stops each = all_from (is_served stops) stops (λ k stop at. test_from stop.job stops (each k stop at))
+
+pub pairs_as_said : (stops : List Stop) → IsTrue (are_paired stops) ↔ ArePaired stops
+pairs_as_said stops = (paired stops, paired_by stops)
+
+pub fitting_paired : (stops : List Stop) → IsTrue (stops_fit stops) → IsTrue (are_paired stops)
+unfolding stops_fit
+fitting_paired [] fits = refl
+fitting_paired (x ∷ xs) fits = fits
+
 said : (stops : List Stop) → IsTrue (stops_fit stops) → CanBeDone stops
 unfolding stops_fit
 said [] fits = absurd (cc)
-said (x ∷ xs) fits = record {
-  some = λ none. cc;
-  each = λ k stop at. served stop.job (x ∷ xs) (all_at (is_served (x ∷ xs)) (x ∷ xs) fits k stop at);
-}
+said (x ∷ xs) fits = record { some = λ none. cc; each = paired (x ∷ xs) fits }
 
 fits : (stops : List Stop) → CanBeDone stops → IsTrue (stops_fit stops)
 unfolding stops_fit
 fits [] done = absurd (done.some refl)
-fits (x ∷ xs) done = all_from (is_served (x ∷ xs)) (x ∷ xs) (λ k stop at. test_from stop.job (x ∷ xs) (done.each k stop at))
+fits (x ∷ xs) done = paired_by (x ∷ xs) done.each
 
 pub fits_as_said : (stops : List Stop) → IsTrue (stops_fit stops) ↔ CanBeDone stops
 fits_as_said stops = (said stops, fits stops)
@@ -291,7 +302,5 @@ twice_within (suc n) (x ∷ xs) short all =
     twice_within n rest (omega (arith, own.0)) (all_kept (is_served stops) (is_served rest) (keeps job) same stops all) in
     omega (arith, own.0, own.1, picks_split job stops)
 
-pub stops_twice : (stops : List Stop) → IsTrue (stops_fit stops) → length stops ≡ 2 * length (filter stop_picks stops)
-unfolding stops_fit
-stops_twice [] fits = absurd (cc)
-stops_twice (x ∷ xs) fits = twice_within (length (x ∷ xs)) (x ∷ xs) (omega arith) fits
+pub stops_twice : (stops : List Stop) → IsTrue (are_paired stops) → length stops ≡ 2 * length (filter stop_picks stops)
+stops_twice stops fits = twice_within (length stops) stops (omega arith) fits

@@ -15,10 +15,10 @@ use Rattle.agv_layout.specs.Walk.{IsWalk}
 use Rattle.agv_layout.specs.declared.edge.Edge.{Edge}
 use Rattle.agv_layout.specs.declared.edge.EdgeEnds.{EdgeEnds}
 use Rattle.agv_layout.specs.declared.station.StationSite.{StationSite}
-use Rattle.agv_order.specs.Stops.{stops_fit}
+use Rattle.agv_order.specs.Stops.{are_paired}
 use Rattle.agv_order.specs.Trips.{task_of, plan_of, node_at}
-use Rattle.agv_order.specs.WellFormed.{IsEdgeOf, ids_of, IsRising, IsAtStation, IsPlanned, is_reached, is_in_turn, has_not_begun, is_over, IsConfirmed, IsUnderWay, IsWellFormed}
-use Rattle.agv_order.specs.WellFormedTest.{has_ends, is_edge_of, is_way_of, stops_of, is_rising, is_site_at, is_at_station, is_planned, is_in_base, is_growing, is_confirmed, has_ended, is_under_way, is_well_formed}
+use Rattle.agv_order.specs.WellFormed.{IsEdgeOf, ids_of, IsRising, AreInOrder, IsAtStation, IsPlanned, is_reached, is_in_turn, has_not_begun, is_over, IsConfirmed, IsUnderWay, IsWellFormed}
+use Rattle.agv_order.specs.WellFormedTest.{has_ends, is_edge_of, is_way_of, stops_of, is_rising, are_in_order, is_site_at, is_at_station, is_planned, is_in_base, is_growing, is_confirmed, has_ended, is_under_way, is_well_formed}
 use Rattle.agv_order.specs.declared.act.Act.{Act}
 use Rattle.agv_order.specs.declared.trip.Trip.{Trip}
 
@@ -78,6 +78,10 @@ module _ (layout : Layout) where
   rising_said from [] to = Decides-eqb from to
   rising_said from (act ∷ acts) to = Decides-and _ _ (at_most from act.place_at) (rising_said act.place_at acts to)
 
+  order_said : (acts : List Act) (end : ℕ) → Decides (are_in_order acts end) (AreInOrder (map task_of acts) end)
+  order_said [] end = (λ e. tt, λ all. refl)
+  order_said (act ∷ acts) end = rising_said 0 (act ∷ acts) end
+
   -- a site at a node
   abbrev IsSiteAt : Option (List ℕ) → Option StationSite → Type 0
   IsSiteAt node found = (site : StationSite) × (found ≡ Some site) × (node ≡ Some site.node)
@@ -116,8 +120,8 @@ module _ (layout : Layout) where
   abbrev PlanTests : Trip → Type 0
   PlanTests trip =
       (((((length trip.edges ≤ 200) × (length (map task_of trip.acts) ≤ 8)) × IsWay trip.start trip.edges)
-      × IsTrue (stops_fit (stops_of trip.acts)))
-      × IsRising 0 (map task_of trip.acts) (length trip.edges))
+      × IsTrue (are_paired (stops_of trip.acts)))
+      × AreInOrder (map task_of trip.acts) (length trip.edges))
       × All (IsAtStation layout (plan_of trip)) (map task_of trip.acts)
 
   planned_said : (trip : Trip) → Decides (is_planned layout trip) (IsPlanned layout (plan_of trip))
@@ -130,7 +134,7 @@ module _ (layout : Layout) where
           (few_said trip.acts))
           (way_from trip.start trip.edges, way_to trip.start trip.edges))
           (λ fit. fit, λ fit. fit))
-          (rising_said 0 trip.acts (length trip.edges)))
+          (order_said trip.acts (length trip.edges)))
           (stations_said trip trip.acts)
 
       to : PlanTests trip → IsPlanned layout (plan_of trip)

@@ -11,3 +11,4 @@ pub mod Joins
 pub mod Stitch
 pub mod Plans
 pub mod Tours
+pub mod Drives

@@ -18,10 +18,14 @@ IsJustAt stops job kind k = IsAt stops job kind k × ((other : ℕ) → IsAt sto
 abbrev pub IsPickedThenDropped : List Stop → List ℕ → Type 0
 IsPickedThenDropped stops job = (pick : ℕ) × (drop : ℕ) × (pick < drop) × IsJustAt stops job Pick pick × IsJustAt stops job Drop drop
 
+-- each job that a stop names is picked once and later dropped once
+abbrev pub ArePaired : List Stop → Type 0
+ArePaired stops = (k : ℕ) (stop : Stop) → slice_get stops k ≡ Some stop → IsPickedThenDropped stops stop.job
+
 -- there is a stop, and each job that a stop names is picked once and later dropped once
 pub record CanBeDone (stops : List Stop) : Type 0 where
   pub some : stops ≢ []
-  pub each : (k : ℕ) (stop : Stop) → slice_get stops k ≡ Some stop → IsPickedThenDropped stops stop.job
+  pub each : ArePaired stops
 
 -- the stop picks a load
 abbrev pub stop_picks : Stop → Bool

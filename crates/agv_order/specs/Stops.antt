@@ -30,7 +30,11 @@ is_pick_then_drop (first ∷ []) = false
 is_pick_then_drop (first ∷ (second ∷ [])) = is_pick first && is_drop second
 is_pick_then_drop (first ∷ (second ∷ (third ∷ rest))) = false
 
+-- each job in the list is picked once and, later in the list, dropped once; the list may be empty
+abbrev pub are_paired : List Stop → Bool
+are_paired stops = list_all (λ (one : Stop). is_pick_then_drop (kinds_of stops one.job)) stops
+
 -- there is a stop, and each job in the list is picked once and, later in the list, dropped once
 unfoldable pub stops_fit : List Stop → Bool
 stops_fit [] = false
-stops_fit (stop ∷ stops) = list_all (λ (one : Stop). is_pick_then_drop (kinds_of (stop ∷ stops) one.job)) (stop ∷ stops)
+stops_fit (stop ∷ stops) = are_paired (stop ∷ stops)

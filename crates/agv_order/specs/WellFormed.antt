@@ -7,7 +7,7 @@ use Rattle.agv_layout.specs.Walk.{IsWalk}
 use Rattle.agv_layout.specs.declared.edge.Edge.{Edge}
 use Rattle.agv_layout.specs.declared.station.StationSite.{StationSite}
 use Rattle.agv_order.specs.Statuses.{is_waiting, is_finished, is_final}
-use Rattle.agv_order.specs.Stops.{is_drop, is_pick, stops_fit}
+use Rattle.agv_order.specs.Stops.{is_drop, is_pick, are_paired}
 use Rattle.agv_order.specs.Trips.{Task, stop_of, Plan, plan_of, nodes_on}
 use Rattle.agv_order.specs.declared.act.Act.{Act}
 use Rattle.agv_order.specs.declared.trip.Trip.{Trip}
@@ -27,19 +27,24 @@ abbrev pub IsRising : ℕ → List Task → ℕ → Type 0
 IsRising from [] to = from ≡ to
 IsRising from (task ∷ tasks) to = (from ≤ task.place_at) × IsRising task.place_at tasks to
 
+-- the tasks are in the order of the way, and the last is at its end; an order without tasks is a drive, which ends at any node
+abbrev pub AreInOrder : List Task → ℕ → Type 0
+AreInOrder [] end = Unit {0}
+AreInOrder (task ∷ tasks) end = IsRising 0 (task ∷ tasks) end
+
 -- the station of the task is at the node of the task's place
 abbrev pub IsAtStation : Layout → Plan → Task → Type 0
 IsAtStation layout plan task =
     (site : StationSite) × IsStation layout task.station site × (slice_get (nodes_on plan.start plan.edges) task.place_at ≡ Some site.node)
 
--- the plan is a walk of at most 200 edges, with one to four jobs, each picked and later dropped; each task is at its station, the tasks are in the order of the way, and the last is at its end
+-- the plan is a walk of at most 200 edges, with at most four jobs, each picked and later dropped; each task is at its station, the tasks are in the order of the way, and the last is at its end; without a job it is a drive
 pub record IsPlanned (layout : Layout) (plan : Plan) : Type 0 where
   pub walk : (finish : List ℕ) × IsWalk layout plan.start (ids_of plan.edges) finish
   pub edges : All (IsEdgeOf layout) plan.edges
   pub short : length plan.edges ≤ 200
-  pub stops : IsTrue (stops_fit (map stop_of plan.tasks))
+  pub stops : IsTrue (are_paired (map stop_of plan.tasks))
   pub few : length plan.tasks ≤ 8
-  pub rising : IsRising 0 plan.tasks (length plan.edges)
+  pub rising : AreInOrder plan.tasks (length plan.edges)
   pub stations : All (IsAtStation layout plan) plan.tasks
 
 -- ---- the progress

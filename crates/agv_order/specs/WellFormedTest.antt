@@ -1,5 +1,5 @@
 -- A computable test of well-formed trips. A law proves that it is equivalent to the definition (`tests_well_formed`).
-use Rattle.std.specs.Prelude.{ℕ, ◌+◌, ◌==◌, ◌&&◌, ◌||◌, not, if◌then◌else◌, nat_eq, nat_le, nat_lt, Bool, false, List, [], ◌∷◌, length, map, Option, None, Some}
+use Rattle.std.specs.Prelude.{ℕ, ◌+◌, ◌==◌, ◌&&◌, ◌||◌, not, if◌then◌else◌, nat_eq, nat_le, nat_lt, Bool, true, false, List, [], ◌∷◌, length, map, Option, None, Some}
 use Rattle.std.specs.List.{list_all}
 use Rattle.std.specs.FinMap as finite
 use Rattle.std.specs.FinSet as set
@@ -8,7 +8,7 @@ use Rattle.agv_layout.specs.Layout.{Layout}
 use Rattle.agv_layout.specs.declared.edge.Edge.{Edge}
 use Rattle.agv_layout.specs.declared.edge.EdgeEnds.{EdgeEnds}
 use Rattle.agv_layout.specs.declared.station.StationSite.{StationSite}
-use Rattle.agv_order.specs.Stops.{stops_fit}
+use Rattle.agv_order.specs.Stops.{are_paired}
 use Rattle.agv_order.specs.Trips.{task_of, stop_of, node_at}
 use Rattle.agv_order.specs.WellFormed.{is_reached, is_in_turn, has_not_begun, is_over}
 use Rattle.agv_order.specs.declared.act.Act.{Act}
@@ -40,6 +40,11 @@ abbrev pub is_rising : ℕ → List Act → ℕ → Bool
 is_rising from [] to = from == to
 is_rising from (act ∷ acts) to = nat_le from act.place_at && is_rising act.place_at acts to
 
+-- the acts are in the order of the way, and the last is at its end; without acts any way will do
+abbrev pub are_in_order : List Act → ℕ → Bool
+are_in_order [] end = true
+are_in_order (act ∷ acts) end = is_rising 0 (act ∷ acts) end
+
 -- both are there, and the site is at the node
 abbrev pub is_site_at : Option (List ℕ) → Option StationSite → Bool
 is_site_at None site = false
@@ -56,8 +61,8 @@ is_planned layout trip =
     nat_le (length trip.edges) 200
     && nat_le (length trip.acts) 8
     && is_way_of layout trip.start trip.edges
-    && stops_fit (stops_of trip.acts)
-    && is_rising 0 trip.acts (length trip.edges)
+    && are_paired (stops_of trip.acts)
+    && are_in_order trip.acts (length trip.edges)
     && list_all (is_at_station layout trip) trip.acts
 
 -- ---- the progress

@@ -1,15 +1,17 @@
 //! Laws of the definitions that the contracts of this crate cite. Each function does nothing: its
 //! clause is the law.
-ghost use Rattle.std.specs.Prelude.{◌≡◌, ◌↔◌, ◌<◌, ◌≤◌, ◌*◌, ℕ, List, filter, length, IsTrue, None, Some, Ok, Err};
+ghost use Rattle.std.specs.Prelude.{◌≡◌, ◌↔◌, ◌<◌, ◌≤◌, ◌*◌, ℕ, List, [], filter, length, IsTrue, None, Some, Ok, Err};
 ghost use Rattle.agv_header.specs.declared.key.VehicleKey.{VehicleKey as KeyOf};
 ghost use Rattle.agv_layout.specs.Layout.{Layout as LayoutOf, Name as NameOf};
 ghost use Rattle.agv_stock.specs.declared.job.Job.{Job as JobOf};
 ghost use Rattle.agv_layout.specs.declared.edge.Edge.{Edge as EdgeOf};
 ghost use Rattle.agv_order.specs.declared.act.Act.{Act as ActOf};
 ghost use Rattle.agv_order.specs.declared.fault.PlanFault.TheVariants as fault;
+ghost use Rattle.agv_layout.specs.Walk.{IsRoute};
+ghost use Rattle.agv_order.specs.Drives.{drive_planned, IsDriveTo};
 ghost use Rattle.agv_order.specs.Plans.{planned};
 ghost use Rattle.agv_order.specs.Tours.{MakesStops, IsPlanOf};
-ghost use Rattle.agv_order.specs.WellFormed.{IsWellFormed};
+ghost use Rattle.agv_order.specs.WellFormed.{ids_of, IsWellFormed};
 ghost use Rattle.agv_order.specs.WellFormedTest.{is_well_formed};
 ghost use Rattle.agv_order.specs.declared.joins.Joined.TheVariants.{Taken, Same};
 ghost use Rattle.agv_order.specs.declared.joins.JoinRefusal.TheVariants as refusal;
@@ -18,8 +20,8 @@ ghost use Rattle.agv_order.specs.declared.trip.Trip.{Trip as TripOf};
 ghost use Rattle.agv_order.specs.Joins.{join_of};
 ghost use Rattle.agv_order.specs.Messages.{whole_of, message_of};
 ghost use Rattle.agv_order.specs.Releases.{CanRelease, released};
-ghost use Rattle.agv_order.specs.StopPlaces.{CanBeDone, stop_picks};
-ghost use Rattle.agv_order.specs.Stops.{stops_fit};
+ghost use Rattle.agv_order.specs.StopPlaces.{ArePaired, CanBeDone, stop_picks};
+ghost use Rattle.agv_order.specs.Stops.{are_paired, stops_fit};
 
 /// Proves that a vehicle which holds the whole order of a trip, and takes the update that releases more of it,
 /// then holds the whole order of the trip after that release.
@@ -55,9 +57,36 @@ pub fn fits_as_said()
     ensures { (stops : List StopOf) → IsTrue (stops_fit stops) ↔ CanBeDone stops }
 {}
 
-/// Proves that stops which can be carried out are twice as many as the picks among them.
+/// Proves that each job that a stop names is picked and then dropped exactly if it is picked at exactly one place of
+/// the list, and dropped at exactly one, later place.
+pub fn pairs_as_said()
+    ensures { (stops : List StopOf) → IsTrue (are_paired stops) ↔ ArePaired stops }
+{}
+
+/// Proves that stops which can be carried out are paired.
+pub fn fitting_stops_are_paired()
+    ensures { (stops : List StopOf) → IsTrue (stops_fit stops) → IsTrue (are_paired stops) }
+{}
+
+/// Proves that paired stops are twice as many as the picks among them.
 pub fn stops_twice()
-    ensures { (stops : List StopOf) → IsTrue (stops_fit stops) → length stops ≡ 2 * length (filter stop_picks stops) }
+    ensures { (stops : List StopOf) → IsTrue (are_paired stops) → length stops ≡ 2 * length (filter stop_picks stops) }
+{}
+
+/// Proves what a drive is by the layout's routes: it leads from the vehicle's node to the other one by the route, over
+/// at least one edge, without an act. If there is no plan because no walk leads there, no route with an edge does.
+pub fn drives_go_by_the_route()
+    ensures goes { (layout : LayoutOf) (vehicle : KeyOf) (order at to : NameOf) (base : ℕ) (trip : TripOf)
+        → drive_planned layout vehicle order at to base ≡ Ok trip → IsDriveTo layout at to base trip × (0 < length trip.edges) }
+    ensures none { (layout : LayoutOf) (vehicle : KeyOf) (order at to : NameOf) (base : ℕ)
+        → drive_planned layout vehicle order at to base ≡ Err fault.NoWalk
+        → (edges : List EdgeOf) → IsRoute layout at to (ids_of edges) → edges ≡ [] }
+{}
+
+/// Proves that a drive that is planned is well formed.
+pub fn drives_are_well_formed()
+    ensures { (layout : LayoutOf) (vehicle : KeyOf) (order at to : NameOf) (base : ℕ) (trip : TripOf)
+        → drive_planned layout vehicle order at to base ≡ Ok trip → IsWellFormed layout trip }
 {}
 
 /// Proves what a plan is by the layout's routes: it leads from the vehicle's node to the node of each stop in turn,

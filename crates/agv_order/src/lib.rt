@@ -3,8 +3,8 @@
 //! - A [`Trip`] is an open order of a vehicle: the edges that it is to drive, and the [`Act`]s, picks
 //!   and drops of loads, that it carries out on the way.
 //! - [`stops_fit`] tests which lists of [`Stop`]s an order can have. [`Trip::plan`] plans the trip that
-//!   makes them, by the route from stop to stop; [`Trip::release`] releases more of it
-//!   by an update.
+//!   makes them, by the route from stop to stop; [`Trip::plan_drive`] plans one without acts, which leads a vehicle to
+//!   a node; [`Trip::release`] releases more of a trip by an update.
 //! - [`Trip::message`] is the order message of the trip's last update, with the sequence numbers of
 //!   [`node_seq`] and [`edge_seq`]; [`join`] is what a vehicle does with a message.
 //! - [`Trip::is_well_formed`] tests whether a trip is planned on a layout and under way.
@@ -14,6 +14,7 @@
 #![tactic(auto)]
 
 mod act;
+mod drive;
 mod fault;
 mod job_progress;
 mod joins;

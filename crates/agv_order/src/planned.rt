@@ -2,8 +2,8 @@
 ghost use Rattle.std.specs.Prelude.{◌≡◌, ◌&&◌, nat_eq};
 ghost use Rattle.std.specs.List.{list_all};
 ghost use Rattle.std.specs.Cmp.Lexicographic.{pointwise};
-ghost use Rattle.agv_order.specs.Stops.{kinds_of, is_pick_then_drop, stops_fit};
-ghost use Rattle.agv_order.specs.WellFormedTest.{is_edge_of, is_way_of, is_rising, is_at_station, is_planned, stops_of};
+ghost use Rattle.agv_order.specs.Stops.{are_paired, kinds_of, is_pick_then_drop};
+ghost use Rattle.agv_order.specs.WellFormedTest.{is_edge_of, is_way_of, is_rising, are_in_order, is_at_station, is_planned, stops_of};
 
 use crate::job_progress::JobProgress;
 use crate::{Act, Trip};
@@ -21,8 +21,8 @@ impl Trip {
         edges.len() <= MAX_TRIP_EDGES
             && acts.len() <= MAX_TRIP_ACTS
             && is_way_of(layout, self.start, edges)
-            && acts_fit(acts)
-            && is_rising(acts, edges.len())
+            && are_paired(acts)
+            && are_in_order(acts, edges.len())
             && self.are_at_stations(layout)
     }
 
@@ -81,11 +81,11 @@ fn is_edge_of(layout: &Layout, edge: &Edge) -> bool
     }
 }
 
-/// Returns whether the stops of the acts fit.
-fn acts_fit(acts: &[Act]) -> bool
-    ensures { result ≡ stops_fit (stops_of acts.now) }
+/// Returns whether each job that an act names is picked and then dropped.
+fn are_paired(acts: &[Act]) -> bool
+    ensures { result ≡ are_paired (stops_of acts.now) }
 {
-    !acts.is_empty() && are_all_carried(acts)
+    are_all_carried(acts)
 }
 
 /// Returns whether each job that an act names is picked and then dropped.
@@ -106,6 +106,13 @@ fn is_carried(acts: &[Act], job: Name) -> bool
         }
     }
     served.is_over()
+}
+
+/// Returns whether the places of the acts do not decrease and the last of them is this one, or there are no acts.
+fn are_in_order(acts: &[Act], end: usize) -> bool
+    ensures { result ≡ are_in_order acts.now end }
+{
+    acts.is_empty() || is_rising(acts, end)
 }
 
 /// Returns whether the places of the acts do not decrease and the last of them is this one.

@@ -81,7 +81,7 @@ fn stop_route_for(
 }
 
 /// Finds the route from one node to another, if there is one.
-fn route(
+pub(crate) fn route(
     alloc: Global,
     layout: &Layout,
     from: Name,
@@ -96,7 +96,11 @@ fn route(
 }
 
 /// Returns the edges of these names that the layout has.
-fn edges_named(alloc: Global, layout: &Layout, ids: &[Name]) -> Result<Sequence<Edge>, Memory>
+pub(crate) fn edges_named(
+    alloc: Global,
+    layout: &Layout,
+    ids: &[Name],
+) -> Result<Sequence<Edge>, Memory>
     ensures { IfOk result (λ edges. edges ≡ edges_named layout.now ids.now) }
 {
     let mut edges = Vec::new(alloc);

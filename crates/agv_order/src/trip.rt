@@ -33,8 +33,8 @@ pub struct Trip {
     pub confirmed: Option<u32>,
     /// The place of the last node that the vehicle has reported, half of `lastNodeSequenceId`.
     pub seen: u32,
-    /// The acts on the way (the `actions` of nodes), in this order: of a well-formed trip two for each of one to four
-    /// jobs.
+    /// The acts on the way (the `actions` of nodes), in this order: of a well-formed trip two for each of at most four
+    /// jobs. A drive has none.
     pub acts: Sequence<Act>,
 }
 

@@ -8,8 +8,8 @@ use agv_layout::Layout;
 impl Trip {
     /// Returns whether the trip is well formed on the layout: planned on it, and under way. It takes no memory.
     ///
-    /// - Planned: a walk of at most 200 edges of the layout; one to four jobs, each picked and later
-    ///   dropped; each act at its station, in the order of the way, the last at its end.
+    /// - Planned: a walk of at most 200 edges of the layout; at most four jobs, each picked and later
+    ///   dropped; each act at its station, in the order of the way, the last at its end. Without a job it is a drive.
     /// - Under way: what was sent and seen lies within the base; the last update released more; the
     ///   vehicle has confirmed nothing and nothing has happened, or it has confirmed the last update or the
     ///   one before it; no act is finished before its turn; and the trip has not ended.

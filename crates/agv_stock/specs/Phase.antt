@@ -1,5 +1,5 @@
 -- The phases of a job (this project's profile).
-use Rattle.std.specs.Prelude.{Bool, true, false}
+use Rattle.std.specs.Prelude.{ℕ, Bool, true, false, List, codes}
 use Rattle.agv_stock.specs.declared.job.Phase.{Phase}
 use Rattle.agv_stock.specs.declared.job.Phase.TheVariants.{Waiting, Riding, Done, Stopped}
 
@@ -9,3 +9,10 @@ is_live Waiting = true
 is_live Riding = true
 is_live Done = false
 is_live Stopped = false
+
+-- the word for a phase, in the tables, the exports and the answers
+abbrev pub phase_name : Phase → List ℕ
+phase_name Waiting = codes "waiting"
+phase_name Riding = codes "riding"
+phase_name Done = codes "done"
+phase_name Stopped = codes "stopped"

@@ -31,7 +31,7 @@ pub enum Phase {
 }
 
 impl Phase {
-    ghost use Rattle.agv_stock.specs.Phase.{is_live};
+    ghost use Rattle.agv_stock.specs.Phase.{is_live, phase_name};
 
     /// Returns whether a job in this phase is still to be carried out: it is Waiting or Riding.
     pub fn is_live(self) -> bool
@@ -40,6 +40,18 @@ impl Phase {
         match self {
             Phase::Waiting | Phase::Riding => true,
             Phase::Done | Phase::Stopped => false,
+        }
+    }
+
+    /// Returns the word for the phase: `waiting`, `riding`, `done` or `stopped`.
+    pub fn name(self) -> &'static str
+        ensures { result.now ≡ phase_name self }
+    {
+        match self {
+            Phase::Waiting => "waiting",
+            Phase::Riding => "riding",
+            Phase::Done => "done",
+            Phase::Stopped => "stopped",
         }
     }
 }

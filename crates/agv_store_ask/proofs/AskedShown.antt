@@ -13,7 +13,7 @@ use Rattle.agv_world_core.specs.Maps.{Maps}
 use Rattle.agv_world_core.specs.Told.{is_of_order}
 use Rattle.agv_world_core.specs.declared.row.JobRow.{JobRow}
 use Rattle.agv_store_ask.specs.QueriedRows.{ShowAsked, is_in_phase, name_and_phase}
-use Rattle.agv_store_rows.specs.ValueEncodings.{phase_name}
+use Rattle.agv_stock.specs.Phase.{phase_name}
 use Rattle.agv_store_rows.specs.Columns.{load_columns}
 use Rattle.agv_store_rows.specs.DecodedTrips.{is_driven_by}
 use Rattle.agv_store_schema.specs.DeskRows.{is_equal}

@@ -15,7 +15,7 @@ use Rattle.agv_world_core.specs.Maps.{maps_of}
 use Rattle.agv_world_core.specs.Worlds.{World}
 use Rattle.agv_world_core.specs.declared.row.JobRow.{JobRow}
 use Rattle.agv_store_ask.specs.QueriedRows.{is_in_phase, name_and_phase}
-use Rattle.agv_store_rows.specs.ValueEncodings.{phase_name}
+use Rattle.agv_stock.specs.Phase.{phase_name}
 use Rattle.agv_store_rows.specs.Columns.{job_columns, job_in}
 use Rattle.agv_store_read.specs.FirstRow.{first_key_in, key_of}
 use Rattle.agv_store_rows.specs.Rows.{TellRows, row_if, rows_of}

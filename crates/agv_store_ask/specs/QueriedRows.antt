@@ -14,7 +14,7 @@ use Rattle.agv_world_core.specs.declared.key.LegKey.{LegKey}
 use Rattle.agv_world_core.specs.declared.row.JobRow.{JobRow}
 use Rattle.agv_store_rows.specs.TripRows.{acts_of, is_of, journeys_of}
 use Rattle.agv_store_rows.specs.declared.journey_row.JourneyRow.{JourneyRow}
-use Rattle.agv_store_rows.specs.ValueEncodings.{phase_name}
+use Rattle.agv_stock.specs.Phase.{phase_name}
 use Rattle.agv_store_rows.specs.Columns.{job_columns, leg_columns, load_columns, journey_columns}
 use Rattle.agv_store_rows.specs.RowKeys.{name_key, vehicle_key}
 use Rattle.agv_store_rows.specs.Rows.{rows_of_acts}

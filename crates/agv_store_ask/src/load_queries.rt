@@ -25,7 +25,6 @@ use agv_store_read::queried_rows::{query_count, query_rows_by};
 use agv_store_rows::decode_row::decode_job;
 use agv_store_rows::key_values::{name_key_values, vehicle_key_values};
 use agv_store_rows::row_values::name_value;
-use agv_store_rows::words::phase_text;
 use agv_store_schema::rows_by::RowsBy;
 use agv_store_schema::rows_counted::RowsCounted;
 use sqlite::types::{ToSql, ValueRef};
@@ -108,7 +107,7 @@ fn query_job_in<S: Alter>(
 fn name_and_phase_values(name: &Name, phase: Phase) -> [ValueRef<'_>; 2]
     ensures { bound result ≡ name_and_phase name.now phase }
 {
-    [name_value(name), phase_text(phase).to_sql()]
+    [name_value(name), phase.name().to_sql()]
 }
 
 /// Decodes the id of the job from the first row.

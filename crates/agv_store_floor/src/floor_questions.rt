@@ -1,12 +1,14 @@
-//! The questions of a floor, each answered by look-ups of a key or an index in the desk's tables; only the layout is
-//! read whole, and cached when a caller asks for it. A node, a station, the edges of a trip and the layout itself are
-//! looked up in the cached layout, and queried only if none is cached or it lacks the name. The row of a vehicle, once
-//! read or written, and an open trip, once read, are cached and updated with each write. Whether one more load fits at
-//! a station follows from the cached room there; if none is cached, the room is counted. An answer that cannot be
-//! cached for want of memory is returned all the same, except the layout.
+//! The questions of a floor, each answered by look-ups of a key or an index in the desk's tables. Only the vehicles are
+//! read whole, to find the one that carries out a job, and the layout, which is cached when a caller asks for it. A
+//! node, a station, the edges of a trip and the layout itself are looked up in the cached layout, and queried only if
+//! none is cached or it lacks the name. The row of a vehicle, once read or written, and an open trip, once read, are
+//! cached and updated with each write. Whether one more load fits at a station follows from the cached room there; if
+//! none is cached, the room is counted. An answer that cannot be cached for want of memory is returned all the same,
+//! except the layout.
 
 use crate::flags::note;
 use crate::keyed_floor::KeyedFloor;
+use agv_count_exports::rider;
 use agv_header::{Name, Thing, VehicleKey};
 use agv_layout::{Layout, StationSite};
 use agv_message_core::Sequence;
@@ -18,7 +20,7 @@ use agv_store_ask::key_queries::{
 use agv_store_ask::load_queries::{query_job_of, query_loads_on, query_reserved, query_room};
 use agv_store_ask::station_loads::query_loads_at;
 use agv_store_schema::DESK_SEATS;
-use agv_world_core::{Counted, Fault, Floor, JobRow, UseKey, UseKind, VehicleRow};
+use agv_world_core::{Counted, Fault, Floor, JobRow, Rider, UseKey, UseKind, VehicleRow};
 use sqlite::Alter;
 
 impl<S: Alter + Drop> Floor for KeyedFloor<S> {
@@ -91,6 +93,11 @@ impl<S: Alter + Drop> Floor for KeyedFloor<S> {
     fn job(&mut self, job: Name) -> Result<Option<JobRow>, Fault> {
         let asked = query_job(&mut self.conn, &job);
         note(&mut self.failed, &mut self.in_doubt, asked)
+    }
+
+    fn rider(&mut self, job: Name) -> Result<Option<Rider>, Fault> {
+        let vehicles = self.vehicles_with_trips_told()?;
+        Ok(rider(&vehicles, job))
     }
 
     fn room(&mut self, station: Name) -> Result<Option<u32>, Fault> {

@@ -1,5 +1,5 @@
--- The vehicles of a lawful world carry one load each, where each has the capacity 1.
-use Rattle.std.proofs.Common.{◌≡◌, ℕ, ◌*◌, ◌≤◌, suc, not, ◌&&◌, nat_eq, true, false, cond, List, [], ◌∷◌, map, filter, length, count_by, Option, Some, None, IsTrue, refl, sym, ap, subst, ◌∙◌, arith}
+-- The vehicles of a lawful world carry one load each, where each has the capacity 1 and each open trip serves a job.
+use Rattle.std.proofs.Common.{◌≡◌, ◌≢◌, ℕ, ◌*◌, ◌≤◌, suc, not, ◌&&◌, nat_eq, true, false, cond, List, [], ◌∷◌, map, filter, length, count_by, Option, Some, None, IsTrue, refl, sym, ap, subst, ◌∙◌, arith}
 use Rattle.std.proofs.lemmas.Bool.{and_parts, and_from}
 use Rattle.std.proofs.lemmas.List.Sums.{length-filter}
 use Rattle.std.proofs.lemmas.Option.{same_Some}
@@ -13,7 +13,7 @@ use Rattle.agv_header.specs.KeyOrder.{key_cmp-total}
 use Rattle.agv_header.specs.Name.{name_cmp}
 use Rattle.agv_header.specs.declared.key.VehicleKey.{VehicleKey}
 use Rattle.agv_order.specs.StopPlaces.{stop_picks}
-use Rattle.agv_order.specs.Stops.{is_drop, is_of, is_pick_then_drop, stops_fit}
+use Rattle.agv_order.specs.Stops.{is_drop, is_of, is_pick_then_drop, are_paired}
 use Rattle.agv_order.specs.Trips.{stop_of, task_of}
 use Rattle.agv_order.specs.declared.act.Act.{Act}
 use Rattle.agv_order.specs.declared.stop.Stop.{Stop}
@@ -24,6 +24,7 @@ use Rattle.agv_world_core.specs.Worlds.{Vehicle, World}
 use Rattle.agv_world_core.specs.declared.row.JobRow.{JobRow}
 use Rattle.agv_world_core.specs.declared.row.TripRow.{TripRow}
 use Rattle.agv_world_core.specs.declared.row.VehicleRow.{VehicleRow}
+use Rattle.agv_store_migrate.specs.FirstRows.{ServesJobs}
 use Rattle.agv_store_migrate.specs.TripLines.{acts_of, are_of_one_job, line_of, line_with, trip_told}
 use Rattle.agv_store_migrate.specs.declared.trip_line.TripLine.{TripLine}
 use Rattle.agv_store_rows.proofs.ListsFollow.{names_apart}
@@ -43,11 +44,11 @@ pub record CarriesOneEach (maps : Maps) : Type 0 where
   pub vehicles : (key : VehicleKey) (vehicle : VehicleRow) → finite.get maps.vehicles key ≡ Some vehicle → vehicle.capacity ≡ 1
   pub trips : (order : List ℕ) (trip : TripRow) → finite.get maps.trips order ≡ Some trip → IsTripOfJob maps order trip
 
--- stops that fit are twice as many as the picks
+-- paired stops are twice as many as the picks
 abbrev pub StopsTwice : Type 0
-StopsTwice = (stops : List Stop) → IsTrue (stops_fit stops) → length stops ≡ 2 * length (filter stop_picks stops)
+StopsTwice = (stops : List Stop) → IsTrue (are_paired stops) → length stops ≡ 2 * length (filter stop_picks stops)
 
--- ---- two stops that fit
+-- ---- two stops that are paired
 
 abbrev stops_of : List Act → List Stop
 stops_of acts = map stop_of (map task_of acts)
@@ -61,15 +62,13 @@ picks_as_stops (act ∷ acts) =
       | false ↦ more
     ]
 
-one_is_few : (a : Stop) → ¬ (IsTrue (stops_fit (a ∷ [])))
-unfolding stops_fit
+one_is_few : (a : Stop) → ¬ (IsTrue (are_paired (a ∷ [])))
 one_is_few a fit =
     let kinds = subst (λ t. is_pick_then_drop (map (λ (stop : Stop). stop.kind) (cond t (a ∷ []) [])) ≡ true) (own_name a.job) (and_parts _ _ fit).0 in
     absurd (cc kinds)
 
-two_fit : (a b : Stop) → IsTrue (stops_fit (a ∷ b ∷ [])) → ((not (is_drop a.kind) && is_drop b.kind) ≡ true) × (b.job ≡ a.job)
-unfolding stops_fit
-two_fit a b fit =
+two_paired : (a b : Stop) → IsTrue (are_paired (a ∷ b ∷ [])) → ((not (is_drop a.kind) && is_drop b.kind) ≡ true) × (b.job ≡ a.job)
+two_paired a b fit =
     elim (pointwise nat_eq b.job a.job)
     as (λ t. pointwise nat_eq b.job a.job ≡ t → is_pick_then_drop (map (λ (stop : Stop). stop.kind) (a ∷ cond t (b ∷ []) [])) ≡ true → ((not (is_drop a.kind) && is_drop b.kind) ≡ true) × (b.job ≡ a.job)) [
       | true ↦ λ is kinds. (kinds, (same_name b.job a.job).0 is)
@@ -86,14 +85,13 @@ record IsPair (acts : List Act) : Type 0 where
   kinds : (not (is_drop pick.kind) && is_drop drop.kind) ≡ true
   job : drop.job ≡ pick.job
 
-pair_of : StopsTwice → (acts : List Act) → IsTrue (stops_fit (stops_of acts)) → count_by picks acts ≤ 1 → IsPair acts
-unfolding stops_fit
-pair_of twice [] fit few = absurd (cc fit)
-pair_of twice (a ∷ []) fit few = absurd (one_is_few (stop_of (task_of a)) fit)
-pair_of twice (a ∷ (b ∷ [])) fit few =
-    let both = two_fit (stop_of (task_of a)) (stop_of (task_of b)) fit in
+pair_of : StopsTwice → (acts : List Act) → acts ≢ [] → IsTrue (are_paired (stops_of acts)) → count_by picks acts ≤ 1 → IsPair acts
+pair_of twice [] some fit few = absurd (some refl)
+pair_of twice (a ∷ []) some fit few = absurd (one_is_few (stop_of (task_of a)) fit)
+pair_of twice (a ∷ (b ∷ [])) some fit few =
+    let both = two_paired (stop_of (task_of a)) (stop_of (task_of b)) fit in
     record { pick = a; drop = b; are = refl; kinds = both.0; job = both.1 }
-pair_of twice (a ∷ (b ∷ (c ∷ more))) fit few =
+pair_of twice (a ∷ (b ∷ (c ∷ more))) some fit few =
     let many = twice (stops_of (a ∷ b ∷ c ∷ more)) fit in
     let picked = picks_as_stops (a ∷ b ∷ c ∷ more) ∙ length-filter picks (a ∷ b ∷ c ∷ more) in
     absurd (too_many _ _ _ many picked few)
@@ -149,8 +147,8 @@ own_row q k x y found =
 squeezed : (n : ℕ) → 1 ≤ n → n ≤ 1 → n ≡ 1
 squeezed n low high = omega arith
 
-pub lawful_single : StopsTwice → (world : World) → IsLawful 1 world → CarriesOneEach (maps_of world)
-lawful_single twice world lawful = record {
+pub lawful_single : StopsTwice → (world : World) → IsLawful 1 world → ServesJobs world → CarriesOneEach (maps_of world)
+lawful_single twice world lawful served = record {
   vehicles = λ key row at.
       let from = spread_from key_cmp-total key_cmp key_cmp-total vehicle_rows world.vehicles key row at in
       let own = own_row key from.0 from.1.row row from.3 in
@@ -167,7 +165,7 @@ lawful_single twice world lawful = record {
         let own = of_one order trip.order (trip_row key trip) row found in
         let kept = lawful.trips.open_trips key vehicle trip at is in
         let few : count_by picks trip.acts ≤ 1 = between _ _ (lawful.capacity.picks_fit key vehicle trip at is) (lawful.capacity.seated key vehicle at) in
-        let pair = pair_of twice trip.acts kept.well_formed.planned.stops few in
+        let pair = pair_of twice trip.acts (served key trip (vehicle, at, is)) kept.well_formed.planned.stops few in
         subst (λ q. IsTripOfJob (maps_of world) q row) (sym own.0)
         (subst (IsTripOfJob (maps_of world) trip.order) own.1
         (trip_single world key trip pair (λ act among. lawful.jobs.acts key trip act (record { open_trip = (vehicle, at, is); among = among }))))

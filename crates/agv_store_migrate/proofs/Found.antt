@@ -16,7 +16,7 @@ use Rattle.agv_world_core.specs.Maps.{maps_of}
 use Rattle.agv_world_core.specs.Worlds.{World}
 use Rattle.agv_world_core.specs.declared.world.World.{World as Tables}
 use Rattle.agv_store_migrate.specs.FirstFound.{FindsFirst, FirstTablesStand, ReadsLists}
-use Rattle.agv_store_migrate.specs.FirstRows.{HasFirstWorld, HasNoFirstWorld, first_lists, first_names}
+use Rattle.agv_store_migrate.specs.FirstRows.{HasFirstWorld, HasNoFirstWorld, ServesJobs, first_lists, first_names}
 use Rattle.agv_store_migrate.specs.FirstTold.{Finds, TellFirst}
 use Rattle.agv_store_read.specs.Rowids.{AreTablesKeyed}
 use Rattle.agv_store_rows.specs.DecodedTrips.{tables_of}
@@ -26,6 +26,7 @@ use Rattle.agv_store_read.specs.declared.open_fault.OpenFault.{OpenFault}
 use Rattle.agv_store_read.specs.declared.open_fault.OpenFault.TheVariants as fault
 use Rattle.agv_store_read.specs.declared.held_things.HeldThings.{HeldThings}
 use Rattle.agv_store_schema.specs.declared.table_name.TableName.{TableName}
+use Rattle.agv_store_migrate.proofs.ServedJobs.{trips_serve_jobs}
 use Rattle.agv_store_migrate.proofs.TablesStanding.{stand_apart}
 use Rattle.agv_store_migrate.proofs.WorldTold.{one_told, rows_told}
 
@@ -71,7 +72,7 @@ AreFirst tables held = (world : World) × Keeps tables world × IsLawful 1 world
 
 -- the rows of a lawful world tell it
 abbrev pub RowsTellTheirWorld : Type 0
-RowsTellTheirWorld = (world : World) (lists : List (List Row)) → IsLawful 1 world → AreAlike (first_lists (maps_of world)) lists → TellFirst lists (tables_of (maps_of world)) (maps_of world).holds
+RowsTellTheirWorld = (world : World) (lists : List (List Row)) → IsLawful 1 world → ServesJobs world → AreAlike (first_lists (maps_of world)) lists → TellFirst lists (tables_of (maps_of world)) (maps_of world).holds
 
 module _ {S : Type 0} (g : Ghosts S) where
   -- ---- before anything is read
@@ -126,7 +127,7 @@ module _ {S : Type 0} (g : Ghosts S) where
     -- of a database that has the rows of a world they tell that world
     tells_it : HasCleanDisk (state g new) → (desk : Placing) (world : World) → HasFirstWorld desk (state g old).now world → TellFirst lists (tables_of (maps_of world)) (maps_of world).holds
     tells_it clean desk world has =
-        tell world lists has.lawful
+        tell world lists has.lawful has.served
         (are_alike desk (state g old).now first_names (first_lists (maps_of world)) lists has.rows.rows (reads.told clean desk (stand_apart desk has.stands) has.rows.schema_is))
 
     ends : (r : Result Tables OpenFault) (why : OpenFault) → IsErrAnd r (λ made. made ≡ why) → ¬ (why ≡ fault.Storage) → (HasCleanDisk (state g new) → why ≡ fault.Damaged → HasNoFirstWorld (state g old).now) → FindsFirst g old new r
@@ -168,6 +169,7 @@ module _ {S : Type 0} (g : Ghosts S) where
             let has : HasFirstWorld at (state g old).now world = record {
               stands = stand.1;
               lawful = are.2;
+              served = trips_serve_jobs lists tables told.tables_are world are.2 are.1;
               rows = record { schema_is = stand.2; rows = have_alike at (state g old).now first_names lists (first_lists (maps_of world)) alike read };
             } in
             (at, world, has, are.1);

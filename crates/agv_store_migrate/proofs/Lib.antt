@@ -8,6 +8,7 @@ pub mod MovedWorld
 pub mod MovingEach
 pub mod MovingStatements
 pub mod NoList
+pub mod ServedJobs
 pub mod TablesStanding
 pub mod TripLineLemmas
 pub mod TripRows

@@ -7,6 +7,9 @@ use Rattle.sqlite_trees.specs.Tree.{IsAscending}
 use Rattle.sqlite_schema.specs.declared.schema.Table.{Table}
 use Rattle.sqlite.specs.Effect.{Database}
 use Rattle.agv_header.specs.Name.{name_cmp}
+use Rattle.agv_header.specs.declared.key.VehicleKey.{VehicleKey}
+use Rattle.agv_order.specs.declared.trip.Trip.{Trip}
+use Rattle.agv_world_core.specs.ConsistentTrips.{HasTrip}
 use Rattle.agv_world_core.specs.Lawful.{IsLawful}
 use Rattle.agv_world_core.specs.Maps.{Maps, maps_of}
 use Rattle.agv_world_core.specs.Worlds.{World}
@@ -70,10 +73,16 @@ first_lists maps =
 
 -- ---- a database
 
+-- each open trip of the world serves a job: it has an act, and so is no drive
+abbrev pub ServesJobs : World → Type 0
+ServesJobs world = (key : VehicleKey) (trip : Trip) → HasTrip world key trip → trip.acts ≢ []
+
 -- the eleven tables in the database have the rows of this lawful world, in which each vehicle has the capacity 1
 pub record HasFirstWorld (desk : Placing) (db : Database) (world : World) : Type 0 where
   pub stands : IsFirstDesk desk
   pub lawful : IsLawful 1 world
+  -- the first schema has no drives
+  pub served : ServesJobs world
   pub rows : FirstHolds desk db (first_lists (maps_of world))
 
 -- the database has the rows of no such world

@@ -22,7 +22,8 @@ use Rattle.agv_stock.specs.declared.job.Phase.{Phase}
 use Rattle.agv_stock.specs.declared.job.Phase.TheVariants as phase
 use Rattle.agv_world_core.specs.declared.key.UseKind.{UseKind}
 use Rattle.agv_world_core.specs.declared.key.UseKind.TheVariants as used
-use Rattle.agv_store_rows.specs.ValueEncodings.{if_some, name_in, number_cell, number_in, flag_cell, flag_in, moment_in, word_in, phases, instants, act_kinds, use_kinds, place_kinds, thing_kinds, phase_name, phase_in, status_in, instant_in, act_kind_in, place_name, place_kind_in, thing_name, thing_kind_in, use_name, use_in, is_absent, maybe_in}
+use Rattle.agv_stock.specs.Phase.{phase_name}
+use Rattle.agv_store_rows.specs.ValueEncodings.{if_some, name_in, number_cell, number_in, flag_cell, flag_in, moment_in, word_in, phases, instants, act_kinds, use_kinds, place_kinds, thing_kinds, phase_in, status_in, instant_in, act_kind_in, place_name, place_kind_in, thing_name, thing_kind_in, use_name, use_in, is_absent, maybe_in}
 use Rattle.agv_store_rows.specs.declared.words.PlaceKind.{PlaceKind}
 use Rattle.agv_store_rows.specs.declared.words.ThingKind.{ThingKind}
 

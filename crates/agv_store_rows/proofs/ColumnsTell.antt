@@ -25,7 +25,8 @@ use Rattle.agv_store_rows.specs.declared.journey_row.JourneyRow.{JourneyRow}
 use Rattle.agv_world_core.specs.declared.key.LegKey.{LegKey}
 use Rattle.agv_world_core.specs.declared.row.JobRow.{JobRow}
 use Rattle.agv_world_core.specs.declared.row.VehicleRow.{VehicleRow}
-use Rattle.agv_store_rows.specs.ValueEncodings.{number_cell, flag_cell, flag_in, phase_name, phase_in, status_in, instant_in, act_kind_in}
+use Rattle.agv_stock.specs.Phase.{phase_name}
+use Rattle.agv_store_rows.specs.ValueEncodings.{number_cell, flag_cell, flag_in, phase_in, status_in, instant_in, act_kind_in}
 use Rattle.agv_store_rows.specs.Columns.{meta_columns, edge_columns, station_columns, vehicle_columns, vehicle_capacity_columns, journey_columns, act_columns, leg_columns, load_columns, job_columns, hold_columns}
 use Rattle.agv_store_rows.proofs.CellLemmas.{flag_kept, phase_kept, status_kept, instant_kept, act_kind_kept}
 

@@ -10,7 +10,7 @@ use Rattle.agv_header.specs.Name.{IsName, name_cmp}
 use Rattle.agv_layout.specs.Layout.{IsNode, KeepsRules, Layout}
 use Rattle.agv_layout.specs.Walk.{IsWalk}
 use Rattle.agv_order.specs.Trips.{task_of}
-use Rattle.agv_order.specs.WellFormed.{IsConfirmed, IsRising}
+use Rattle.agv_order.specs.WellFormed.{AreInOrder, IsConfirmed, IsRising}
 use Rattle.agv_order.specs.declared.act.Act.{Act}
 use Rattle.agv_order.specs.declared.trip.Trip.{Trip}
 use Rattle.agv_world_core.specs.Lawful.{IsLawful}
@@ -65,6 +65,11 @@ places_low from to (act ∷ acts) rising =
     let low : act.place_at ≤ to = later.0 in
     (omega (arith, first, low), (low, later.1))
 
+-- the acts of a plan are on its way
+acts_low : (acts : List Act) (end : ℕ) → AreInOrder (map task_of acts) end → AllByRecursion (λ (act : Act). act.place_at ≤ end) acts
+acts_low [] end order = tt
+acts_low (act ∷ acts) end order = (places_low 0 end (act ∷ acts) order).1
+
 few_acts : (k many : ℕ) (acts : List Act) → k < length acts → many ≡ length acts → many ≤ 8 → k < 8
 few_acts k many acts within is few = omega (arith, within, is, few)
 
@@ -117,7 +122,7 @@ module _ (joins : JoinsNodes) (seats : ℕ) (world : World) (lawful : IsLawful s
   places : (order : List ℕ) (row : TripRow) → IsOwn world order row → (k : ℕ) (act : Act) → slice_get row.acts k ≡ Some act → act.place_at ≤ 200
   places order row own k act at =
       let planned = (lawful.trips.open_trips own.key own.vehicle own.trip own.there own.open_trip).well_formed.planned in
-      let low = (places_low 0 (length own.trip.edges) own.trip.acts planned.rising).1 in
+      let low = acts_low own.trip.acts (length own.trip.edges) planned.rising in
       on_way act.place_at (length own.trip.edges) (at_place (λ (a : Act). a.place_at ≤ length own.trip.edges) own.trip.acts k act (subst (λ (r : TripRow). slice_get r.acts k ≡ Some act) (sym own.row_is) at) low) planned.short
 
   pub act_values : (key : ActKey) (row : ActRow) → finite.get (acts_of (maps_of world).trips) key ≡ Some row → IsActKey key × IsActValue row

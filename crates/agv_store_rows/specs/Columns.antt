@@ -19,7 +19,8 @@ use Rattle.agv_world_core.specs.declared.key.UseKey.{UseKey}
 use Rattle.agv_world_core.specs.declared.row.JobRow.{JobRow}
 use Rattle.agv_world_core.specs.declared.row.Sent.{Sent}
 use Rattle.agv_world_core.specs.declared.row.VehicleRow.{VehicleRow}
-use Rattle.agv_store_rows.specs.ValueEncodings.{if_some, name_in, number_cell, number_in, flag_cell, flag_in, moment_in, maybe_in, phase_name, phase_in, status_in, instant_in, use_name, use_in, place_kind_in, act_kind_in, thing_kind_in}
+use Rattle.agv_stock.specs.Phase.{phase_name}
+use Rattle.agv_store_rows.specs.ValueEncodings.{if_some, name_in, number_cell, number_in, flag_cell, flag_in, moment_in, maybe_in, phase_in, status_in, instant_in, use_name, use_in, place_kind_in, act_kind_in, thing_kind_in}
 use Rattle.agv_store_rows.specs.declared.act_key.ActKey.{ActKey}
 use Rattle.agv_store_rows.specs.declared.act_row.ActRow.{ActRow}
 use Rattle.agv_store_rows.specs.declared.journey_row.JourneyRow.{JourneyRow}

@@ -15,6 +15,7 @@ use Rattle.agv_message_core.specs.declared.instant.InstantKind.TheVariants as in
 use Rattle.agv_message_core.specs.declared.order.ActKind.{ActKind}
 use Rattle.agv_message_core.specs.declared.order.ActKind.TheVariants as act
 use Rattle.agv_message_core.specs.declared.status.Status.{Status}
+use Rattle.agv_stock.specs.Phase.{phase_name}
 use Rattle.agv_stock.specs.declared.job.Phase.{Phase}
 use Rattle.agv_stock.specs.declared.job.Phase.TheVariants as phase
 use Rattle.agv_world_core.specs.declared.key.UseKind.{UseKind}
@@ -66,13 +67,7 @@ abbrev pub word_in : {K : Type 0} → (K → List ℕ) → List K → Value → 
 word_in word all (Text bytes) = find (λ one. bytes_eq bytes (word one)) all
 word_in word all _ = None
 
--- the word for the phase of a job
-abbrev pub phase_name : Phase → List ℕ
-phase_name phase.Waiting = codes "waiting"
-phase_name phase.Riding = codes "riding"
-phase_name phase.Done = codes "done"
-phase_name phase.Stopped = codes "stopped"
-
+-- the phases of a job
 abbrev pub phases : List Phase
 phases = phase.Waiting ∷ phase.Riding ∷ phase.Done ∷ phase.Stopped ∷ []
 

@@ -7,7 +7,7 @@ ghost use Rattle.agv_message_core.specs.Instant.{instant_name};
 ghost use Rattle.agv_store_rows.specs.ValueEncodings.{number_cell};
 ghost use Rattle.agv_store_rows.specs.Columns.{node_columns, edge_columns, station_columns, vehicle_columns, vehicle_capacity_columns, journey_columns, act_columns, leg_columns, load_columns, job_columns, hold_columns, used_columns};
 
-use crate::words::{phase_text, use_text};
+use crate::words::use_text;
 use crate::{ActKey, ActRow, JourneyRow};
 use agv_header::{Name, Thing, VehicleKey};
 use agv_layout::{EdgeEnds, StationSite};
@@ -197,7 +197,7 @@ pub fn job_values<'a>(id: &'a Name, job: &'a JobRow) -> [ValueRef<'a>; 5]
         name_value(&job.load),
         name_value(&job.origin),
         name_value(&job.target),
-        phase_text(job.phase).to_sql(),
+        job.phase.name().to_sql(),
     ]
 }
 

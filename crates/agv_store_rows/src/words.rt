@@ -1,8 +1,7 @@
 //! The words in the columns for kinds, phases and uses.
 ghost use Rattle.std.specs.Prelude.{◌≡◌};
-ghost use Rattle.agv_store_rows.specs.ValueEncodings.{phase_name, use_name};
+ghost use Rattle.agv_store_rows.specs.ValueEncodings.{use_name};
 
-use agv_stock::Phase;
 use agv_world_core::UseKind;
 
 /// The kind of a load's place, without its name.
@@ -19,18 +18,6 @@ pub enum PlaceKind {
 pub enum ThingKind {
     Node,
     Edge,
-}
-
-/// Returns the word for the phase of a job.
-pub fn phase_text(phase: Phase) -> &'static str
-    ensures { result.now ≡ phase_name phase }
-{
-    match phase {
-        Phase::Waiting => "waiting",
-        Phase::Riding => "riding",
-        Phase::Done => "done",
-        Phase::Stopped => "stopped",
-    }
 }
 
 /// Returns the word for what a name was used for.

@@ -6,7 +6,8 @@ use agv_desk::{Answer, Report};
 use agv_face_http::{answer_bytes, memory_answer, put_answer, storage_answer};
 use agv_header::{Name, Refusal, Thing, VehicleKey, Verb};
 use agv_message::Sequence;
-use agv_stock::Place;
+use agv_stock::{Phase, Place};
+use agv_world_core::{JobRow, Rider};
 use std::alloc::Global;
 use std::process::Abort;
 use std::str;
@@ -78,6 +79,34 @@ fn checked(load: Name) -> Answer {
     Answer::Load { load, place, job }
 }
 
+/// Returns the answer for a job of L1 from A to B that waits; or rides, if a vehicle carries it out.
+fn told_job(job: Name, load: Name, origin: Name, target: Name, rider: Option<Rider>) -> Answer {
+    let phase = match rider {
+        None => Phase::Waiting,
+        Some(_) => Phase::Riding,
+    };
+    let row = JobRow {
+        load,
+        origin,
+        target,
+        phase,
+    };
+    Answer::Job { job, row, rider }
+}
+
+/// Returns the answer for a job of L1 from A to B that KIT/0001 carries out by this order, or that waits.
+fn job(rt: &impl Abort, named: Name, order: Option<Name>) -> Answer {
+    let vehicle = VehicleKey {
+        manufacturer: name(rt, "KIT"),
+        serial: name(rt, "0001"),
+    };
+    let rider = match order {
+        None => None,
+        Some(order) => Some(Rider { vehicle, order }),
+    };
+    told_job(named, name(rt, "L1"), name(rt, "A"), name(rt, "B"), rider)
+}
+
 /// Returns a report whose text is `a report`.
 fn reported(rt: &impl Abort, alloc: Global, report: Report) -> Answer {
     let text = Vec::from_slice(alloc, b"a report").expect(rt, "memory");
@@ -96,6 +125,8 @@ fn answer(rt: &impl Abort, alloc: Global, text: &str) -> Answer {
         "instructed" => Answer::Instructed(more.parse::<u32>().expect(rt, text)),
         "accepted" => Answer::Accepted(more == "true"),
         "load" => checked(name(rt, more)),
+        "job" => job(rt, name(rt, more), None),
+        "riding" => job(rt, name(rt, more), Some(name(rt, "O1"))),
         "stock" => reported(rt, alloc, Report::Stock),
         "holds" => reported(rt, alloc, Report::Holds),
         "jobs" => reported(rt, alloc, Report::Jobs),
@@ -112,6 +143,8 @@ instructed 1 => 200 OK|application/json||{"actionId":"instant-1"}
 accepted true => 200 OK|application/json||{"accepted":true}
 accepted false => 200 OK|application/json||{"accepted":false}
 load L1 => 200 OK|application/json||{"job":null,"load":"L1","place":"checking"}
+job J1 => 200 OK|application/json||{"from":"A","job":"J1","load":"L1","order":null,"phase":"waiting","to":"B","vehicle":null}
+riding J1 => 200 OK|application/json||{"from":"A","job":"J1","load":"L1","order":"O1","phase":"riding","to":"B","vehicle":"KIT/0001"}
 stock - => 200 OK|text/plain||a report
 holds - => 200 OK|text/plain||a report
 loads - => 200 OK|text/csv||a report

@@ -93,6 +93,37 @@ fn plans(rt: HostRuntime) {
     }
 }
 
+/// Plans the drive O1 of KIT/0001. The words of the call after its name are the vehicle's node, the number of released
+/// edges, and the node where it is to go.
+fn drive(rt: &impl Abort, alloc: Global, layout: &Layout, call: &str) -> Result<Trip, PlanFault> {
+    let (order, vehicle) = (name(rt, "O1"), kit(rt, "0001"));
+    let at_node = name(rt, word(rt, call, 1));
+    let edges = number(rt, word(rt, call, 2));
+    let to = name(rt, word(rt, call, 3));
+    Trip::plan_drive(alloc, layout, vehicle, order, at_node, to, edges)
+}
+
+/// A drive has no acts. There is none to the node where the vehicle is, from or to an unknown one, or with more edges
+/// released than it has.
+const DRIVES: &str = "\
+drive N1 1 N3 => Ok(Trip { order: O1, vehicle: VehicleKey { manufacturer: KIT, serial: 0001 }, start: N1, edges: Sequence { kept: [Edge { id: E12, start: N1, finish: N2 }, Edge { id: E23, start: N2, finish: N3 }] }, first: 0, base: 1, sent: 0, confirmed: None, seen: 0, acts: Sequence { kept: [] } })
+drive N3 0 N2 => Ok(Trip { order: O1, vehicle: VehicleKey { manufacturer: KIT, serial: 0001 }, start: N3, edges: Sequence { kept: [Edge { id: E32, start: N3, finish: N2 }] }, first: 0, base: 0, sent: 0, confirmed: None, seen: 0, acts: Sequence { kept: [] } })
+drive N1 3 N3 => Err(Beyond)
+drive N1 0 N1 => Err(NoWalk)
+drive N9 0 N1 => Err(NoWalk)
+drive N1 9 N9 => Err(NoWalk)
+";
+
+#[test]
+fn drives(rt: HostRuntime) {
+    let layout = layout(&rt, rt.alloc(), WAREHOUSE);
+    for line in DRIVES.lines() {
+        let (call, wanted) = row(&rt, line);
+        let found = shown(&rt, rt.alloc(), &drive(&rt, rt.alloc(), &layout, call));
+        check_text(&rt, found.as_str(), wanted, call);
+    }
+}
+
 const STOPS: &str = "\
 pick:J1,drop:J1 => true
  => false

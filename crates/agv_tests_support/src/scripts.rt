@@ -2,6 +2,7 @@
 //! with which they begin.
 
 pub mod cancels;
+pub mod drives;
 pub mod instants;
 pub mod layouts;
 pub mod loads;
@@ -15,8 +16,9 @@ pub mod ways;
 pub mod written;
 
 /// The scripts for vehicles of one load.
-pub const FOR_ONE: [&[&[&str]]; 14] = [
+pub const FOR_ONE: [&[&[&str]]; 15] = [
     cancels::CANCELS,
+    drives::DRIVES,
     instants::INSTANTS,
     layouts::LAYOUTS,
     layouts::MOST_VEHICLES,

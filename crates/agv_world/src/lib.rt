@@ -8,8 +8,8 @@
 #![tactic(auto)]
 
 pub use agv_world_core::{
-    ByLeg, ByName, ByVehicle, Change, Counted, Fault, Floor, JobRow, LegKey, Names, Row, Sent,
-    TripRow, UseKey, UseKind, UsedNames, VehicleRow, World,
+    ByLeg, ByName, ByVehicle, Change, Counted, Fault, Floor, JobRow, LegKey, Names, Rider, Row,
+    Sent, TripRow, UseKey, UseKind, UsedNames, VehicleRow, World,
 };
 pub use agv_world_lawful::TestsLawful;
 pub use agv_world_plain::PlainFloor;

@@ -6,7 +6,7 @@ ghost use Rattle.agv_world_core.specs.Lawful.{IsLawful};
 ghost use Rattle.agv_world_core.specs.LawfulParts.{HasLawfulLoads, HasLawfulVehicles};
 ghost use Rattle.agv_world_core.specs.Worlds.{World, empty_world};
 
-use agv_order::laws::{fits_as_said, stops_twice};
+use agv_order::laws::{pairs_as_said, stops_twice};
 
 /// Proves that a world is lawful if and only if its vehicles are lawful by themselves, with their
 /// footprints apart, and its loads and jobs are lawful too: the two parts in which the tests of tables
@@ -20,7 +20,7 @@ pub fn has_two_parts()
 pub fn loads_meet_invariant()
     ensures { (seats : ℕ) (world : World) → HasLawfulVehicles seats world → HasLawfulLoads world ↔ HasStockInvariant world }
 {
-    fits_as_said();
+    pairs_as_said();
     stops_twice();
 }
 

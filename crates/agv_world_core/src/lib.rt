@@ -26,6 +26,7 @@ mod key;
 pub mod lawful_laws;
 pub mod laws;
 mod questions;
+mod riders;
 mod row;
 mod tables;
 mod world;
@@ -33,8 +34,9 @@ mod world_layout;
 
 pub use change::Change;
 pub use fault::Fault;
-pub use floor::{Counted, Floor};
+pub use floor::{Counted, Floor, Rider};
 pub use key::{LegKey, UseKey, UseKind};
+pub use riders::has_drop_among;
 pub use row::{JobRow, Sent, TripRow, VehicleRow};
 pub use tables::{ByLeg, ByName, ByVehicle, Names, Row, UsedNames};
 pub use world::World;

@@ -1,3 +1,4 @@
 mod HeldBy
 mod Holding
 mod NoStorage
+mod Riding

@@ -1,5 +1,5 @@
 -- An answer that is no fault of the store.
-use Rattle.std.proofs.Common.{◌≡◌, ◌≢◌, Bool, false, Result, Err, ap, ◌∙◌}
+use Rattle.std.proofs.Common.{◌≡◌, ◌≢◌, false, Result, Err, ap, ◌∙◌}
 use Rattle.std.proofs.lemmas.Bool.{false≢true}
 use Rattle.agv_world_core.specs.Asks.{failed_by}
 use Rattle.agv_world_core.specs.declared.fault.Fault.{Fault}

@@ -2,8 +2,8 @@
 //!
 //! - [`PlainFloor`] answers the questions of a `Floor` of `agv_world_core` from the tables of a world, which it borrows: the
 //!   answers are those of the world that the tables determine (`Told.antt` of `agv_world_core`).
-//! - `questions` answers those for which a world has no method, and `holders` which vehicle holds a node or an edge,
-//!   from the rows of vehicles and their trips.
+//! - `questions` answers those for which a world has no method. From the rows of vehicles and their trips `holders` finds
+//!   the vehicle that holds a node or an edge, and `riders` the one that carries out a job.
 //! - [`laws`] says that over such a floor no decision ends with a fault of the store.
 #![tactic(auto)]
 
@@ -11,5 +11,6 @@ mod holders;
 pub mod laws;
 mod plain_floor;
 mod questions;
+mod riders;
 
 pub use plain_floor::PlainFloor;

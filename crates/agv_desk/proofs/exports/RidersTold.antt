@@ -5,7 +5,8 @@ use Rattle.std.specs.FinMap as finite
 use Rattle.std.specs.List.{AllByRecursion, list_any}
 use Rattle.std.proofs.lemmas.Bool.{and_from, and_parts, true≢false, false≢true}
 use Rattle.std.proofs.lemmas.List.Folds.{Any-from_list_any, list_any-from_Any}
-use Rattle.agv_count_exports.specs.Exports.{has_drop_of, is_drop_of, rider_of, vehicles_told}
+use Rattle.agv_world_core.specs.Riders.{has_drop_of, is_drop_of}
+use Rattle.agv_count_exports.specs.Exports.{rider_of, vehicles_told}
 use Rattle.agv_count_exports.specs.declared.told.VehicleTold.{VehicleTold}
 use Rattle.agv_header.specs.KeyOrder.{key_cmp-total, key_cmp-IsAntisymmetric}
 use Rattle.agv_header.specs.declared.key.VehicleKey.{VehicleKey}

@@ -31,7 +31,7 @@ use Rattle.agv_desk.proofs.histories.GoingAlong.{GoesAlong, RowGoesOn, row_after
 use Rattle.agv_desk.proofs.outcomes.Keeping.{Continues, Follows}
 use Rattle.agv_desk.proofs.outcomes.Ladders.{IfMade}
 use Rattle.agv_desk.proofs.histories.LawfulLists.{KeepsLawful}
-use Rattle.agv_desk.proofs.histories.TripLeft.{FitsAsSaid}
+use Rattle.agv_desk.proofs.histories.TripLeft.{PairsAsSaid}
 use Rattle.agv_desk.proofs.histories.TripsFollow.{status_through}
 
 -- ---- numbers
@@ -115,7 +115,7 @@ told_on state order pending before after follows is = record {
 
 -- ---- over a list of calls
 
-module _ (advances : AdvancesTrips) (fits : FitsAsSaid) (seats : ℕ) (keeps : KeepsLawful seats) where
+module _ (advances : AdvancesTrips) (fits : PairsAsSaid) (seats : ℕ) (keeps : KeepsLawful seats) where
   pub accepted_since : (world : World) (calls : List (ℕ × Call)) → IsLawful seats world → AreWellTyped calls → (key : VehicleKey) (number : ℕ) → HasNoResync key calls
       → IsAccepted key number world → IsAccepted key number (steps seats world calls)
   accepted_since world [] lawful typed key number none accepted = accepted

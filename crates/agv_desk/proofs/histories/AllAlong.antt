@@ -11,10 +11,10 @@ use Rattle.agv_desk.proofs.row_changes.Given.{AdvancesTrips}
 use Rattle.agv_desk.proofs.histories.GoingAlong.{GoesAlong, follows_effect}
 use Rattle.agv_desk.proofs.outcomes.Keeping.{Follows, FollowsBy}
 use Rattle.agv_desk.proofs.outcomes.Ladders.{IfMade}
-use Rattle.agv_desk.proofs.histories.OrdersAlong.{starts_order, advances_trip}
-use Rattle.agv_desk.proofs.histories.PlainAlong.{adds_job, begins_anew, cancels, corrects_load, lets_load_leave, pauses, places_vehicle, registers_load, registers_vehicle, resumes, sets_layout, stops_job, takes_stock, tells_instant, tells_load, tells_order, tells_vehicle, touches_none}
+use Rattle.agv_desk.proofs.histories.OrdersAlong.{starts_drive, starts_order, advances_trip}
+use Rattle.agv_desk.proofs.histories.PlainAlong.{adds_job, begins_anew, cancels, corrects_load, lets_load_leave, pauses, places_vehicle, registers_load, registers_vehicle, resumes, sets_layout, stops_job, takes_stock, tells_instant, tells_job, tells_load, tells_order, tells_vehicle, touches_none}
 use Rattle.agv_desk.proofs.histories.StatesAlong.{takes_state}
-use Rattle.agv_desk.proofs.histories.TripLeft.{FitsAsSaid}
+use Rattle.agv_desk.proofs.histories.TripLeft.{PairsAsSaid}
 use Rattle.agv_desk.proofs.histories.TripsFollow.{world_itself}
 
 -- the number of the vehicle's last state is forgotten by its resync alone
@@ -27,6 +27,7 @@ Forgets (call.LeaveLoad load reference) other = ⊥
 Forgets (call.AddJob job load to) other = ⊥
 Forgets (call.StopJob job) other = ⊥
 Forgets (call.StartOrder order key stops edges) other = ⊥
+Forgets (call.StartDrive order key to edges) other = ⊥
 Forgets (call.Advance key order update edges) other = ⊥
 Forgets (call.Cancel key) other = ⊥
 Forgets (call.Pause key) other = ⊥
@@ -38,6 +39,7 @@ Forgets (call.GetOrder key) other = ⊥
 Forgets (call.GetInstant key) other = ⊥
 Forgets (call.Stocktake reference rows) other = ⊥
 Forgets (call.GetLoad load) other = ⊥
+Forgets (call.GetJob job) other = ⊥
 Forgets (call.GetVehicle key) other = ⊥
 Forgets (call.Report report) other = ⊥
 
@@ -51,6 +53,7 @@ not_forgotten (call.LeaveLoad load reference) key differs none = none
 not_forgotten (call.AddJob job load to) key differs none = none
 not_forgotten (call.StopJob job) key differs none = none
 not_forgotten (call.StartOrder order other stops edges) key differs none = none
+not_forgotten (call.StartDrive order other to edges) key differs none = none
 not_forgotten (call.Advance other order update edges) key differs none = none
 not_forgotten (call.Cancel other) key differs none = none
 not_forgotten (call.Pause other) key differs none = none
@@ -61,10 +64,11 @@ not_forgotten (call.GetOrder other) key differs none = none
 not_forgotten (call.GetInstant other) key differs none = none
 not_forgotten (call.Stocktake reference rows) key differs none = none
 not_forgotten (call.GetLoad load) key differs none = none
+not_forgotten (call.GetJob job) key differs none = none
 not_forgotten (call.GetVehicle other) key differs none = none
 not_forgotten (call.Report report) key differs none = none
 
-module _ (advances : AdvancesTrips) (fits : FitsAsSaid) (seats : ℕ) (world : World) (lawful : HasLawfulVehicles seats world) where
+module _ (advances : AdvancesTrips) (fits : PairsAsSaid) (seats : ℕ) (world : World) (lawful : HasLawfulVehicles seats world) where
   pub goes_along : (at : ℕ) (made : Call) → IfMade (GoesAlong world (Forgets made)) (step seats world at made)
   goes_along at (call.SetLayout rows) = sets_layout world _ rows
   goes_along at (call.RegisterVehicle key node capacity) = registers_vehicle world _ seats key node capacity
@@ -74,6 +78,7 @@ module _ (advances : AdvancesTrips) (fits : FitsAsSaid) (seats : ℕ) (world : W
   goes_along at (call.AddJob job load to) = adds_job world _ job load to
   goes_along at (call.StopJob job) = stops_job world _ job
   goes_along at (call.StartOrder order key stops edges) = starts_order world _ (record { at = at; order = order; key = key; stops = stops; edges = edges })
+  goes_along at (call.StartDrive order key to edges) = starts_drive world _ (record { at = at; order = order; key = key; to = to; edges = edges })
   goes_along at (call.Advance key order update edges) = advances_trip world _ at key order update edges
   goes_along at (call.Cancel key) = cancels world _ at key
   goes_along at (call.Pause key) = pauses world _ at key
@@ -85,6 +90,7 @@ module _ (advances : AdvancesTrips) (fits : FitsAsSaid) (seats : ℕ) (world : W
   goes_along at (call.GetInstant key) = tells_instant world _ key
   goes_along at (call.Stocktake reference rows) = takes_stock world _ reference rows
   goes_along at (call.GetLoad load) = tells_load world _ load
+  goes_along at (call.GetJob job) = tells_job world _ job
   goes_along at (call.GetVehicle key) = tells_vehicle world _ key
   goes_along at (call.Report report) = touches_none world _ _ refl (λ kind order job. refl)
 

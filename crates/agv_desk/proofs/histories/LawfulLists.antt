@@ -22,7 +22,7 @@ use Rattle.agv_desk.proofs.row_changes.Given.{AdvancesTrips}
 use Rattle.agv_desk.proofs.histories.GoingAlong.{GoesAlong, IsSpent}
 use Rattle.agv_desk.proofs.outcomes.Keeping.{Follows}
 use Rattle.agv_desk.proofs.outcomes.Ladders.{IfMade}
-use Rattle.agv_desk.proofs.histories.TripLeft.{FitsAsSaid}
+use Rattle.agv_desk.proofs.histories.TripLeft.{PairsAsSaid}
 use Rattle.agv_desk.proofs.histories.TripsFollow.{final_stays, world_itself, world_through}
 
 -- each call keeps a lawful world lawful
@@ -70,7 +70,7 @@ pub typed_more : (calls : List (ℕ × Call)) (made : ℕ × Call) → AreWellTy
 typed_more [] made typed moment well = (moment, well, tt)
 typed_more (first ∷ calls) made typed moment well = (typed.0, typed.1, typed_more calls made typed.2 moment well)
 
-module _ (advances : AdvancesTrips) (fits : FitsAsSaid) (seats : ℕ) (keeps : KeepsLawful seats) where
+module _ (advances : AdvancesTrips) (fits : PairsAsSaid) (seats : ℕ) (keeps : KeepsLawful seats) where
   -- every list of calls keeps a lawful world lawful
   pub stays_lawful : (world : World) (calls : List (ℕ × Call)) → IsLawful seats world → AreWellTyped calls → IsLawful seats (steps seats world calls)
   stays_lawful world [] lawful typed = lawful

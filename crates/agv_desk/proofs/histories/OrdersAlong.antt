@@ -1,5 +1,5 @@
 -- What the calls of orders leave of the history of a world: a new trip is of an order that was not used, and a released trip goes on.
-use Rattle.std.proofs.Common.{◌≡◌, inl, inr, ℕ, Bool, true, false, cond, nat_eq, List, Option, None, Some, Result, Ok, Err, refl, sym, ap, subst, ◌∙◌, arith}
+use Rattle.std.proofs.Common.{◌≡◌, inl, inr, ℕ, Bool, true, false, cond, nat_eq, List, [], Option, None, Some, Result, Ok, Err, refl, sym, ap, subst, ◌∙◌, arith}
 use Rattle.std.specs.Cmp.Lexicographic.{pointwise}
 use Rattle.std.specs.FinSet as set
 use Rattle.agv_header.specs.declared.key.VehicleKey.{VehicleKey}
@@ -11,13 +11,15 @@ use Rattle.agv_world_core.specs.Questions.{row_of, trip_of, is_used}
 use Rattle.agv_world_core.specs.Worlds.{World}
 use Rattle.agv_world_core.specs.declared.key.UseKind.TheVariants as used
 use Rattle.agv_world_core.specs.declared.row.VehicleRow.{VehicleRow}
-use Rattle.agv_desk.specs.OrderParts.{send_trip}
+use Rattle.agv_desk.specs.DriveSteps.{AskedDrive, start_drive}
+use Rattle.agv_desk.specs.OrderParts.{order_of_drive, send_trip}
 use Rattle.agv_desk.specs.OrderSteps.{AskedOrder, if_planned, start_order, trip_for, send_update, advance}
 use Rattle.agv_desk.specs.Outcomes.{Effect, Outcome}
 use Rattle.agv_desk.proofs.histories.GoingAlong.{GoesAlong, RowGoesOn}
 use Rattle.agv_desk.proofs.outcomes.Keeping.{Continues}
 use Rattle.agv_desk.proofs.outcomes.Known.{has_trip, none_some, same_some}
 use Rattle.agv_desk.proofs.outcomes.Ladders.{IfMade, made_refuse_unless, made_refuse_if_none, made_unheld}
+use Rattle.agv_desk.proofs.row_changes.DriveRows.{drive_begins}
 use Rattle.agv_desk.proofs.row_changes.OrderRows.{plan_of_order}
 use Rattle.agv_desk.proofs.histories.PlainAlong.{puts_known}
 use Rattle.agv_desk.proofs.row_changes.Steps.{not_true}
@@ -68,6 +70,14 @@ module _ (world : World) (forgets : VehicleKey → Type 0) where
       made_refuse_unless P _ _ _ (λ c. made_refuse_unless P _ _ _ (λ d. made_refuse_unless P _ _ _ (λ e. made_refuse_unless P _ _ _ (λ f.
       made_refuse_if_none P _ _ _ (λ layout is_set. made_by_plan P _ _ (λ trip is_plan.
       sends_trip asked row jobs trip (not_true _ unused) there (plan_of_order layout asked.key jobs asked.stops asked.order row.node asked.edges trip is_plan))))))))))))))
+
+  pub starts_drive : (asked : AskedDrive) → IfMade P (start_drive world asked)
+  starts_drive asked =
+      made_refuse_unless P _ _ _ (λ unused. made_refuse_if_none P _ _ _ (λ row there. made_refuse_unless P _ _ _ (λ node.
+      made_refuse_unless P _ _ _ (λ a. made_refuse_unless P _ _ _ (λ idle. made_refuse_unless P _ _ _ (λ c.
+      made_refuse_unless P _ _ _ (λ d. made_refuse_unless P _ _ _ (λ e.
+      made_refuse_if_none P _ _ _ (λ layout is_set. made_by_plan P _ _ (λ trip is_plan.
+      sends_trip (order_of_drive asked) row [] trip (not_true _ unused) there (drive_begins layout asked.key asked.order row.node asked.to asked.edges trip is_plan).of_order))))))))))
 
   sends_update : (at : ℕ) (key : VehicleKey) (row : VehicleRow) (trip : Trip) (update edges : ℕ) → row_of world key ≡ Some row → trip_of world key ≡ Some trip
       → IfMade P (send_update world at key row trip update edges)

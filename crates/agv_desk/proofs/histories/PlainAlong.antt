@@ -19,7 +19,7 @@ use Rattle.agv_desk.specs.JobSteps.{add_job, stop_job}
 use Rattle.agv_desk.specs.LayoutSteps.{if_given, set_layout}
 use Rattle.agv_desk.specs.LoadSteps.{register_load, correct_load, leave_load}
 use Rattle.agv_desk.specs.Outcomes.{Effect, Outcome, Nothing, RowOnly, Whole}
-use Rattle.agv_desk.specs.ReadSteps.{get_order, get_instant, get_load, get_vehicle}
+use Rattle.agv_desk.specs.ReadSteps.{get_order, get_instant, get_load, get_job, get_vehicle}
 use Rattle.agv_desk.specs.StocktakeSteps.{Row, count_move, new_places, take_stock}
 use Rattle.agv_desk.specs.VehicleSteps.{register_vehicle, place_vehicle, resync}
 use Rattle.agv_desk.proofs.histories.GoingAlong.{ActsOnce, GoesAlong, RowGoesOn, RowsGoOn, TripGoesOn, TripsGoOn}
@@ -130,6 +130,9 @@ module _ (world : World) (forgets : VehicleKey → Type 0) where
 
   pub tells_load : (load : List ℕ) → IfMade P (get_load world load)
   tells_load load = made_refuse_if_none P _ _ _ (λ place is. touches_none _ refl (λ kind order job. refl))
+
+  pub tells_job : (job : List ℕ) → IfMade P (get_job world job)
+  tells_job job = made_refuse_if_none P _ _ _ (λ row is. touches_none _ refl (λ kind order job. refl))
 
   pub tells_vehicle : (key : VehicleKey) → IfMade P (get_vehicle world key)
   tells_vehicle key = made_refuse_if_none P _ _ _ (λ row is. touches_none _ refl (λ kind order job. refl))

@@ -28,9 +28,9 @@ use Rattle.agv_desk.proofs.outcomes.Ladders.{IfMade}
 use Rattle.agv_desk.proofs.histories.LawfulLists.{KeepsLawful, follows_steps, stays_lawful, typed_first, typed_later}
 use Rattle.agv_desk.proofs.histories.RepeatedStates.{IsQuiet, holds_quiet, moves_quiet, quiet_again, quiet_old, unchanged_old, world_unchanged}
 use Rattle.agv_desk.proofs.histories.SameHolds.{HoldsAreFootprints}
-use Rattle.agv_desk.proofs.histories.TripLeft.{FitsAsSaid}
+use Rattle.agv_desk.proofs.histories.TripLeft.{PairsAsSaid}
 
-module _ (advances : AdvancesTrips) (fits : FitsAsSaid) (footprints : HoldsAreFootprints) (seats : ℕ) (keeps : KeepsLawful seats) where
+module _ (advances : AdvancesTrips) (fits : PairsAsSaid) (footprints : HoldsAreFootprints) (seats : ℕ) (keeps : KeepsLawful seats) where
   -- the message came after the calls `earlier`, and comes again after those `since`
   module _ (world : World) (earlier since : List (ℕ × Call)) (at : ℕ) (key : VehicleKey) (state : StateMessage) (lawful : IsLawful seats world)
       (typed : AreWellTyped (earlier ++ (at, call.State key state) ∷ since))

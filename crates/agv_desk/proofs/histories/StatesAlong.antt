@@ -29,7 +29,7 @@ use Rattle.agv_desk.proofs.outcomes.Keeping.{Continues}
 use Rattle.agv_desk.proofs.outcomes.Known.{has_trip, none_some, same_some}
 use Rattle.agv_desk.proofs.outcomes.Ladders.{IfMade, made_refuse_unless, made_refuse_if_none, made_judged}
 use Rattle.agv_desk.proofs.histories.PlainAlong.{notes_row, puts_known, touches_none}
-use Rattle.agv_desk.proofs.histories.TripLeft.{FitsAsSaid, left_is, one_act_each, only_trip, progress_continues, renewed_act, trip_few, trip_lawful, trip_under_way, zipped_act}
+use Rattle.agv_desk.proofs.histories.TripLeft.{PairsAsSaid, left_is, one_act_each, only_trip, progress_continues, renewed_act, trip_few, trip_lawful, trip_under_way, zipped_act}
 
 -- one way or the other, with what the test has shown
 pub made_either : (P : Effect → Type 0) (test : Bool) (one other : Outcome) → (test ≡ true → IfMade P one) → (test ≡ false → IfMade P other) → IfMade P (branch test one other)
@@ -65,7 +65,7 @@ was_unfinished true true e = cc
 was_unfinished true false e = (refl, refl)
 was_unfinished false before e = cc
 
-module _ (advances : AdvancesTrips) (fits : FitsAsSaid) (seats : ℕ) (world : World) (lawful : HasLawfulVehicles seats world) (forgets : VehicleKey → Type 0) where
+module _ (advances : AdvancesTrips) (fits : PairsAsSaid) (seats : ℕ) (world : World) (lawful : HasLawfulVehicles seats world) (forgets : VehicleKey → Type 0) where
   abbrev P : Effect → Type 0
   P = GoesAlong world forgets
 

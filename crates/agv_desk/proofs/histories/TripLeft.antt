@@ -9,8 +9,8 @@ use Rattle.agv_header.specs.declared.key.VehicleKey.{VehicleKey}
 use Rattle.agv_message_core.specs.declared.order.ActKind.{ActKind}
 use Rattle.agv_message_core.specs.declared.order.ActKind.TheVariants.{Pick, Drop}
 use Rattle.agv_message_core.specs.declared.status.Status.{Status}
-use Rattle.agv_order.specs.StopPlaces.{IsAt, CanBeDone}
-use Rattle.agv_order.specs.Stops.{stops_fit}
+use Rattle.agv_order.specs.StopPlaces.{ArePaired, IsAt}
+use Rattle.agv_order.specs.Stops.{are_paired}
 use Rattle.agv_order.specs.Trips.{task_of, stop_of}
 use Rattle.agv_order.specs.WellFormed.{IsUnderWay}
 use Rattle.agv_order.specs.declared.act.Act.{Act}
@@ -44,9 +44,9 @@ module _ (seats : ℕ) (world : World) (lawful : HasLawfulVehicles seats world) 
 
 -- ---- each job is picked once and dropped once
 
--- stops that fit can be carried out
-abbrev pub FitsAsSaid : Type 0
-FitsAsSaid = (stops : List Stop) → IsTrue (stops_fit stops) ↔ CanBeDone stops
+-- paired stops are each picked once and later dropped once
+abbrev pub PairsAsSaid : Type 0
+PairsAsSaid = (stops : List Stop) → IsTrue (are_paired stops) ↔ ArePaired stops
 
 abbrev stops_of : List Act → List Stop
 stops_of acts = map stop_of (map task_of acts)
@@ -54,14 +54,14 @@ stops_of acts = map stop_of (map task_of acts)
 stop_at : (acts : List Act) (k : ℕ) (act : Act) → slice_get acts k ≡ Some act → slice_get (stops_of acts) k ≡ Some (record { kind = act.kind; job = act.job })
 stop_at acts k act there = slice_get-map stop_of (map task_of acts) k ∙ ap (option_map stop_of) (slice_get-map task_of acts k ∙ ap (option_map task_of) there)
 
-pub one_act_each : FitsAsSaid → (acts : List Act) → IsTrue (stops_fit (stops_of acts)) → (i k : ℕ) (one other : Act) → slice_get acts i ≡ Some one → slice_get acts k ≡ Some other
+pub one_act_each : PairsAsSaid → (acts : List Act) → IsTrue (are_paired (stops_of acts)) → (i k : ℕ) (one other : Act) → slice_get acts i ≡ Some one → slice_get acts k ≡ Some other
     → one.kind ≡ other.kind → one.job ≡ other.job → i ≡ k
 one_act_each fits acts fit i k one other at_i at_k same_kind same_job =
     by_kind one.kind (stop_at acts i one at_i) (stop_at acts k other at_k ∙ (λ n. Some (record { kind = sym same_kind n; job = sym same_job n })))
   where
     by_kind : (kind : ActKind) → IsAt (stops_of acts) one.job kind i → IsAt (stops_of acts) one.job kind k → i ≡ k
-    by_kind Pick here there = let served = ((fits (stops_of acts)).0 fit).each i (record { kind = Pick; job = one.job }) here in served.3.1 i here ∙ sym (served.3.1 k there)
-    by_kind Drop here there = let served = ((fits (stops_of acts)).0 fit).each i (record { kind = Drop; job = one.job }) here in served.4.1 i here ∙ sym (served.4.1 k there)
+    by_kind Pick here there = let served = ((fits (stops_of acts)).0 fit) i (record { kind = Pick; job = one.job }) here in served.3.1 i here ∙ sym (served.3.1 k there)
+    by_kind Drop here there = let served = ((fits (stops_of acts)).0 fit) i (record { kind = Drop; job = one.job }) here in served.4.1 i here ∙ sym (served.4.1 k there)
 
 -- ---- acts with new statuses
 

@@ -30,6 +30,7 @@ module _ (seats : ℕ) (world : World) (lawful : HasLawfulVehicles seats world) 
   is_served (call.AddJob job load to) = tt
   is_served (call.StopJob job) = tt
   is_served (call.StartOrder order key stops edges) = tt
+  is_served (call.StartDrive order key to edges) = tt
   is_served (call.Advance key order update edges) = of_size key
   is_served (call.Cancel key) = tt
   is_served (call.Pause key) = tt
@@ -41,5 +42,6 @@ module _ (seats : ℕ) (world : World) (lawful : HasLawfulVehicles seats world) 
   is_served (call.GetInstant key) = tt
   is_served (call.Stocktake reference rows) = tt
   is_served (call.GetLoad load) = tt
+  is_served (call.GetJob job) = tt
   is_served (call.GetVehicle key) = tt
   is_served (call.Report report) = tt

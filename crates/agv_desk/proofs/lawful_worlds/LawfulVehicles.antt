@@ -11,8 +11,9 @@ use Rattle.agv_desk.proofs.row_changes.Given.{Given}
 use Rattle.agv_desk.proofs.outcomes.Keeping.{KeepsVehicles}
 use Rattle.agv_desk.proofs.outcomes.Ladders.{IfMade}
 use Rattle.agv_desk.proofs.lawful_worlds.LawfulVehiclesGiven.{GivenMore}
+use Rattle.agv_desk.proofs.lawful_worlds.LawfulVehiclesDrives.{starts_drive}
 use Rattle.agv_desk.proofs.lawful_worlds.LawfulVehiclesOrders.{starts_order, advances_trip}
-use Rattle.agv_desk.proofs.lawful_worlds.LawfulVehiclesPlain.{sets_layout, registers_load, corrects_load, lets_load_leave, adds_job, stops_job, takes_stock, tells_order, tells_instant, tells_load, tells_vehicle, cancels, pauses, resumes, begins_anew, registers_vehicle, places_vehicle}
+use Rattle.agv_desk.proofs.lawful_worlds.LawfulVehiclesPlain.{sets_layout, registers_load, corrects_load, lets_load_leave, adds_job, stops_job, takes_stock, tells_order, tells_instant, tells_load, tells_job, tells_vehicle, cancels, pauses, resumes, begins_anew, registers_vehicle, places_vehicle}
 use Rattle.agv_desk.proofs.lawful_worlds.LawfulVehiclesStates.{takes_state}
 
 module _ (given : Given) (more : GivenMore) (seats : ℕ) (world : World) (lawful : HasLawfulVehicles seats world) where
@@ -25,6 +26,7 @@ module _ (given : Given) (more : GivenMore) (seats : ℕ) (world : World) (lawfu
   keeps_vehicles at (call.AddJob job load to) is_seats moment typed = adds_job given more seats world lawful job load to
   keeps_vehicles at (call.StopJob job) is_seats moment typed = stops_job given more seats world lawful job
   keeps_vehicles at (call.StartOrder order key stops edges) is_seats moment typed = starts_order given more seats world lawful (record { at = at; order = order; key = key; stops = stops; edges = edges }) is_seats moment typed
+  keeps_vehicles at (call.StartDrive order key to edges) is_seats moment typed = starts_drive given more seats world lawful (record { at = at; order = order; key = key; to = to; edges = edges }) moment typed
   keeps_vehicles at (call.Advance key order update edges) is_seats moment typed = advances_trip given more seats world lawful at key order update edges moment
   keeps_vehicles at (call.Cancel key) is_seats moment typed = cancels given more seats world lawful at key moment
   keeps_vehicles at (call.Pause key) is_seats moment typed = pauses given more seats world lawful at key moment
@@ -36,6 +38,7 @@ module _ (given : Given) (more : GivenMore) (seats : ℕ) (world : World) (lawfu
   keeps_vehicles at (call.GetInstant key) is_seats moment typed = tells_instant given more seats world lawful key
   keeps_vehicles at (call.Stocktake reference rows) is_seats moment typed = takes_stock given more seats world lawful reference rows typed
   keeps_vehicles at (call.GetLoad load) is_seats moment typed = tells_load given more seats world lawful load
+  keeps_vehicles at (call.GetJob job) is_seats moment typed = tells_job given more seats world lawful job
   keeps_vehicles at (call.GetVehicle key) is_seats moment typed = tells_vehicle given more seats world lawful key
   keeps_vehicles at (call.Report report) is_seats moment typed = record { vehicles = lawful }
 

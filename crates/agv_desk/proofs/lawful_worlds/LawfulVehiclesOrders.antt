@@ -58,12 +58,12 @@ can_be_released : (trip : Trip) (edges : ℕ) → can_release trip edges ≡ tru
 can_be_released trip edges h = let each = and_parts (nat_lt 0 edges) (nat_le (trip.base + edges) (length trip.edges)) h in (ltb-true 0 edges each.0, leb-true (trip.base + edges) (length trip.edges) each.1)
 
 -- a trip that the vehicle may be sent on
-record MayBeSent (layout : Layout) (key : VehicleKey) (row : VehicleRow) (trip : Trip) : Type 0 where
-  well_formed : IsWellFormed layout trip
-  own : trip.vehicle ≡ key
-  picks_fit : count_by picks trip.acts ≤ row.capacity
-  stands : node_at trip trip.seen ≡ Some row.node
-  no_rest : row.rest ≡ None
+pub record MayBeSent (layout : Layout) (key : VehicleKey) (row : VehicleRow) (trip : Trip) : Type 0 where
+  pub well_formed : IsWellFormed layout trip
+  pub own : trip.vehicle ≡ key
+  pub picks_fit : count_by picks trip.acts ≤ row.capacity
+  pub stands : node_at trip trip.seen ≡ Some row.node
+  pub no_rest : row.rest ≡ None
 
 -- and when it was sent
 is_sent_on : (layout : Layout) (key : VehicleKey) (row : VehicleRow) (at number : ℕ) (trip : Trip) → MayBeSent layout key row trip → 0 < number → IsTripOf layout key (sent_on row at number (Some trip)).row trip
@@ -83,7 +83,7 @@ module _ (given : Given) (more : GivenMore) (seats : ℕ) (world : World) (lawfu
   -- ---- a new order
 
   -- a layout that is set is that of the world
-  layout_is : (layout : Layout) → KeepsRules world.layout → layout_set world ≡ Some layout → layout ≡ world.layout
+  pub layout_is : (layout : Layout) → KeepsRules world.layout → layout_set world ≡ Some layout → layout ≡ world.layout
   unfolding layout_set
   layout_is layout keeps is = same_some (sym is ∙ ap set_where (given.gives world.layout keeps))
 
@@ -103,7 +103,7 @@ module _ (given : Given) (more : GivenMore) (seats : ℕ) (world : World) (lawfu
         no_rest = no_rest;
       }
 
-  sends_trip : (asked : AskedOrder) (row : VehicleRow) (jobs : List Job) (trip : Trip)
+  pub sends_trip : (asked : AskedOrder) (row : VehicleRow) (jobs : List Job) (trip : Trip)
       → IsMoment asked.at → IsName asked.order → is_used world used.Order asked.order ≡ false → row_of world asked.key ≡ Some row → trip_of world asked.key ≡ None
       → trip.order ≡ asked.order → MayBeSent world.layout asked.key row trip
       → IfMade P (send_trip world asked row jobs trip)
@@ -145,7 +145,7 @@ module _ (given : Given) (more : GivenMore) (seats : ℕ) (world : World) (lawfu
       made_refuse_unless P _ _ _ (λ within_capacity. made_refuse_unless P _ _ _ (λ e. made_refuse_unless P _ _ _ (λ f.
       let fits = leb-true (loads_on world asked.key + count_by stop_picks asked.stops) row.capacity within_capacity in
       let places = (lawful.vehicles asked.key (vehicle_with row (trip_of world asked.key)) (known world asked.key row there)).seated in
-      let few = few_stops asked.stops (loads_on world asked.key) row.capacity seats (more.twice asked.stops fit) fits places is_seats.1 in
+      let few = few_stops asked.stops (loads_on world asked.key) row.capacity seats (more.twice asked.stops (more.paired asked.stops fit)) fits places is_seats.1 in
       sends_order asked row jobs moment named unused there (missing _ idle) fit few (omega (arith, fits)) (missing _ astray))))))))
 
   pub starts_order : (asked : AskedOrder) → IsSeats seats → IsMoment asked.at → IsName asked.order → IfMade P (start_order world asked)

@@ -24,7 +24,7 @@ use Rattle.agv_desk.specs.JobSteps.{add_job, stop_job}
 use Rattle.agv_desk.specs.LayoutSteps.{set_layout}
 use Rattle.agv_desk.specs.LoadSteps.{register_load, correct_load, leave_load}
 use Rattle.agv_desk.specs.Outcomes.{Effect}
-use Rattle.agv_desk.specs.ReadSteps.{get_order, get_instant, get_load, get_vehicle}
+use Rattle.agv_desk.specs.ReadSteps.{get_order, get_instant, get_load, get_job, get_vehicle}
 use Rattle.agv_desk.specs.StateSteps.{idle_state}
 use Rattle.agv_desk.specs.StocktakeSteps.{Row, take_stock}
 use Rattle.agv_desk.specs.VehicleSteps.{new_vehicle, placed, register_vehicle, place_vehicle, resync}
@@ -95,6 +95,9 @@ module _ (given : Given) (more : GivenMore) (seats : ℕ) (world : World) (lawfu
 
   pub tells_load : (load : List ℕ) → IfMade P (get_load world load)
   tells_load load = made_refuse_if_none P _ _ _ (λ place is. record { vehicles = lawful })
+
+  pub tells_job : (job : List ℕ) → IfMade P (get_job world job)
+  tells_job job = made_refuse_if_none P _ _ _ (λ row is. record { vehicles = lawful })
 
   pub tells_vehicle : (key : VehicleKey) → IfMade P (get_vehicle world key)
   tells_vehicle key = made_refuse_if_none P _ _ _ (λ row is. record { vehicles = lawful })

@@ -14,6 +14,7 @@ use Rattle.agv_world_core.specs.Worlds.{World}
 use Rattle.agv_world_core.specs.declared.row.VehicleRow.{VehicleRow}
 use Rattle.agv_desk.specs.Causes.{is_acted, is_recorded, is_refusal, moves_for}
 use Rattle.agv_desk.specs.ActSteps.{Renewed, becomes_finished, taken_to, act_move, act_moves}
+use Rattle.agv_desk.specs.DriveSteps.{AskedDrive, start_drive}
 use Rattle.agv_desk.specs.InstantSteps.{instruct}
 use Rattle.agv_desk.specs.LayoutSteps.{if_given}
 use Rattle.agv_desk.specs.OrderSteps.{AskedOrder, if_planned, start_order, advance}
@@ -90,6 +91,14 @@ module _ (world : World) (made : Call) where
       made_refuse_if_none P _ _ _ (λ layout l. made_by_plan P _ _ (λ trip.
       made_unheld P _ _ (λ m. made_refuse_if_none P _ _ _ (λ number n. made_refuse_unless P _ _ _ (λ o. record { answered = refl; caused = refl }))))))))))))))))
 
+  drives : (asked : AskedDrive) → IfMade P (start_drive world asked)
+  drives asked =
+      made_refuse_unless P _ _ _ (λ a. made_refuse_if_none P _ _ _ (λ row b. made_refuse_unless P _ _ _ (λ c.
+      made_refuse_unless P _ _ _ (λ d. made_refuse_unless P _ _ _ (λ e. made_refuse_unless P _ _ _ (λ f.
+      made_refuse_unless P _ _ _ (λ g. made_refuse_unless P _ _ _ (λ h.
+      made_refuse_if_none P _ _ _ (λ layout i. made_by_plan P _ _ (λ trip.
+      made_unheld P _ _ (λ j. made_refuse_if_none P _ _ _ (λ number k. made_refuse_unless P _ _ _ (λ l. record { answered = refl; caused = refl })))))))))))))
+
   advances : (at : ℕ) (key : VehicleKey) (order : List ℕ) (update edges : ℕ) → IfMade P (advance world at key order update edges)
   advances at key order update edges =
       made_refuse_if_none P _ _ _ (λ row a. made_refuse_if_none P _ _ _ (λ trip b. made_refuse_unless P _ _ _ (λ c.
@@ -139,6 +148,7 @@ module _ (world : World) where
       made_refuse_unless (IsCaused _) _ _ _ (λ b. record { answered = refl; caused = refl })))
   each seats at (call.StopJob job) = made_refuse_if_none (IsCaused _) _ _ _ (λ row a. made_refuse_unless (IsCaused _) _ _ _ (λ b. record { answered = refl; caused = refl }))
   each seats at (call.StartOrder order key stops edges) = starts world _ (record { at = at; order = order; key = key; stops = stops; edges = edges })
+  each seats at (call.StartDrive order key to edges) = drives world _ (record { at = at; order = order; key = key; to = to; edges = edges })
   each seats at (call.Advance key order update edges) = advances world _ at key order update edges
   each seats at (call.Cancel key) = made_refuse_if_none (IsCaused _) _ _ _ (λ row a. made_refuse_unless (IsCaused _) _ _ _ (λ b. instructs world _ at key row _))
   each seats at (call.Pause key) = made_refuse_if_none (IsCaused _) _ _ _ (λ row a. instructs world _ at key row _)
@@ -153,6 +163,7 @@ module _ (world : World) where
       made_refuse_unless (IsCaused _) _ _ _ (λ c. made_refuse_unless (IsCaused _) _ _ _ (λ d. made_refuse_unless (IsCaused _) _ _ _ (λ e.
       made_refuse_unless (IsCaused _) _ _ _ (λ f. made_refuse_unless (IsCaused _) _ _ _ (λ g. record { answered = refl; caused = all_recorded (new_places world rows) })))))))
   each seats at (call.GetLoad load) = made_refuse_if_none (IsCaused _) _ _ _ (λ place a. record { answered = refl; caused = refl })
+  each seats at (call.GetJob job) = made_refuse_if_none (IsCaused _) _ _ _ (λ row a. record { answered = refl; caused = refl })
   each seats at (call.GetVehicle key) = made_refuse_if_none (IsCaused _) _ _ _ (λ row a. record { answered = refl; caused = refl })
   each seats at (call.Report report) = record { answered = refl; caused = refl }
 

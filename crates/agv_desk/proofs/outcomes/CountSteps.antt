@@ -22,6 +22,7 @@ use Rattle.agv_world_core.specs.declared.row.VehicleRow.{VehicleRow}
 use Rattle.agv_world_core.proofs.lists.Orders.{names_total}
 use Rattle.agv_desk.specs.Causes.{is_refusal}
 use Rattle.agv_desk.specs.Counts.{added, adds_to}
+use Rattle.agv_desk.specs.DriveSteps.{AskedDrive, start_drive}
 use Rattle.agv_desk.specs.InstantSteps.{cancel, instruct, pause, resume}
 use Rattle.agv_desk.specs.JobSteps.{add_job, stop_job}
 use Rattle.agv_desk.specs.LayoutSteps.{set_layout}
@@ -193,6 +194,22 @@ module _ (world : World) where
         references = same _ _ refl;
       })))))))))))))))))
 
+  starts_drive : (asked : AskedDrive) → IfMade (IsCounted world (Some counted.Orders)) (start_drive world asked)
+  starts_drive asked =
+      let One : Effect → Type 0 = IsCounted world (Some counted.Orders) in
+      made_refuse_unless One _ _ _ (λ new. made_refuse_if_none One _ _ _ (λ row there. made_refuse_unless One _ _ _ (λ c.
+      made_refuse_unless One _ _ _ (λ d. made_refuse_unless One _ _ _ (λ e. made_refuse_unless One _ _ _ (λ f.
+      made_refuse_unless One _ _ _ (λ g. made_refuse_unless One _ _ _ (λ h.
+      made_refuse_if_none One _ _ _ (λ layout i. made_planned One _ _ (λ trip j. made_unheld One _ _ (λ k.
+      made_refuse_if_none One _ _ _ (λ number l. made_refuse_unless One _ _ _ (λ few.
+      counts_one counted.Orders _ (ltb-true _ _ few) (λ lawful. record {
+        vehicles = same _ _ (vehicle_len asked.key row _ there);
+        loads = same _ _ refl;
+        jobs = same _ _ refl;
+        orders = order_len asked.order new;
+        references = same _ _ refl;
+      }))))))))))))))
+
   -- ---- the calls that use a reference
 
   abbrev R : Effect → Type 0
@@ -237,6 +254,7 @@ module _ (world : World) where
   each seats at (call.AddJob job load to) = adds_job job load to
   each seats at (call.StopJob job) = stops_job job
   each seats at (call.StartOrder order key stops edges) = starts_order (record { at = at; order = order; key = key; stops = stops; edges = edges })
+  each seats at (call.StartDrive order key to edges) = starts_drive (record { at = at; order = order; key = key; to = to; edges = edges })
   each seats at (call.Advance key order update edges) = advances_trip at key order update edges
   each seats at (call.Cancel key) = cancels at key
   each seats at (call.Pause key) = pauses at key
@@ -248,6 +266,7 @@ module _ (world : World) where
   each seats at (call.GetInstant key) = made_refuse_if_none P _ _ _ (λ row is. tells _)
   each seats at (call.Stocktake reference rows) = takes_stock reference rows
   each seats at (call.GetLoad load) = made_refuse_if_none P _ _ _ (λ place is. tells _)
+  each seats at (call.GetJob job) = made_refuse_if_none P _ _ _ (λ row is. tells _)
   each seats at (call.GetVehicle key) = made_refuse_if_none P _ _ _ (λ row is. tells _)
   each seats at (call.Report report) = tells _
 

@@ -14,6 +14,8 @@ use Rattle.agv_layout.specs.declared.fault.LayoutFault.TheVariants as unlaid
 use Rattle.agv_layout.specs.declared.row.LayoutRow.{LayoutRow}
 use Rattle.agv_message_core.specs.declared.instant.InstantKind.{InstantKind}
 use Rattle.agv_message_core.specs.declared.state.StateMessage.{StateMessage}
+use Rattle.agv_layout.specs.declared.edge.Edge.{Edge}
+use Rattle.agv_order.specs.Drives.{drive_along, drive_edges, drive_over, drive_planned}
 use Rattle.agv_order.specs.Plans.{stop_routes_to, planned, trip_along, trip_over, way_of}
 use Rattle.agv_order.specs.declared.fault.PlanFault.TheVariants as unplanned
 use Rattle.agv_order.specs.declared.stop.Stop.{Stop}
@@ -28,9 +30,10 @@ use Rattle.agv_track.specs.Judgements.{act_refusals, first_of, judged, unless, w
 use Rattle.agv_track.specs.declared.pending.Pending.{Pending}
 use Rattle.agv_world_core.specs.Worlds.{World}
 use Rattle.agv_world_core.specs.declared.row.VehicleRow.{VehicleRow}
+use Rattle.agv_desk.specs.DriveSteps.{AskedDrive, start_drive}
 use Rattle.agv_desk.specs.InstantSteps.{instruct}
 use Rattle.agv_desk.specs.LayoutSteps.{if_given, lay}
-use Rattle.agv_desk.specs.OrderParts.{send_trip}
+use Rattle.agv_desk.specs.OrderParts.{order_of_drive, send_trip}
 use Rattle.agv_desk.specs.OrderSteps.{AskedOrder, advance, if_planned, start_order}
 use Rattle.agv_desk.specs.Outcomes.{Effect, Made, Outcome, answer_of, branch, checked, refuse_if_none, refuse_unless, answer_only, unheld}
 use Rattle.agv_desk.specs.ReadSteps.{instant_told, order_told}
@@ -138,6 +141,16 @@ by_plan layout vehicle jobs stops order at base rest h =
       | Some legs ↦ by_length (nat_lt 200 (length (way_of legs))) (nat_lt (length (way_of legs)) base) (trip_over vehicle order at base legs) rest (h _)
     ]
 
+by_drive : (layout : Layout) (vehicle : VehicleKey) (order at to : List ℕ) (base : ℕ) (rest : Trip → Outcome) → ((trip : Trip) → Fits (rest trip))
+    → Fits (if_planned (drive_planned layout vehicle order at to base) rest)
+unfolding if_planned answer_of
+by_drive layout vehicle order at to base rest h = by_edges (drive_edges layout at to)
+  where
+    by_edges : (found : Option (List Edge)) → Fits (if_planned (drive_along vehicle order at base found) rest)
+    by_edges None = refl
+    by_edges (Some []) = refl
+    by_edges (Some (edge ∷ edges)) = by_length (nat_lt 200 (length (edge ∷ edges))) (nat_lt (length (edge ∷ edges)) base) (drive_over vehicle order at base (edge ∷ edges)) rest (h _)
+
 -- ---- the checks of a load
 
 by_check_that : (test : Bool) (why : Refusal) (rest : Checked) → is_of_call why ≡ true → IsFitIn rest → IsFitIn (check_that test why rest)
@@ -232,6 +245,15 @@ module _ (world : World) where
       by_plan layout asked.key jobs asked.stops asked.order row.node asked.edges (send_trip world asked row jobs) (λ trip.
       by_unheld _ _ (by_refuse_if_none _ refusal.Spent _ refl (λ number. by_refuse_unless _ refusal.Limit _ refl (by_made _ tt))))))))))))))))
 
+  drives : (asked : AskedDrive) → Fits (start_drive world asked)
+  drives asked =
+      by_refuse_unless _ refusal.Exists _ refl (by_refuse_if_none _ refusal.NoVehicle _ refl (λ row. by_refuse_unless _ refusal.NoNode _ refl
+      (by_refuse_unless _ refusal.OrderKnown _ refl (by_refuse_unless _ refusal.Busy _ refl (by_refuse_unless _ refusal.Astray _ refl
+      (by_refuse_unless _ refusal.NotReady _ refl (by_refuse_unless _ refusal.InstantPending _ refl
+      (by_refuse_if_none _ refusal.NoWalk _ refl (λ layout.
+      by_drive layout asked.key asked.order row.node asked.to asked.edges (send_trip world (order_of_drive asked) row []) (λ trip.
+      by_unheld _ _ (by_refuse_if_none _ refusal.Spent _ refl (λ number. by_refuse_unless _ refusal.Limit _ refl (by_made _ tt)))))))))))))
+
   advances : (at : ℕ) (key : VehicleKey) (order : List ℕ) (update edges : ℕ) → Fits (advance world at key order update edges)
   advances at key order update edges =
       by_refuse_if_none _ refusal.NoVehicle _ refl (λ row. by_refuse_if_none _ refusal.NoOrder _ refl (λ trip.
@@ -283,6 +305,7 @@ module _ (world : World) where
       (by_refuse_if_none _ refusal.Elsewhere _ refl (λ origin. by_refuse_unless _ refusal.Limit _ refl (by_made _ tt)))
   each seats at (call.StopJob job) = by_refuse_if_none _ refusal.NoJob _ refl (λ row. by_refuse_unless _ refusal.JobState _ refl (by_made _ tt))
   each seats at (call.StartOrder order key stops edges) = starts (record { at = at; order = order; key = key; stops = stops; edges = edges })
+  each seats at (call.StartDrive order key to edges) = drives (record { at = at; order = order; key = key; to = to; edges = edges })
   each seats at (call.Advance key order update edges) = advances at key order update edges
   each seats at (call.Cancel key) = by_refuse_if_none _ refusal.NoVehicle _ refl (λ row. by_refuse_unless _ refusal.NoOrder _ refl (instructs at key row _))
   each seats at (call.Pause key) = by_refuse_if_none _ refusal.NoVehicle _ refl (λ row. instructs at key row _)
@@ -294,6 +317,7 @@ module _ (world : World) where
   each seats at (call.GetInstant key) = by_refuse_if_none _ refusal.NoVehicle _ refl (λ row. by_made _ (tells_an_action key row row.pending))
   each seats at (call.Stocktake reference rows) = counts reference rows
   each seats at (call.GetLoad load) = by_refuse_if_none _ refusal.NoLoad _ refl (λ place. by_made _ tt)
+  each seats at (call.GetJob job) = by_refuse_if_none _ refusal.NoJob _ refl (λ row. by_made _ tt)
   each seats at (call.GetVehicle key) = by_refuse_if_none _ refusal.NoVehicle _ refl (λ row. by_made _ tt)
   each seats at (call.Report report) = reports report
 
@@ -309,6 +333,7 @@ as_it_is world (answer.Order header order) fit = refl
 as_it_is world (answer.Instant header instant) fit = refl
 as_it_is world (answer.Counted moved unknown) fit = refl
 as_it_is world (answer.Load load place job) fit = refl
+as_it_is world (answer.Job job row rider) fit = refl
 as_it_is world (answer.Vehicle key row order) fit = refl
 as_it_is world (answer.Report report text) fit = absurd fit
 

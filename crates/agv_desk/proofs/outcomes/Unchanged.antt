@@ -39,6 +39,7 @@ tells seats world at (call.LeaveLoad load reference) h = absurd (false≢true h)
 tells seats world at (call.AddJob job load to) h = absurd (false≢true h)
 tells seats world at (call.StopJob job) h = absurd (false≢true h)
 tells seats world at (call.StartOrder order key stops edges) h = absurd (false≢true h)
+tells seats world at (call.StartDrive order key to edges) h = absurd (false≢true h)
 tells seats world at (call.Advance key order update edges) h = absurd (false≢true h)
 tells seats world at (call.Cancel key) h = absurd (false≢true h)
 tells seats world at (call.Pause key) h = absurd (false≢true h)
@@ -50,6 +51,7 @@ tells seats world at (call.GetOrder key) h = finds world _ _ _
 tells seats world at (call.GetInstant key) h = finds world _ _ _
 tells seats world at (call.Stocktake reference rows) h = absurd (false≢true h)
 tells seats world at (call.GetLoad load) h = finds world _ _ _
+tells seats world at (call.GetJob job) h = finds world _ _ _
 tells seats world at (call.GetVehicle key) h = finds world _ _ _
 tells seats world at (call.Report report) h = says world _
 

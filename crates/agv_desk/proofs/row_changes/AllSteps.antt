@@ -11,9 +11,10 @@ use Rattle.agv_desk.specs.declared.call.Call.TheVariants as call
 use Rattle.agv_desk.proofs.row_changes.Effects.{LeadsTo, lays_none, touches_none}
 use Rattle.agv_desk.proofs.row_changes.Given.{Given}
 use Rattle.agv_desk.proofs.outcomes.Ladders.{IfMade}
+use Rattle.agv_desk.proofs.row_changes.DriveRows.{starts_drive}
 use Rattle.agv_desk.proofs.row_changes.LayoutRows.{sets_layout}
 use Rattle.agv_desk.proofs.row_changes.OrderRows.{starts_order, advances_trip}
-use Rattle.agv_desk.proofs.row_changes.PlainSteps.{registers_load, corrects_load, lets_load_leave, adds_job, stops_job, takes_stock, tells_order, tells_instant, tells_load, tells_vehicle, cancels, pauses, resumes, begins_anew, registers_vehicle, places_vehicle}
+use Rattle.agv_desk.proofs.row_changes.PlainSteps.{registers_load, corrects_load, lets_load_leave, adds_job, stops_job, takes_stock, tells_order, tells_instant, tells_load, tells_job, tells_vehicle, cancels, pauses, resumes, begins_anew, registers_vehicle, places_vehicle}
 use Rattle.agv_desk.proofs.row_changes.StateRows.{takes_state}
 use Rattle.agv_desk.proofs.row_changes.Steps.{decides, leads}
 
@@ -27,6 +28,7 @@ module _ (given : Given) (world : World) (in_order : IsInOrder world) where
   each seats at (call.AddJob job load to) = adds_job given world in_order job load to
   each seats at (call.StopJob job) = stops_job given world in_order job
   each seats at (call.StartOrder order key stops edges) = starts_order given world in_order (record { at = at; order = order; key = key; stops = stops; edges = edges })
+  each seats at (call.StartDrive order key to edges) = starts_drive given world in_order (record { at = at; order = order; key = key; to = to; edges = edges })
   each seats at (call.Advance key order update edges) = advances_trip given world in_order at key order update edges
   each seats at (call.Cancel key) = cancels given world in_order at key
   each seats at (call.Pause key) = pauses given world in_order at key
@@ -38,6 +40,7 @@ module _ (given : Given) (world : World) (in_order : IsInOrder world) where
   each seats at (call.GetInstant key) = tells_instant given world in_order key
   each seats at (call.Stocktake reference rows) = takes_stock given world in_order reference rows
   each seats at (call.GetLoad load) = tells_load given world in_order load
+  each seats at (call.GetJob job) = tells_job given world in_order job
   each seats at (call.GetVehicle key) = tells_vehicle given world in_order key
   each seats at (call.Report report) = leads given world in_order _ (lays_none world) (touches_none world)
 

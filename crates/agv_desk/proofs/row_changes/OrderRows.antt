@@ -32,10 +32,10 @@ use Rattle.agv_desk.proofs.row_changes.Steps.{missing, not_true, leads, puts}
 apart : true ≡ false → ⊥
 apart e = cc
 
-err_ok : {A E : Type 0} {x : A} {e : E} {X : Type 0} → Err e ≡ Ok x → X
+pub err_ok : {A E : Type 0} {x : A} {e : E} {X : Type 0} → Err e ≡ Ok x → X
 err_ok h = cc
 
-two_tests : (long beyond : Bool) (one other : PlanFault) (made trip : Trip) → cond long (Err one) (cond beyond (Err other) (Ok made)) ≡ Ok trip → made ≡ trip
+pub two_tests : (long beyond : Bool) (one other : PlanFault) (made trip : Trip) → cond long (Err one) (cond beyond (Err other) (Ok made)) ≡ Ok trip → made ≡ trip
 two_tests true beyond one other made trip e = err_ok e
 two_tests false true one other made trip e = err_ok e
 two_tests false false one other made trip e = ap (λ (r : Result Trip PlanFault). elim r [ Ok t ↦ t | Err why ↦ made ]) e
@@ -76,7 +76,7 @@ module _ (given : Given) (world : World) (in_order : IsInOrder world) where
   fresh order trip unused named other more has same =
       apart (sym (in_order.used other more has) ∙ ap (set.contains world.orders) (sym same ∙ named) ∙ unused)
 
-  sends_trip : (asked : AskedOrder) (row : VehicleRow) (jobs : List Job) (trip : Trip)
+  pub sends_trip : (asked : AskedOrder) (row : VehicleRow) (jobs : List Job) (trip : Trip)
       → is_used world used.Order asked.order ≡ false → row_of world asked.key ≡ Some row → trip_of world asked.key ≡ None → trip.order ≡ asked.order
       → IfMade P (send_trip world asked row jobs trip)
   sends_trip asked row jobs trip unused there idle named =

@@ -14,7 +14,7 @@ use Rattle.agv_desk.specs.InstantSteps.{instruct, cancel, pause, resume}
 use Rattle.agv_desk.specs.JobSteps.{add_job, stop_job}
 use Rattle.agv_desk.specs.LoadSteps.{register_load, correct_load, leave_load}
 use Rattle.agv_desk.specs.Outcomes.{Effect}
-use Rattle.agv_desk.specs.ReadSteps.{get_order, get_instant, get_load, get_vehicle}
+use Rattle.agv_desk.specs.ReadSteps.{get_order, get_instant, get_load, get_job, get_vehicle}
 use Rattle.agv_desk.specs.StateSteps.{idle_state}
 use Rattle.agv_desk.specs.StocktakeSteps.{Row, take_stock}
 use Rattle.agv_desk.specs.VehicleSteps.{new_vehicle, placed, register_vehicle, place_vehicle, resync}
@@ -62,6 +62,9 @@ module _ (given : Given) (world : World) (in_order : IsInOrder world) where
 
   pub tells_load : (load : List ℕ) → IfMade P (get_load world load)
   tells_load load = made_refuse_if_none P _ _ _ (λ place is. leads given world in_order _ (lays_none world) (touches_none world))
+
+  pub tells_job : (job : List ℕ) → IfMade P (get_job world job)
+  tells_job job = made_refuse_if_none P _ _ _ (λ row is. leads given world in_order _ (lays_none world) (touches_none world))
 
   pub tells_vehicle : (key : VehicleKey) → IfMade P (get_vehicle world key)
   tells_vehicle key = made_refuse_if_none P _ _ _ (λ row is. leads given world in_order _ (lays_none world) (touches_none world))

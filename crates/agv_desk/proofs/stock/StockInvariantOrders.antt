@@ -1,12 +1,13 @@
 -- The stock invariant holds after an order is begun.
-use Rattle.std.proofs.Common.{◌≡◌, ◌+◌, ◌≤◌, ℕ, true, nat_le, List, count_by, filter_map, None, Some, Result, Ok, Err, refl, sym, ap, subst, ◌∙◌, arith}
+use Rattle.std.proofs.Common.{◌≡◌, ◌+◌, ◌≤◌, ℕ, true, nat_le, IsTrue, List, count_by, filter_map, None, Some, Result, Ok, Err, refl, sym, ap, subst, ◌∙◌, arith}
 use Rattle.std.proofs.lemmas.Bool.Decides.{nat_tests}
 use Rattle.std.specs.FinMap as finite
 use Rattle.std.specs.List.{list_all}
 use Rattle.agv_header.specs.declared.key.VehicleKey.{VehicleKey}
 use Rattle.agv_layout.specs.Layout.{Layout}
 use Rattle.agv_order.specs.Plans.{planned}
-use Rattle.agv_order.specs.StopPlaces.{CanBeDone, stop_picks}
+use Rattle.agv_order.specs.StopPlaces.{ArePaired, stop_picks}
+use Rattle.agv_order.specs.Stops.{are_paired, stops_fit}
 use Rattle.agv_order.specs.Tours.{IsPlanOf}
 use Rattle.agv_order.specs.declared.fault.PlanFault.{PlanFault}
 use Rattle.agv_order.specs.declared.stop.Stop.{Stop}
@@ -21,7 +22,7 @@ use Rattle.agv_world_core.specs.declared.row.VehicleRow.{VehicleRow}
 use Rattle.agv_desk.specs.OrderParts.{send_order, send_trip}
 use Rattle.agv_desk.specs.OrderSteps.{AskedOrder, if_planned, jobs_for, sent_on, start_order, waits}
 use Rattle.agv_desk.specs.Outcomes.{Effect, Outcome}
-use Rattle.agv_desk.proofs.stock.StockInvariantTrips.{FitsAsSaid, depart}
+use Rattle.agv_desk.proofs.stock.StockInvariantTrips.{PairsAsSaid, depart}
 use Rattle.agv_desk.proofs.outcomes.Keeping.{KeepsStock}
 use Rattle.agv_desk.proofs.outcomes.Known.{known, vehicle_with}
 use Rattle.agv_desk.proofs.outcomes.Ladders.{IfMade, made_refuse_if_none, made_refuse_unless, made_unheld}
@@ -33,6 +34,9 @@ use Rattle.agv_desk.proofs.row_changes.Steps.{missing}
 abbrev pub PlansGoByRoutes : Type 0
 PlansGoByRoutes = (layout : Layout) (jobs : List Job) (vehicle : VehicleKey) (stops : List Stop) (order at : List ℕ) (base : ℕ) (trip : Trip)
     → planned layout vehicle jobs stops order at base ≡ Ok trip → IsPlanOf layout jobs stops at base trip
+
+abbrev pub FittingArePaired : Type 0
+FittingArePaired = (stops : List Stop) → IsTrue (stops_fit stops) → IsTrue (are_paired stops)
 
 -- go on with the plan where there is one
 pub made_planned : (P : Effect → Type 0) (plan : Result Trip PlanFault) (rest : Trip → Outcome) → ((trip : Trip) → plan ≡ Ok trip → IfMade P (rest trip)) → IfMade P (if_planned plan rest)
@@ -48,12 +52,12 @@ capacity_on_vehicle : (world : World) (key : VehicleKey) (more capacity : ℕ) �
 unfolding loads_on
 capacity_on_vehicle world key more capacity e = le_of _ _ e
 
-module _ (fits : FitsAsSaid) (plans : PlansGoByRoutes) (world : World) (stock : HasStockInvariant world) where
+module _ (fits : PairsAsSaid) (paired : FittingArePaired) (plans : PlansGoByRoutes) (world : World) (stock : HasStockInvariant world) where
   abbrev P : Effect → Type 0
   P = KeepsStock world
 
   module _ (asked : AskedOrder) (row : VehicleRow) (jobs : List Job) (there : row_of world asked.key ≡ Some row) (idle : trip_of world asked.key ≡ None)
-      (can : CanBeDone asked.stops) (read : jobs_for world asked.stops ≡ Some jobs) (wait : list_all waits jobs ≡ true)
+      (can : ArePaired asked.stops) (read : jobs_for world asked.stops ≡ Some jobs) (wait : list_all waits jobs ≡ true)
       (free : loads_on_vehicle world.places asked.key + count_by stop_picks asked.stops ≤ row.capacity) where
     here : finite.get world.vehicles asked.key ≡ Some (vehicle_with row None)
     here = known world asked.key row there ∙ ap (λ trip. Some (vehicle_with row trip)) idle
@@ -83,4 +87,4 @@ module _ (fits : FitsAsSaid) (plans : PlansGoByRoutes) (world : World) (stock : 
       made_refuse_unless P _ _ _ (λ unused. made_refuse_if_none P _ _ _ (λ row there. made_refuse_unless P _ _ _ (λ fit. made_refuse_if_none P _ _ _ (λ jobs read.
       made_refuse_unless P _ _ _ (λ new. made_refuse_unless P _ _ _ (λ wait. made_refuse_unless P _ _ _ (λ idle. made_refuse_unless P _ _ _ (λ no_rest.
       made_refuse_unless P _ _ _ (λ free. made_refuse_unless P _ _ _ (λ ready. made_refuse_unless P _ _ _ (λ going.
-      order_keeps asked row jobs there (missing _ idle) ((fits asked.stops).0 fit) read wait (capacity_on_vehicle world asked.key (count_by stop_picks asked.stops) row.capacity free))))))))))))
+      order_keeps asked row jobs there (missing _ idle) ((fits asked.stops).0 (paired asked.stops fit)) read wait (capacity_on_vehicle world asked.key (count_by stop_picks asked.stops) row.capacity free))))))))))))

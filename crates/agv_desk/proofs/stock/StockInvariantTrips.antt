@@ -8,8 +8,8 @@ use Rattle.agv_header.specs.Key.{key_cmp}
 use Rattle.agv_header.specs.KeyOrder.{key_cmp-total, key_cmp-IsAntisymmetric}
 use Rattle.agv_header.specs.declared.key.VehicleKey.{VehicleKey}
 use Rattle.agv_message_core.specs.declared.state.StateMessage.{StateMessage}
-use Rattle.agv_order.specs.StopPlaces.{CanBeDone}
-use Rattle.agv_order.specs.Stops.{stops_fit}
+use Rattle.agv_order.specs.StopPlaces.{ArePaired}
+use Rattle.agv_order.specs.Stops.{are_paired}
 use Rattle.agv_order.specs.Trips.{stop_of, task_of}
 use Rattle.agv_order.specs.declared.stop.Stop.{Stop}
 use Rattle.agv_order.specs.declared.trip.Trip.{Trip}
@@ -40,8 +40,8 @@ use Rattle.agv_desk.proofs.trip_acts.Walks.{walk, walk_off}
 use Rattle.agv_desk.proofs.lists.Writes.{IsWritten, is_written, same_or_other}
 
 -- what the laws of the crates below say of stops
-abbrev pub FitsAsSaid : Type 0
-FitsAsSaid = (stops : List Stop) → IsTrue (stops_fit stops) ↔ CanBeDone stops
+abbrev pub PairsAsSaid : Type 0
+PairsAsSaid = (stops : List Stop) → IsTrue (are_paired stops) ↔ ArePaired stops
 
 -- ---- the actions of one vehicle in a world, and in the world after
 
@@ -92,7 +92,7 @@ not_ended : (over : Option End) → is_some over ≡ false → over ≡ None
 not_ended None e = refl
 not_ended (Some over) e = cc
 
-module _ (fits : FitsAsSaid) (advances : AdvancesTrips) (seats : ℕ) (world : World) (lawful : HasLawfulVehicles seats world) (stock : HasStockInvariant world) where
+module _ (fits : PairsAsSaid) (advances : AdvancesTrips) (seats : ℕ) (world : World) (lawful : HasLawfulVehicles seats world) (stock : HasStockInvariant world) where
   abbrev P : Effect → Type 0
   P = KeepsStock world
 

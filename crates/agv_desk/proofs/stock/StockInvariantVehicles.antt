@@ -27,7 +27,7 @@ use Rattle.agv_desk.specs.InstantSteps.{cancel, instruct, pause, resume}
 use Rattle.agv_desk.specs.LayoutSteps.{set_layout}
 use Rattle.agv_desk.specs.OrderSteps.{advance, send_update, sent_on, trip_for}
 use Rattle.agv_desk.specs.Outcomes.{Effect, answer_only}
-use Rattle.agv_desk.specs.ReadSteps.{get_instant, get_load, get_order, get_vehicle}
+use Rattle.agv_desk.specs.ReadSteps.{get_instant, get_job, get_load, get_order, get_vehicle}
 use Rattle.agv_desk.specs.StateSteps.{with_state, idle_state}
 use Rattle.agv_desk.specs.VehicleSteps.{new_vehicle, register_vehicle, resync}
 use Rattle.agv_desk.specs.declared.answer.Answer.{Answer}
@@ -77,6 +77,9 @@ module _ (world : World) (stock : HasStockInvariant world) where
 
   pub load_keeps : (load : List ℕ) → IfMade P (get_load world load)
   load_keeps load = made_refuse_if_none P _ _ _ (λ place is. tells _)
+
+  pub job_keeps : (job : List ℕ) → IfMade P (get_job world job)
+  job_keeps job = made_refuse_if_none P _ _ _ (λ row is. tells _)
 
   pub vehicle_keeps : (key : VehicleKey) → IfMade P (get_vehicle world key)
   vehicle_keeps key = made_refuse_if_none P _ _ _ (λ row is. tells _)

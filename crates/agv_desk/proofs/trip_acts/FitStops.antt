@@ -3,7 +3,7 @@ use Rattle.std.proofs.Common.{◌≡◌, ℕ, zero, suc, ◌+◌, ◌-◌, ◌<�
 use Rattle.std.specs.List.{slice_get}
 use Rattle.agv_message_core.specs.declared.order.ActKind.{ActKind}
 use Rattle.agv_message_core.specs.declared.order.ActKind.TheVariants.{Pick, Drop}
-use Rattle.agv_order.specs.StopPlaces.{IsAt, IsPickedThenDropped, CanBeDone}
+use Rattle.agv_order.specs.StopPlaces.{ArePaired, IsAt, IsPickedThenDropped}
 use Rattle.agv_order.specs.declared.stop.Stop.{Stop}
 use Rattle.agv_desk.proofs.outcomes.Known.{none_some, same_some}
 
@@ -59,8 +59,8 @@ fit_from all (stop ∷ stops) n each at =
     gap : (n p d : ℕ) → n ≡ p → p < d → n + suc (d - suc n) ≡ d
     gap n p d e h = omega (arith, e, h)
 
-pub fit_of : (stops : List Stop) → CanBeDone stops → Fit stops
-fit_of stops can = fit_from stops stops 0 can.each (λ k. ap (slice_get stops) (zero_plus k))
+pub fit_of : (stops : List Stop) → ArePaired stops → Fit stops
+fit_of stops can = fit_from stops stops 0 can (λ k. ap (slice_get stops) (zero_plus k))
   where
     zero_plus : (k : ℕ) → k ≡ 0 + k
     zero_plus k = omega arith

@@ -16,13 +16,14 @@ use Rattle.agv_world_core.specs.Questions.{row_of, trip_of}
 use Rattle.agv_world_core.specs.Worlds.{World}
 use Rattle.agv_world_core.specs.declared.row.VehicleRow.{VehicleRow}
 use Rattle.agv_desk.specs.ActedMoves.{FindsLoads}
+use Rattle.agv_desk.specs.DriveSteps.{AskedDrive, start_drive}
 use Rattle.agv_desk.specs.InstantSteps.{cancel, instruct, pause, resume}
 use Rattle.agv_desk.specs.JobSteps.{add_job, stop_job}
 use Rattle.agv_desk.specs.LayoutSteps.{set_layout}
 use Rattle.agv_desk.specs.LoadSteps.{register_load, correct_load, leave_load}
 use Rattle.agv_desk.specs.OrderSteps.{AskedOrder, advance, start_order}
 use Rattle.agv_desk.specs.Outcomes.{Acted, Cause, Effect, Move}
-use Rattle.agv_desk.specs.ReadSteps.{get_order, get_instant, get_load, get_vehicle}
+use Rattle.agv_desk.specs.ReadSteps.{get_order, get_instant, get_load, get_job, get_vehicle}
 use Rattle.agv_desk.specs.StateSteps.{fresh_state, idle_state, pending_of, take_state, trip_state}
 use Rattle.agv_desk.specs.Step.{step}
 use Rattle.agv_desk.specs.StocktakeSteps.{Row, count_move, take_stock}
@@ -30,7 +31,7 @@ use Rattle.agv_desk.specs.VehicleSteps.{place_vehicle, register_vehicle, resync}
 use Rattle.agv_desk.specs.declared.call.Call.{Call}
 use Rattle.agv_desk.specs.declared.call.Call.TheVariants as call
 use Rattle.agv_desk.proofs.stock.StockInvariantOrders.{made_planned}
-use Rattle.agv_desk.proofs.stock.StockInvariantTrips.{FitsAsSaid, entered, fit_zip, is_trip}
+use Rattle.agv_desk.proofs.stock.StockInvariantTrips.{PairsAsSaid, entered, fit_zip, is_trip}
 use Rattle.agv_desk.proofs.trip_acts.ActionViews.{AfterPicks}
 use Rattle.agv_desk.proofs.trip_acts.FoundActs.{EachMove, Finds, each_at, turns_kept, walk_finds}
 use Rattle.agv_desk.proofs.row_changes.Given.{AdvancesTrips}
@@ -101,6 +102,9 @@ module _ (world : World) where
   tells_load : (load : List ℕ) → IfMade P (get_load world load)
   tells_load load = made_refuse_if_none P _ _ _ (λ place is. plain _ tt)
 
+  tells_job : (job : List ℕ) → IfMade P (get_job world job)
+  tells_job job = made_refuse_if_none P _ _ _ (λ row is. plain _ tt)
+
   tells_vehicle : (key : VehicleKey) → IfMade P (get_vehicle world key)
   tells_vehicle key = made_refuse_if_none P _ _ _ (λ row is. plain _ tt)
 
@@ -140,6 +144,14 @@ module _ (world : World) where
       made_refuse_if_none P _ _ _ (λ layout l. made_planned P _ _ (λ trip m. made_unheld P _ _ (λ n. made_refuse_if_none P _ _ _ (λ number o. made_refuse_unless P _ _ _ (λ p.
       plain _ tt))))))))))))))))
 
+  starts_drive : (asked : AskedDrive) → IfMade P (start_drive world asked)
+  starts_drive asked =
+      made_refuse_unless P _ _ _ (λ a. made_refuse_if_none P _ _ _ (λ row b. made_refuse_unless P _ _ _ (λ c.
+      made_refuse_unless P _ _ _ (λ d. made_refuse_unless P _ _ _ (λ e. made_refuse_unless P _ _ _ (λ f.
+      made_refuse_unless P _ _ _ (λ g. made_refuse_unless P _ _ _ (λ h.
+      made_refuse_if_none P _ _ _ (λ layout i. made_planned P _ _ (λ trip j. made_unheld P _ _ (λ k. made_refuse_if_none P _ _ _ (λ number l. made_refuse_unless P _ _ _ (λ m.
+      plain _ tt)))))))))))))
+
   advances_trip : (at : ℕ) (key : VehicleKey) (order : List ℕ) (update edges : ℕ) → IfMade P (advance world at key order update edges)
   advances_trip at key order update edges =
       made_refuse_if_none P _ _ _ (λ row a. made_refuse_if_none P _ _ _ (λ trip b. made_refuse_unless P _ _ _ (λ c.
@@ -150,7 +162,7 @@ module _ (world : World) where
   takes_idle : (key : VehicleKey) (row : VehicleRow) (state : StateMessage) → IfMade P (idle_state key row state)
   takes_idle key row state = made_judged P _ _ (λ over is. plain _ tt)
 
-  module _ (fits : FitsAsSaid) (advances : AdvancesTrips) (seats : ℕ) (lawful : HasLawfulVehicles seats world) (stock : HasStockInvariant world) where
+  module _ (fits : PairsAsSaid) (advances : AdvancesTrips) (seats : ℕ) (lawful : HasLawfulVehicles seats world) (stock : HasStockInvariant world) where
     goes_on_trip : (key : VehicleKey) (row : VehicleRow) (trip : Trip) (state : StateMessage) → finite.get world.vehicles key ≡ Some (vehicle_with row (Some trip)) → IfMade P (trip_state world key row trip state)
     goes_on_trip key row trip state there =
         made_judged P _ _ (λ progress judged.
@@ -187,6 +199,7 @@ module _ (world : World) where
     finds_all at (call.AddJob job load to) = adds_job job load to
     finds_all at (call.StopJob job) = stops_job job
     finds_all at (call.StartOrder order key stops edges) = starts_order (record { at = at; order = order; key = key; stops = stops; edges = edges })
+    finds_all at (call.StartDrive order key to edges) = starts_drive (record { at = at; order = order; key = key; to = to; edges = edges })
     finds_all at (call.Advance key order update edges) = advances_trip at key order update edges
     finds_all at (call.Cancel key) = cancels at key
     finds_all at (call.Pause key) = pauses at key
@@ -198,5 +211,6 @@ module _ (world : World) where
     finds_all at (call.GetInstant key) = tells_instant key
     finds_all at (call.Stocktake reference rows) = takes_stock reference rows
     finds_all at (call.GetLoad load) = tells_load load
+    finds_all at (call.GetJob job) = tells_job job
     finds_all at (call.GetVehicle key) = tells_vehicle key
     finds_all at (call.Report report) = plain _ tt

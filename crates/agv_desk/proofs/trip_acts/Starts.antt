@@ -8,7 +8,7 @@ use Rattle.agv_header.specs.declared.key.VehicleKey.{VehicleKey}
 use Rattle.agv_message_core.specs.declared.order.ActKind.{ActKind}
 use Rattle.agv_message_core.specs.declared.order.ActKind.TheVariants.{Pick, Drop}
 use Rattle.agv_order.specs.Statuses.{is_finished}
-use Rattle.agv_order.specs.StopPlaces.{CanBeDone, IsAt, IsPickedThenDropped, stop_picks}
+use Rattle.agv_order.specs.StopPlaces.{ArePaired, IsAt, IsPickedThenDropped, stop_picks}
 use Rattle.agv_order.specs.Stops.{is_drop}
 use Rattle.agv_order.specs.declared.act.Act.{Act}
 use Rattle.agv_order.specs.declared.stop.Stop.{Stop}
@@ -85,7 +85,7 @@ module _ (world : World) (stock : HasStockInvariant world) where
       let row : c.row ≡ waits.row = same_some (sym c.here ∙ ap (finite.get world.jobs) same ∙ waits.here) in
       begun_by world.places other one.load one.station one.kind one.finished c.row.phase c.stands (ap (λ (r : JobRow). r.phase) row ∙ waits.waiting)
 
-  module _ (key : VehicleKey) (acts : List Act) (stops : List Stop) (idle : action_views_of world key ≡ []) (made : map stop_by acts ≡ stops) (can : CanBeDone stops)
+  module _ (key : VehicleKey) (acts : List Act) (stops : List Stop) (idle : action_views_of world key ≡ []) (made : map stop_by acts ≡ stops) (can : ArePaired stops)
       (begin : (k : ℕ) (act : Act) → slice_get acts k ≡ Some act → Begins world act)
       (wait : (k : ℕ) (stop : Stop) → slice_get stops k ≡ Some stop → WaitsIn world stop.job)
       (fits : loads_on_vehicle world.places key + count_by stop_picks stops ≤ capacity_of world key) where
@@ -115,7 +115,7 @@ module _ (world : World) (stock : HasStockInvariant world) where
     -- the job of an act rides now
     rides_now : (k : ℕ) (act : Act) (at : slice_get acts k ≡ Some act) (row : JobRow) → finite.get world.jobs act.job ≡ Some row → finite.get jobs_after act.job ≡ Some (rides row)
     rides_now k act at row here =
-        let served : IsPickedThenDropped stops act.job = can.each k (stop_by act) (at_stop k act at) in
+        let served : IsPickedThenDropped stops act.job = can k (stop_by act) (at_stop k act at) in
         rides_at world act.job row here stops world.jobs served.0 served.3.0
 
     new_carried : (k : ℕ) (act : Act) → slice_get acts k ≡ Some act → IsCarried world.places jobs_after key (action_view act)
@@ -147,7 +147,7 @@ module _ (world : World) (stock : HasStockInvariant world) where
         let there : IsAt stops b.0.job b.0.kind k = at_stop k b.0 b.1 in
         let job : b.0.job ≡ a.0.job = ap (λ (x : ActionView). x.job) b.2 ∙ sym same ∙ ap (λ (x : ActionView). x.job) (sym a.2) in
         let kind : b.0.kind ≡ a.0.kind = ap (λ (x : ActionView). x.kind) b.2 ∙ sym kinds ∙ ap (λ (x : ActionView). x.kind) (sym a.2) in
-        one_place stops a.0.job a.0.kind i k (can.each i (stop_by a.0) here) here (there ∙ (λ j. Some (record { kind = kind j; job = job j })))
+        one_place stops a.0.job a.0.kind i k (can i (stop_by a.0) here) here (there ∙ (λ j. Some (record { kind = kind j; job = job j })))
 
     -- the action of a new trip is of a job that waited
     new_waits : (k : ℕ) (one : ActionView) → slice_get (action_views acts) k ≡ Some one → WaitsIn world one.job
@@ -204,7 +204,7 @@ module _ (world : World) (stock : HasStockInvariant world) where
               }
             ]
         | inr has ↦
-            let served : IsPickedThenDropped stops job = can.each has.picked.0 (record { kind = Pick; job = job }) has.picked.1 in
+            let served : IsPickedThenDropped stops job = can has.picked.0 (record { kind = Pick; job = job }) has.picked.1 in
             let a = act_of_stop acts served.1 (record { kind = Drop; job = job }) (subst (λ xs. IsAt xs job Drop served.1) (sym made) served.4.0) in
             record {
               key = key;

@@ -18,7 +18,7 @@ ghost use Rattle.agv_world_core.specs.Worlds.{World};
 use crate::Call;
 use crate::laws::lawful::{finds_each_load, keeps_lawful};
 use agv_header::Moment;
-use agv_order::laws::fits_as_said;
+use agv_order::laws::pairs_as_said;
 use agv_track::laws::advances;
 use agv_world_core::laws::holds_are_footprints;
 
@@ -49,7 +49,7 @@ pub fn stays_lawful()
 {
     keeps_lawful();
     advances();
-    fits_as_said();
+    pairs_as_said();
 }
 
 /// Proves that in a list of calls from a lawful world each pick that becomes finished finds its load at the origin of
@@ -76,7 +76,7 @@ pub fn carries_out_once()
 {
     keeps_lawful();
     advances();
-    fits_as_said();
+    pairs_as_said();
 }
 
 /// Proves that a state message that is repeated after a list of calls from a lawful world moves no load, whatever came
@@ -96,6 +96,6 @@ pub fn repeats_quietly()
 {
     keeps_lawful();
     advances();
-    fits_as_said();
+    pairs_as_said();
     holds_are_footprints();
 }

@@ -10,7 +10,9 @@ ghost use Rattle.agv_desk.specs.WellTyped.{IsWellTyped};
 ghost use Rattle.agv_desk.specs.declared.call.Call.{Call};
 
 use agv_layout::laws::gives_itself;
-use agv_order::laws::{fits_as_said, plans_go_by_routes};
+use agv_order::laws::{
+    drives_go_by_the_route, fitting_stops_are_paired, pairs_as_said, plans_go_by_routes,
+};
 use agv_track::laws::advances;
 
 /// Proves that the rules of the loads and the jobs (`HasStockInvariant`) are kept by each call, if
@@ -20,8 +22,10 @@ pub fn keeps_stock_invariant()
         → HasLawfulVehicles seats world → HasStockInvariant world → HasStockInvariant (after world (step seats world at call)) }
 {
     gives_itself();
-    fits_as_said();
+    pairs_as_said();
+    fitting_stops_are_paired();
     plans_go_by_routes();
+    drives_go_by_the_route();
     advances();
 }
 
@@ -31,6 +35,6 @@ pub fn acts_find_their_loads()
     ensures { (seats : ℕ) (world : World) (at : ℕ) (call : Call) (effect : Effect)
         → HasLawfulVehicles seats world → HasStockInvariant world → step seats world at call ≡ Made effect → FindsLoads world effect }
 {
-    fits_as_said();
+    pairs_as_said();
     advances();
 }

@@ -9,6 +9,7 @@ ghost use Rattle.agv_desk.specs.declared.call.Call.{Call};
 
 use agv_layout::laws::{gives_itself, rules_law};
 use agv_order::laws::{
+    drives_are_well_formed, drives_go_by_the_route, fitting_stops_are_paired,
     plans_are_well_formed, plans_go_by_routes, releases_keep_trips_well_formed, stops_twice,
 };
 use agv_track::laws::{advances, stays_well_formed};
@@ -30,6 +31,9 @@ pub fn keeps_vehicles_lawful()
     plans_go_by_routes();
     releases_keep_trips_well_formed();
     stops_twice();
+    fitting_stops_are_paired();
+    drives_are_well_formed();
+    drives_go_by_the_route();
     advances();
     lists_what_is_held();
     stays_well_formed();

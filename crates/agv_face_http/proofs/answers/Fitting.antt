@@ -33,6 +33,7 @@ told_count world (call.LeaveLoad load reference) = tt
 told_count world (call.AddJob job load to) = tt
 told_count world (call.StopJob job) = tt
 told_count world (call.StartOrder order key stops edges) = tt
+told_count world (call.StartDrive order key to edges) = tt
 told_count world (call.Advance key order update edges) = tt
 told_count world (call.Cancel key) = tt
 told_count world (call.Pause key) = tt
@@ -44,6 +45,7 @@ told_count world (call.GetOrder key) = tt
 told_count world (call.GetInstant key) = tt
 told_count world (call.Stocktake reference rows) = refl
 told_count world (call.GetLoad load) = tt
+told_count world (call.GetJob job) = tt
 told_count world (call.GetVehicle key) = tt
 told_count world (call.Report report) = tt
 
@@ -64,6 +66,7 @@ counted_fits world (call.LeaveLoad load reference) n less h = tt
 counted_fits world (call.AddJob job load to) n less h = tt
 counted_fits world (call.StopJob job) n less h = tt
 counted_fits world (call.StartOrder order key stops edges) n less h = tt
+counted_fits world (call.StartDrive order key to edges) n less h = tt
 counted_fits world (call.Advance key order update edges) n less h = tt
 counted_fits world (call.Cancel key) n less h = tt
 counted_fits world (call.Pause key) n less h = tt
@@ -77,6 +80,7 @@ counted_fits world (call.Stocktake reference rows) n less h =
     let few : names_size (unknown_in world rows) ≤ n = omega (arith, unknown_within world rows, h.0) in
     (omega arith, (omega arith, unknown_named world rows h.1))
 counted_fits world (call.GetLoad load) n less h = tt
+counted_fits world (call.GetJob job) n less h = tt
 counted_fits world (call.GetVehicle key) n less h = tt
 counted_fits world (call.Report report) n less h = tt
 
@@ -103,6 +107,7 @@ as_told world (answer.Order header order) is = refl
 as_told world (answer.Instant header instant) is = refl
 as_told world (answer.Counted moved unknown) is = refl
 as_told world (answer.Load load place job) is = refl
+as_told world (answer.Job job row rider) is = refl
 as_told world (answer.Vehicle key row order) is = refl
 as_told world (answer.Report report text) is = absurd (let e : false ≡ true = is in cc)
 

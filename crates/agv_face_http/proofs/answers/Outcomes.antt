@@ -8,6 +8,7 @@ use Rattle.agv_message_core.specs.declared.state.StateMessage.{StateMessage}
 use Rattle.agv_order.specs.declared.trip.Trip.{Trip}
 use Rattle.agv_world_core.specs.Worlds.{World}
 use Rattle.agv_world_core.specs.declared.row.VehicleRow.{VehicleRow}
+use Rattle.agv_desk.specs.DriveSteps.{AskedDrive, start_drive}
 use Rattle.agv_desk.specs.InstantSteps.{instruct}
 use Rattle.agv_desk.specs.OrderSteps.{AskedOrder, start_order, advance}
 use Rattle.agv_desk.specs.Outcomes.{answer_of}
@@ -46,6 +47,14 @@ module _ (P : Answer → Type 0) (is : IsOfOutcomes P) (world : World) where
       (of_refuse_unless P is.refused _ _ _ (of_refuse_unless P is.refused _ _ _ (of_refuse_unless P is.refused _ _ _ (of_refuse_unless P is.refused _ _ _
       (of_refuse_if_none P is.refused _ _ _ (λ layout. of_planned P is.refused _ _ (λ trip.
       of_unheld P is.refused _ _ (of_refuse_if_none P is.refused _ _ _ (λ number. of_refuse_unless P is.refused _ _ _ (of_made P is.refused _ (is.update 0)))))))))))))))))
+
+  drives : (asked : AskedDrive) → P (answer_of (start_drive world asked))
+  drives asked =
+      of_refuse_unless P is.refused _ _ _ (of_refuse_if_none P is.refused _ _ _ (λ row. of_refuse_unless P is.refused _ _ _
+      (of_refuse_unless P is.refused _ _ _ (of_refuse_unless P is.refused _ _ _ (of_refuse_unless P is.refused _ _ _
+      (of_refuse_unless P is.refused _ _ _ (of_refuse_unless P is.refused _ _ _
+      (of_refuse_if_none P is.refused _ _ _ (λ layout. of_planned P is.refused _ _ (λ trip.
+      of_unheld P is.refused _ _ (of_refuse_if_none P is.refused _ _ _ (λ number. of_refuse_unless P is.refused _ _ _ (of_made P is.refused _ (is.update 0))))))))))))))
 
   advances : (at : ℕ) (key : VehicleKey) (order : List ℕ) (update edges : ℕ) → P (answer_of (advance world at key order update edges))
   advances at key order update edges =
@@ -93,6 +102,7 @@ module _ (P : Answer → Type 0) (is : IsOfOutcomes P) (world : World) where
       of_checked P is.refused _ _ (of_refuse_if_none P is.refused _ _ _ (λ origin. of_refuse_unless P is.refused _ _ _ (of_made P is.refused _ is.done)))
   outcome_of seats at (call.StopJob job) more h = of_refuse_if_none P is.refused _ _ _ (λ row. of_refuse_unless P is.refused _ _ _ (of_made P is.refused _ is.done))
   outcome_of seats at (call.StartOrder order key stops edges) more h = starts (record { at = at; order = order; key = key; stops = stops; edges = edges })
+  outcome_of seats at (call.StartDrive order key to edges) more h = drives (record { at = at; order = order; key = key; to = to; edges = edges })
   outcome_of seats at (call.Advance key order update edges) more h = advances at key order update edges
   outcome_of seats at (call.Cancel key) more h = of_refuse_if_none P is.refused _ _ _ (λ row. of_refuse_unless P is.refused _ _ _ (instructs at key row _))
   outcome_of seats at (call.Pause key) more h = of_refuse_if_none P is.refused _ _ _ (λ row. instructs at key row _)
@@ -104,5 +114,6 @@ module _ (P : Answer → Type 0) (is : IsOfOutcomes P) (world : World) where
   outcome_of seats at (call.GetInstant key) more h = absurd (true≢false more)
   outcome_of seats at (call.Stocktake reference rows) more h = counts reference rows h
   outcome_of seats at (call.GetLoad load) more h = absurd (true≢false more)
+  outcome_of seats at (call.GetJob job) more h = absurd (true≢false more)
   outcome_of seats at (call.GetVehicle key) more h = absurd (true≢false more)
   outcome_of seats at (call.Report report) more h = absurd (true≢false more)

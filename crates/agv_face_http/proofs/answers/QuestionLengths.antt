@@ -11,13 +11,19 @@ use Rattle.agv_desk.specs.declared.answer.OpenOrder.{OpenOrder}
 use Rattle.agv_message_core.specs.Instant.{instant_name}
 use Rattle.agv_message_core.specs.declared.instant.InstantKind.{InstantKind}
 use Rattle.agv_message_core.specs.declared.instant.InstantKind.TheVariants as kind
+use Rattle.agv_stock.specs.Phase.{phase_name}
+use Rattle.agv_stock.specs.declared.job.Phase.{Phase}
+use Rattle.agv_stock.specs.declared.job.Phase.TheVariants as phase
 use Rattle.agv_stock.specs.declared.place.Place.{Place}
 use Rattle.agv_stock.specs.declared.place.Place.TheVariants as place
+use Rattle.agv_world_core.specs.declared.floor.Rider.{Rider}
+use Rattle.agv_world_core.specs.declared.row.JobRow.{JobRow}
 use Rattle.agv_world_core.specs.declared.row.VehicleRow.{VehicleRow}
 use Rattle.agv_message_json.specs.Json.{text, truth, whole}
 use Rattle.agv_face_http.specs.answers.Answers.{answer_text}
 use Rattle.agv_face_http.specs.answers.Bodies.{load_data, or_null, place_words}
-use Rattle.agv_face_http.specs.answers.Sizes.{IsNameIfAny, IsOrderShort, IsShortIfAny, IsVehicleShort}
+use Rattle.agv_face_http.specs.answers.Sizes.{IsJobNamed, IsNameIfAny, IsOrderShort, IsRiderNamed, IsShortIfAny, IsVehicleShort}
+use Rattle.agv_face_http.specs.answers.JobBody.{job_data, job_parts, maybe_key}
 use Rattle.agv_face_http.specs.answers.VehicleBody.{vehicle_data, vehicle_parts}
 use Rattle.agv_message_json.proofs.Escapes.{escape-name}
 use Rattle.agv_face_http.proofs.answers.Lengths.{name_length, digits_length, key_length, whole_length}
@@ -59,6 +65,45 @@ load_length load place job hl hp hj =
     let l3 : length r3 ≤ 81 = omega (arith, length-append (compact_text (text (place_words place))) (codes "}"), place_length place hp) in
     let l2 : length r2 ≤ 124 = omega (arith, length-append (compact_text (text load)) (codes ",\"place\":" ++ r3), name_text_length load hl, l3) in
     omega (arith, length-append (compact_text (or_null text job)) (codes ",\"load\":" ++ r2), maybe_name_length job hj, l2)
+
+-- the parts of a vehicle's key, if there is one, are names
+abbrev IsKeyNamed : Option VehicleKey → Type 0
+IsKeyNamed None = Unit {0}
+IsKeyNamed (Some key) = IsName key.manufacturer × IsName key.serial
+
+phase_length : (phase : Phase) → length (compact_text (text (phase_name phase))) ≤ 9
+unfolding escape_byte
+phase_length phase.Waiting = lit≤ tt
+phase_length phase.Riding = lit≤ tt
+phase_length phase.Done = lit≤ tt
+phase_length phase.Stopped = lit≤ tt
+
+maybe_key_length : (key : Option VehicleKey) → IsKeyNamed key → length (compact_text (maybe_key key)) ≤ 67
+unfolding escape_byte
+maybe_key_length None h = lit≤ tt
+maybe_key_length (Some key) h = omega (arith, length-append (escape (key_text key)) (34 ∷ []), key_length key.manufacturer key.serial h.0 h.1)
+
+job_length : (job : List ℕ) (row : JobRow) (order : Option (List ℕ)) (vehicle : Option VehicleKey) → IsName job → IsJobNamed row → IsNameIfAny order → IsKeyNamed vehicle
+    → length (compact_text (job_parts job row order vehicle)) ≤ 512
+unfolding escape_byte
+job_length job row order vehicle hj hr ho hv =
+    let r5 : List ℕ = compact_text (maybe_key vehicle) ++ codes "}" in
+    let l5 : length r5 ≤ 68 = omega (arith, length-append (compact_text (maybe_key vehicle)) (codes "}"), maybe_key_length vehicle hv) in
+    let r4 : List ℕ = compact_text (text row.target) ++ (codes ",\"vehicle\":" ++ r5) in
+    let l4 : length r4 ≤ 113 = omega (arith, length-append (compact_text (text row.target)) (codes ",\"vehicle\":" ++ r5), name_text_length row.target hr.target, l5) in
+    let r3 : List ℕ = compact_text (text (phase_name row.phase)) ++ (codes ",\"to\":" ++ r4) in
+    let l3 : length r3 ≤ 128 = omega (arith, length-append (compact_text (text (phase_name row.phase))) (codes ",\"to\":" ++ r4), phase_length row.phase, l4) in
+    let r2 : List ℕ = compact_text (or_null text order) ++ (codes ",\"phase\":" ++ r3) in
+    let l2 : length r2 ≤ 171 = omega (arith, length-append (compact_text (or_null text order)) (codes ",\"phase\":" ++ r3), maybe_name_length order ho, l3) in
+    let r1 : List ℕ = compact_text (text row.load) ++ (codes ",\"order\":" ++ r2) in
+    let l1 : length r1 ≤ 214 = omega (arith, length-append (compact_text (text row.load)) (codes ",\"order\":" ++ r2), name_text_length row.load hr.load, l2) in
+    let r0 : List ℕ = compact_text (text job) ++ (codes ",\"load\":" ++ r1) in
+    let l0 : length r0 ≤ 256 = omega (arith, length-append (compact_text (text job)) (codes ",\"load\":" ++ r1), name_text_length job hj, l1) in
+    omega (arith, length-append (compact_text (text row.origin)) (codes ",\"job\":" ++ r0), name_text_length row.origin hr.origin, l0)
+
+rider_length : (job : List ℕ) (row : JobRow) (rider : Option Rider) → IsName job → IsJobNamed row → IsRiderNamed rider → length (compact_text (job_data job row rider)) ≤ 512
+rider_length job row None hj hr h = job_length job row None None hj hr tt tt
+rider_length job row (Some rider) hj hr h = job_length job row (Some rider.order) (Some rider.vehicle) hj hr h.0 (h.1, h.2)
 
 parts_length : (astray : Bool) (key : VehicleKey) (row : VehicleRow) (order : Option (List ℕ)) (sent confirmed : Option ℕ)
     → IsVehicleShort key row → IsNameIfAny order → IsShortIfAny sent → IsShortIfAny confirmed
@@ -102,3 +147,8 @@ pub vehicle_brief : (key : VehicleKey) (row : VehicleRow) (order : Option OpenOr
 unfolding answer_text
 vehicle_brief key row order close h ho =
     omega (arith, whole_length 200 (Some (codes "application/json")) None close (compact_text (vehicle_data key row order)) 512 (lit< tt) (lit≤ tt) (lit≤ tt) (lit< tt) (vehicle_length key row order h ho))
+
+pub job_brief : (job : List ℕ) (row : JobRow) (rider : Option Rider) (close : Bool) → IsName job → IsJobNamed row → IsRiderNamed rider → length (answer_text (answer.Job job row rider) close) ≤ 1024
+unfolding answer_text
+job_brief job row rider close hj hr h =
+    omega (arith, whole_length 200 (Some (codes "application/json")) None close (compact_text (job_data job row rider)) 512 (lit< tt) (lit≤ tt) (lit≤ tt) (lit< tt) (rider_length job row rider hj hr h))

@@ -14,7 +14,7 @@ use Rattle.agv_desk.specs.StocktakeSteps.{Row}
 use Rattle.agv_desk.specs.declared.call.Call.{Call}
 use Rattle.agv_desk.specs.declared.call.Call.TheVariants as call
 use Rattle.agv_face_http.specs.bodies.BodyCalls.{call_of_body}
-use Rattle.agv_face_http.specs.bodies.CommandBodies.{capacity_at, vehicle_from_json, load_from_json, correction_from_json, leave_from_json, job_from_json, advance_from_json, place_from_json}
+use Rattle.agv_face_http.specs.bodies.CommandBodies.{capacity_at, vehicle_from_json, load_from_json, correction_from_json, leave_from_json, job_from_json, drive_from_json, advance_from_json, place_from_json}
 use Rattle.agv_face_http.specs.bodies.OrderBody.{order_in, order_from_json, stops_from_json}
 use Rattle.agv_face_http.specs.bodies.Members.{given, json_in, key_at, name_at, of_value, optional_name_at, or_bad_body}
 use Rattle.agv_face_http.specs.bodies.StateBody.{from_vehicle, is_sent_by, message_in, state_in, unless_refused}
@@ -95,6 +95,10 @@ module _ (n : ℕ) where
   unfolding order_from_json
   says_order d = next (name_at (codes "order") d) _ (λ order. next (key_at d) _ (λ key. next (whole_at (codes "edges") d) _ (λ edges. next (stops_from_json d) _ (λ stops. plain (call.StartOrder order key stops edges) tt))))
 
+  says_drive : (d : Data) → IsSaid n (drive_from_json d)
+  unfolding drive_from_json
+  says_drive d = next (name_at (codes "order") d) _ (λ order. next (key_at d) _ (λ key. next (name_at (codes "to") d) _ (λ to. next (whole_at (codes "edges") d) _ (λ edges. plain (call.StartDrive order key to edges) tt))))
+
   reads_order : (body : List ℕ) → IsRead n (order_in body)
   unfolding order_in
   reads_order body = of_json order_from_json says_order body
@@ -137,6 +141,7 @@ reads_call (route.OfName named.LeaveLoad load) body = of_json _ (leave_from_json
 reads_call (route.Fixed fixed.AddJob) body = of_json _ job_from_json (says_job _) body
 reads_call (route.OfName named.StopJob job) body = tt
 reads_call (route.Fixed fixed.StartOrder) body = reads_order _ body
+reads_call (route.Fixed fixed.StartDrive) body = of_json _ drive_from_json (says_drive _) body
 reads_call (route.OfVehicle vehicle.Advance key) body = of_json _ (advance_from_json key) (says_advance _ key) body
 reads_call (route.OfVehicle vehicle.Cancel key) body = tt
 reads_call (route.OfVehicle vehicle.Pause key) body = tt
@@ -148,6 +153,7 @@ reads_call (route.OfVehicle vehicle.GetOrder key) body = tt
 reads_call (route.OfVehicle vehicle.GetInstant key) body = tt
 reads_call (route.OfName named.Stocktake reference) body = reads_count reference body
 reads_call (route.OfName named.GetLoad load) body = tt
+reads_call (route.OfName named.GetJob job) body = tt
 reads_call (route.OfVehicle vehicle.GetVehicle key) body = tt
 reads_call (route.Fixed (fixed.Report report)) body = tt
 

@@ -31,7 +31,7 @@ use Rattle.agv_desk.specs.StocktakeSteps.{Row}
 use Rattle.agv_desk.specs.WellTyped.{IsWellTyped}
 use Rattle.agv_desk.specs.declared.call.Call.{Call}
 use Rattle.agv_desk.specs.declared.call.Call.TheVariants as call
-use Rattle.agv_face_http.specs.bodies.CommandBodies.{capacity_at, vehicle_from_json, load_from_json, correction_from_json, leave_from_json, job_from_json, advance_from_json, place_from_json}
+use Rattle.agv_face_http.specs.bodies.CommandBodies.{capacity_at, vehicle_from_json, load_from_json, correction_from_json, leave_from_json, job_from_json, drive_from_json, advance_from_json, place_from_json}
 use Rattle.agv_face_http.specs.bodies.OrderBody.{order_in, order_from_json, stops_from_json}
 use Rattle.agv_face_http.specs.bodies.Members.{given, json_in, key_at, name_at, of_value, optional_name_at, or_bad_body}
 use Rattle.agv_face_http.specs.bodies.StateBody.{from_vehicle, is_sent_by, message_in, state_in, unless_refused}
@@ -116,6 +116,12 @@ place_typed : (key : VehicleKey) (d : Data) → IfSome (place_from_json key d) I
 unfolding place_from_json
 place_typed key d = given_so IsName IsWellTyped (name_at (codes "ref") d) _ (member_named (codes "ref") d) (λ reference is. given_any IsWellTyped (name_at (codes "node") d) _ (λ node. is))
 
+drive_typed : (d : Data) → IfSome (drive_from_json d) IsWellTyped
+unfolding drive_from_json
+drive_typed d =
+    given_so IsName IsWellTyped (name_at (codes "order") d) _ (member_named (codes "order") d) (λ order is.
+    given_any IsWellTyped (key_at d) _ (λ key. given_any IsWellTyped (name_at (codes "to") d) _ (λ to. given_any IsWellTyped (whole_at (codes "edges") d) _ (λ edges. is))))
+
 order_typed : (d : Data) → IfSome (order_from_json d) IsWellTyped
 unfolding order_from_json
 order_typed d =
@@ -150,6 +156,9 @@ reads_leave load = json_typed (leave_from_json load) (leave_typed load)
 
 pub reads_job : (body : List ℕ) → IsTypedIfSaid (json_in job_from_json body)
 reads_job = json_typed job_from_json job_typed
+
+pub reads_drive : (body : List ℕ) → IsTypedIfSaid (json_in drive_from_json body)
+reads_drive = json_typed drive_from_json drive_typed
 
 pub reads_advance : (key : VehicleKey) (body : List ℕ) → IsTypedIfSaid (json_in (advance_from_json key) body)
 reads_advance key = json_typed (advance_from_json key) (advance_typed key)

@@ -13,6 +13,7 @@ use Rattle.agv_desk.specs.declared.report.Report.{Report}
 use Rattle.agv_desk.specs.declared.report.Report.TheVariants as named
 use Rattle.agv_face_http.specs.answers.Bodies.{done_data, update_data, instructed_data, accepted_data, counted_data, load_data, refusal_data}
 use Rattle.agv_face_http.specs.answers.Heads.{head_text}
+use Rattle.agv_face_http.specs.answers.JobBody.{job_data}
 use Rattle.agv_face_http.specs.answers.VehicleBody.{vehicle_data}
 
 -- the status code: the refusal's, 204 for no message, otherwise 200
@@ -48,6 +49,7 @@ answer_content (answer.Order header order) = json (order_data header order)
 answer_content (answer.Instant header instant) = json (instant_data header instant)
 answer_content (answer.Counted moved unknown) = json (counted_data moved unknown)
 answer_content (answer.Load load place job) = json (load_data load place job)
+answer_content (answer.Job job row rider) = json (job_data job row rider)
 answer_content (answer.Vehicle key row order) = json (vehicle_data key row order)
 answer_content (answer.Report told text) = report (report_type told) text
 

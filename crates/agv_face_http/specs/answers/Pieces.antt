@@ -7,7 +7,9 @@ use Rattle.agv_count.specs.Reports.{key_text, thing_text}
 use Rattle.agv_message_core.specs.Instant.{instant_id, instant_name}
 use Rattle.agv_message_json.specs.Json.{list, text, truth, whole}
 use Rattle.agv_message_core.specs.declared.instant.InstantKind.{InstantKind}
+use Rattle.agv_stock.specs.Phase.{phase_name}
 use Rattle.agv_face_http.specs.answers.Bodies.{or_null, place_words}
+use Rattle.agv_face_http.specs.answers.JobBody.{maybe_key}
 use Rattle.agv_face_http.specs.declared.answers.piece.Piece.{Piece}
 use Rattle.agv_face_http.specs.declared.answers.piece.Piece.TheVariants as piece
 
@@ -39,5 +41,7 @@ piece_text (piece.MaybeName name) = compact_text (maybe_name name.now)
 piece_text (piece.MaybeKind kind) = compact_text (maybe_kind kind)
 piece_text (piece.Place place) = compact_text (text (place_words place.now))
 piece_text (piece.Key key) = compact_text (text (key_text key.now))
+piece_text (piece.MaybeKey key) = compact_text (maybe_key key.now)
+piece_text (piece.Phase phase) = compact_text (text (phase_name phase))
 piece_text (piece.Thing thing) = compact_text (text (thing_text thing.now))
 piece_text (piece.ActionId n) = compact_text (text (instant_id n))

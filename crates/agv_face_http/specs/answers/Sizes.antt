@@ -6,6 +6,8 @@ use Rattle.agv_header.specs.Name.{IsName}
 use Rattle.agv_header.specs.declared.refusal.Refusal.{Refusal}
 use Rattle.agv_header.specs.declared.refusal.Refusal.TheVariants as refusal
 use Rattle.agv_header.specs.declared.key.VehicleKey.{VehicleKey}
+use Rattle.agv_world_core.specs.declared.floor.Rider.{Rider}
+use Rattle.agv_world_core.specs.declared.row.JobRow.{JobRow}
 use Rattle.agv_world_core.specs.declared.row.VehicleRow.{VehicleRow}
 use Rattle.agv_desk.specs.declared.answer.OpenOrder.{OpenOrder}
 use Rattle.agv_desk.specs.declared.answer.Answer.{Answer}
@@ -79,6 +81,17 @@ pub record IsVehicleShort (key : VehicleKey) (row : VehicleRow) : Type 0 where
 abbrev pub IsOrderShort : Option OpenOrder → Type 0
 IsOrderShort None = Unit {0}
 IsOrderShort (Some order) = IsName order.order × (order.sent < 2 ^ 32) × IsShortIfAny order.confirmed
+
+-- the load and the stations of a job have names
+pub record IsJobNamed (row : JobRow) : Type 0 where
+  pub load : IsName row.load
+  pub origin : IsName row.origin
+  pub target : IsName row.target
+
+-- the vehicle of a job and its order, if there is one, have names
+abbrev pub IsRiderNamed : Option Rider → Type 0
+IsRiderNamed None = Unit {0}
+IsRiderNamed (Some rider) = IsName rider.order × IsName rider.vehicle.manufacturer × IsName rider.vehicle.serial
 
 -- the most bytes of the answer to a call that may change something
 abbrev pub most_answer : ℕ

@@ -3,7 +3,7 @@ use Rattle.std.specs.Prelude.{ℕ, List, Bool, true, false, Result, Ok}
 use Rattle.agv_header.specs.declared.refusal.Refusal.{Refusal}
 use Rattle.agv_desk.specs.declared.call.Call.{Call}
 use Rattle.agv_desk.specs.declared.call.Call.TheVariants as call
-use Rattle.agv_face_http.specs.bodies.CommandBodies.{vehicle_from_json, load_from_json, correction_from_json, leave_from_json, job_from_json, advance_from_json, place_from_json}
+use Rattle.agv_face_http.specs.bodies.CommandBodies.{vehicle_from_json, load_from_json, correction_from_json, leave_from_json, job_from_json, drive_from_json, advance_from_json, place_from_json}
 use Rattle.agv_face_http.specs.bodies.OrderBody.{order_in}
 use Rattle.agv_face_http.specs.bodies.Members.{json_in}
 use Rattle.agv_face_http.specs.bodies.StateBody.{state_in}
@@ -30,6 +30,7 @@ reading_of (route.OfName named.LeaveLoad load) = Json (json_in (leave_from_json 
 reading_of (route.Fixed fixed.AddJob) = Json (json_in job_from_json)
 reading_of (route.OfName named.StopJob job) = Unread (call.StopJob job)
 reading_of (route.Fixed fixed.StartOrder) = Json order_in
+reading_of (route.Fixed fixed.StartDrive) = Json (json_in drive_from_json)
 reading_of (route.OfVehicle vehicle.Advance key) = Json (json_in (advance_from_json key))
 reading_of (route.OfVehicle vehicle.Cancel key) = Unread (call.Cancel key)
 reading_of (route.OfVehicle vehicle.Pause key) = Unread (call.Pause key)
@@ -41,6 +42,7 @@ reading_of (route.OfVehicle vehicle.GetOrder key) = Unread (call.GetOrder key)
 reading_of (route.OfVehicle vehicle.GetInstant key) = Unread (call.GetInstant key)
 reading_of (route.OfName named.Stocktake reference) = Csv (stocktake_call reference)
 reading_of (route.OfName named.GetLoad load) = Unread (call.GetLoad load)
+reading_of (route.OfName named.GetJob job) = Unread (call.GetJob job)
 reading_of (route.OfVehicle vehicle.GetVehicle key) = Unread (call.GetVehicle key)
 reading_of (route.Fixed (fixed.Report report)) = Unread (call.Report report)
 

@@ -47,6 +47,15 @@ job_from_json d =
     given (name_at (codes "to") d) (λ to.
     Some (call.AddJob job load to))))
 
+-- StartDrive {order, manufacturer, serialNumber, to, edges}
+unfoldable pub drive_from_json : Data → Option Call
+drive_from_json d =
+    given (name_at (codes "order") d) (λ order.
+    given (key_at d) (λ key.
+    given (name_at (codes "to") d) (λ to.
+    given (whole_at (codes "edges") d) (λ edges.
+    Some (call.StartDrive order key to edges)))))
+
 -- Advance {order, orderUpdateId, edges}
 unfoldable pub advance_from_json : VehicleKey → Data → Option Call
 advance_from_json key d =

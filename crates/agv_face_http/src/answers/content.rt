@@ -8,6 +8,7 @@ use crate::answers::body::{
     put_accepted, put_counted, put_instructed, put_load, put_refusal, put_update,
 };
 use crate::answers::head::put_head;
+use crate::answers::job_body::put_job;
 use crate::answers::vehicle_body::put_vehicle;
 use agv_desk::{Answer, Report};
 use agv_header::{Memory, Refusal, Verb};
@@ -40,6 +41,7 @@ fn put_content(out: &mut Vec<u8>, answer: &Answer) -> Result<(), Memory>
         Answer::Instant { header, instant } => put_instant(out, header, instant),
         Answer::Counted { moved, unknown } => put_counted(out, *moved, unknown.as_slice()),
         Answer::Load { load, place, job } => put_load(out, load, place, job),
+        Answer::Job { job, row, rider } => put_job(out, job, row, rider),
         Answer::Vehicle { key, row, order } => put_vehicle(out, key, row, order),
         Answer::Report { text, .. } => put_bytes(out, text.as_slice()),
     }

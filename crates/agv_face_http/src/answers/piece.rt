@@ -2,15 +2,16 @@
 ghost use Rattle.std.specs.List.{flat_map};
 ghost use Rattle.serde_json.specs.Written.{compact_text};
 ghost use Rattle.agv_message_json.specs.Appending.{Appended};
+ghost use Rattle.agv_face_http.specs.answers.JobBody.{maybe_key};
 ghost use Rattle.agv_face_http.specs.answers.Pieces.{piece_text, maybe_number, maybe_name, maybe_kind};
 
-use crate::answers::words::{put_key, put_names, put_place, put_thing};
+use crate::answers::words::{put_key, put_names, put_phase, put_place, put_thing};
 use agv_header::{Memory, Name, Thing, VehicleKey};
 use agv_message_core::InstantKind;
 use agv_message_json::{
     put_action_id, put_bytes, put_instant_kind, put_name, put_number, put_truth,
 };
-use agv_stock::Place;
+use agv_stock::{Phase, Place};
 
 /// A piece of a text: bytes as they are, or a JSON value.
 #[derive(Clone, Copy, Debug)]
@@ -32,6 +33,10 @@ pub enum Piece<'a> {
     Place(&'a Place),
     /// `"KIT/0001"`
     Key(&'a VehicleKey),
+    /// `"KIT/0001"`, or `null`
+    MaybeKey(&'a Option<VehicleKey>),
+    /// `"riding"`
+    Phase(Phase),
     /// `"node N2"`
     Thing(&'a Thing),
     /// `"instant-1"`
@@ -63,6 +68,8 @@ fn put_piece(out: &mut Vec<u8>, piece: &Piece<'_>) -> Result<(), Memory>
         Piece::MaybeKind(kind) => put_maybe_kind(out, *kind),
         Piece::Place(place) => put_place(out, place),
         Piece::Key(key) => put_key(out, key),
+        Piece::MaybeKey(key) => put_maybe_key(out, key),
+        Piece::Phase(phase) => put_phase(out, *phase),
         Piece::Thing(thing) => put_thing(out, thing),
         Piece::ActionId(n) => put_action_id(out, *n),
     }
@@ -95,5 +102,15 @@ fn put_maybe_kind(out: &mut Vec<u8>, kind: Option<InstantKind>) -> Result<(), Me
     match kind {
         None => put_bytes(out, b"null"),
         Some(kind) => put_instant_kind(out, kind),
+    }
+}
+
+/// Appends `"KIT/0001"`, or `null`.
+fn put_maybe_key(out: &mut Vec<u8>, key: &Option<VehicleKey>) -> Result<(), Memory>
+    ensures { Appended result out.old out.new (compact_text (maybe_key key.now)) }
+{
+    match key {
+        None => put_bytes(out, b"null"),
+        Some(key) => put_key(out, key),
     }
 }

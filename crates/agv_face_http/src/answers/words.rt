@@ -4,13 +4,14 @@ ghost use Rattle.json.specs.Print.{escape};
 ghost use Rattle.serde_json.specs.Written.{compact_text};
 ghost use Rattle.agv_count.specs.Reports.{key_text, thing_text};
 ghost use Rattle.agv_message_json.specs.Appending.{Appended};
+ghost use Rattle.agv_stock.specs.Phase.{phase_name};
 ghost use Rattle.agv_message_json.specs.Json.{list, text};
 ghost use Rattle.agv_face_http.specs.answers.Bodies.{place_words};
 ghost use Rattle.agv_face_http.specs.answers.Pieces.{more_names};
 
 use agv_header::{Memory, Name, Thing, VehicleKey};
 use agv_message_json::{put_bytes, put_name_after, put_words};
-use agv_stock::Place;
+use agv_stock::{Phase, Place};
 
 /// Appends `"KIT/0001"`.
 pub fn put_key(out: &mut Vec<u8>, key: &VehicleKey) -> Result<(), Memory>
@@ -46,6 +47,18 @@ fn put_key_after(out: &mut Vec<u8>, before: &[u8], key: &VehicleKey) -> Result<(
             b"\"",
         ],
     )
+}
+
+/// Appends the word for a phase between quotes, as `"riding"`.
+pub fn put_phase(out: &mut Vec<u8>, phase: Phase) -> Result<(), Memory>
+    ensures { Appended result out.old out.new (compact_text (text (phase_name phase))) }
+{
+    match phase {
+        Phase::Waiting => put_bytes(out, b"\"waiting\""),
+        Phase::Riding => put_bytes(out, b"\"riding\""),
+        Phase::Done => put_bytes(out, b"\"done\""),
+        Phase::Stopped => put_bytes(out, b"\"stopped\""),
+    }
 }
 
 /// Appends `"node N2"` or `"edge E12"`.

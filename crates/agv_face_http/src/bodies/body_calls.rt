@@ -8,8 +8,8 @@ ghost use Rattle.agv_face_http.specs.bodies.BodyCalls.{call_of_body, is_json, is
 
 use crate::Route::{self, Fixed, OfName, OfVehicle};
 use crate::bodies::commands::{
-    advance_from_json, correction_from_json, job_from_json, leave_from_json, load_from_json,
-    or_bad_body, place_from_json, vehicle_from_json,
+    advance_from_json, correction_from_json, drive_from_json, job_from_json, leave_from_json,
+    load_from_json, or_bad_body, place_from_json, vehicle_from_json,
 };
 use crate::bodies::csv_bodies::{layout_call, stocktake_call};
 use crate::bodies::order_body::order_in;
@@ -50,6 +50,7 @@ pub fn call_of(alloc: Global, route: &Route, body: &[u8]) -> Result<Call, BodyFa
         Fixed(FixedRoute::AddJob) => or_bad_body(job_from_json(&read_body(alloc, body)?)),
         OfName(NamedRoute::StopJob, job) => Ok(Call::StopJob { job: *job }),
         Fixed(FixedRoute::StartOrder) => order_in(alloc, body),
+        Fixed(FixedRoute::StartDrive) => or_bad_body(drive_from_json(&read_body(alloc, body)?)),
         OfVehicle(VehicleRoute::Advance, key) => or_bad_body(advance_from_json(
             key,
             &read_body(alloc, body)?,
@@ -67,6 +68,7 @@ pub fn call_of(alloc: Global, route: &Route, body: &[u8]) -> Result<Call, BodyFa
         OfVehicle(VehicleRoute::GetInstant, key) => Ok(Call::GetInstant { key: *key }),
         OfName(NamedRoute::Stocktake, reference) => stocktake_call(alloc, reference, body),
         OfName(NamedRoute::GetLoad, load) => Ok(Call::GetLoad { load: *load }),
+        OfName(NamedRoute::GetJob, job) => Ok(Call::GetJob { job: *job }),
         OfVehicle(VehicleRoute::GetVehicle, key) => Ok(Call::GetVehicle { key: *key }),
         Fixed(FixedRoute::Report(report)) => Ok(Call::Report(*report)),
     }

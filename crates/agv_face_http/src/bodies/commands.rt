@@ -2,7 +2,7 @@
 ghost use Rattle.std.specs.Prelude.{◌≡◌, Ok, Err, IfOk, IfErr};
 ghost use Rattle.serde_json.specs.View.{view};
 ghost use Rattle.agv_message_json.specs.Body.{IsFaultOf};
-ghost use Rattle.agv_face_http.specs.bodies.CommandBodies.{capacity_at, vehicle_from_json, load_from_json, correction_from_json, leave_from_json, job_from_json, advance_from_json, place_from_json};
+ghost use Rattle.agv_face_http.specs.bodies.CommandBodies.{capacity_at, vehicle_from_json, load_from_json, correction_from_json, leave_from_json, job_from_json, drive_from_json, advance_from_json, place_from_json};
 ghost use Rattle.agv_face_http.specs.bodies.Members.{or_bad_body};
 
 use crate::bodies::members::{key, name, optional_name, whole_or};
@@ -79,6 +79,23 @@ pub(crate) fn job_from_json(body: &Value) -> Option<Call>
     let load = name(body, "load")?;
     let to = name(body, "to")?;
     Some(Call::AddJob { job, load, to })
+}
+
+/// Returns the call that the body of `StartDrive` makes.
+#[tactic(auto, unfolding(crate::specs::bodies::CommandBodies::drive_from_json))]
+pub(crate) fn drive_from_json(body: &Value) -> Option<Call>
+    ensures { result ≡ drive_from_json (view body.now) }
+{
+    let order = name(body, "order")?;
+    let key = key(body)?;
+    let to = name(body, "to")?;
+    let edges = whole(body, "edges")?;
+    Some(Call::StartDrive {
+        order,
+        key,
+        to,
+        edges,
+    })
 }
 
 /// Returns the call that the body of `Advance` makes.

@@ -13,6 +13,7 @@ pub enum FixedRoute {
     RegisterLoad,
     AddJob,
     StartOrder,
+    StartDrive,
     Report(Report),
 }
 
@@ -24,6 +25,7 @@ pub enum NamedRoute {
     StopJob,
     Stocktake,
     GetLoad,
+    GetJob,
 }
 
 /// A call whose path names a vehicle.

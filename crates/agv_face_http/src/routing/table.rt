@@ -13,7 +13,7 @@ use matchit::{InsertError, Router};
 use std::alloc::Global;
 
 /// The lines of the table: the method, the path with names in braces, and the call.
-const LINES: [(Verb, &str, RouteKind); 26] = [
+const LINES: [(Verb, &str, RouteKind); 28] = [
     (Put, "/layout", Fixed(FixedRoute::SetLayout)),
     (Post, "/vehicles", Fixed(FixedRoute::RegisterVehicle)),
     (Post, "/loads", Fixed(FixedRoute::RegisterLoad)),
@@ -26,6 +26,7 @@ const LINES: [(Verb, &str, RouteKind); 26] = [
     (Post, "/jobs", Fixed(FixedRoute::AddJob)),
     (Delete, "/jobs/{job}", OfName(NamedRoute::StopJob)),
     (Post, "/orders", Fixed(FixedRoute::StartOrder)),
+    (Post, "/drives", Fixed(FixedRoute::StartDrive)),
     (
         Post,
         "/vehicles/{manufacturer}/{serial}/advance",
@@ -77,6 +78,7 @@ const LINES: [(Verb, &str, RouteKind); 26] = [
         OfName(NamedRoute::Stocktake),
     ),
     (Get, "/loads/{load}", OfName(NamedRoute::GetLoad)),
+    (Get, "/jobs/{job}/phase", OfName(NamedRoute::GetJob)),
     (
         Get,
         "/vehicles/{manufacturer}/{serial}",

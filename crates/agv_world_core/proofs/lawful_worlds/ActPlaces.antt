@@ -6,7 +6,7 @@ use Rattle.std.proofs.lemmas.Bool.{and_parts, or_cases}
 use Rattle.agv_message_core.specs.declared.order.ActKind.{ActKind}
 use Rattle.agv_message_core.specs.declared.order.ActKind.TheVariants.{Pick, Drop}
 use Rattle.agv_order.specs.Statuses.{is_finished}
-use Rattle.agv_order.specs.StopPlaces.{IsAt, IsPickedThenDropped, CanBeDone}
+use Rattle.agv_order.specs.StopPlaces.{IsAt, IsPickedThenDropped, ArePaired}
 use Rattle.agv_order.specs.Stops.{is_drop}
 use Rattle.agv_order.specs.Trips.{Task, task_of, stop_of}
 use Rattle.agv_order.specs.WellFormed.{is_in_turn, is_picked}
@@ -86,16 +86,16 @@ just : (kind : ActKind) (stops : List Stop) (job : List ℕ) → IsPickedThenDro
 just Pick stops job (pick, drop, before, picked, dropped) i k at by = picked.1 i at ∙ sym (picked.1 k by)
 just Drop stops job (pick, drop, before, picked, dropped) i k at by = dropped.1 i at ∙ sym (dropped.1 k by)
 
-module _ (acts : List Act) (done : CanBeDone (stops_of acts)) where
+module _ (acts : List Act) (done : ArePaired (stops_of acts)) where
   -- of each kind and job there is one act
   pub one_place : (i k : ℕ) (x y : Act) → slice_get acts i ≡ Some x → slice_get acts k ≡ Some y → x.kind ≡ y.kind → x.job ≡ y.job → i ≡ k
   one_place i k x y at by kind job =
       let same : ◌≡◌ {A = Stop} (record { kind = y.kind; job = y.job }) (record { kind = x.kind; job = x.job }) = λ j. record { kind = (sym kind) j; job = (sym job) j } in
-      just x.kind (stops_of acts) x.job (done.each i (stop_of (task_of x)) (stop_at acts i x at)) i k (stop_at acts i x at) (stop_at acts k y by ∙ ap Some same)
+      just x.kind (stops_of acts) x.job (done i (stop_of (task_of x)) (stop_at acts i x at)) i k (stop_at acts i x at) (stop_at acts k y by ∙ ap Some same)
 
   -- each act's job has its drop
   pub drop_of : (k : ℕ) (act : Act) → slice_get acts k ≡ Some act → ActAt acts Drop act.job
-  drop_of k act at = found (done.each k (stop_of (task_of act)) (stop_at acts k act at))
+  drop_of k act at = found (done k (stop_of (task_of act)) (stop_at acts k act at))
     where
       found : IsPickedThenDropped (stops_of acts) act.job → ActAt acts Drop act.job
       found (pick, drop, before, picked, dropped) = act_at acts Drop act.job drop dropped.0

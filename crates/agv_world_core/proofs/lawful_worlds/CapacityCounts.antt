@@ -8,8 +8,8 @@ use Rattle.agv_header.specs.KeyOrder.{key_eq}
 use Rattle.agv_header.specs.declared.key.VehicleKey.{VehicleKey}
 use Rattle.agv_message_core.specs.declared.order.ActKind.{ActKind}
 use Rattle.agv_message_core.specs.declared.order.ActKind.TheVariants.{Pick, Drop}
-use Rattle.agv_order.specs.StopPlaces.{CanBeDone}
-use Rattle.agv_order.specs.Stops.{is_drop, stops_fit}
+use Rattle.agv_order.specs.StopPlaces.{ArePaired}
+use Rattle.agv_order.specs.Stops.{is_drop, are_paired}
 use Rattle.agv_order.specs.declared.act.Act.{Act}
 use Rattle.agv_order.specs.declared.stop.Stop.{Stop}
 use Rattle.agv_stock.specs.Phase.{is_live}
@@ -24,13 +24,13 @@ use Rattle.agv_world_core.proofs.lawful_worlds.ActPlaces.{one_place, stops_of}
 use Rattle.agv_world_core.proofs.lawful_worlds.OtherLoads.{DropApart, DropKnown, is_on_vehicle, is_on_some, others, own, own_and_others}
 use Rattle.agv_world_core.proofs.lawful_worlds.PairCounts.{StopsTwice, counted_alike, counted_apart, counted_mapped, drops_as_picks, is_drop_of, is_pick_of}
 
--- fitting stops can be carried out
-abbrev pub FitsAsSaid : Type 0
-FitsAsSaid = (stops : List Stop) → IsTrue (stops_fit stops) ↔ CanBeDone stops
+-- paired stops are each picked once and later dropped once
+abbrev pub PairsAsSaid : Type 0
+PairsAsSaid = (stops : List Stop) → IsTrue (are_paired stops) ↔ ArePaired stops
 
 -- what the two laws on stops say
 pub record StopLaws : Type 0 where
-  pub said : FitsAsSaid
+  pub said : PairsAsSaid
   pub twice : StopsTwice
 
 pub key_itself : (key : VehicleKey) → key_eq key key ≡ true
@@ -63,7 +63,7 @@ module _ (places : Places) (jobs : Jobs) (key : VehicleKey) where
   live_to_drop : (act : Act) (its : IsCarried places jobs key (action_view act)) → is_to_drop act ≡ true → is_live its.row.phase ≡ true
   live_to_drop act its is = stands_live act.load act.station act.kind _ its.row.phase is its.stands
 
-  drops_apart : OneJob jobs → (acts : List Act) → CanBeDone (stops_of acts) → AllCarried acts → DropApart acts
+  drops_apart : OneJob jobs → (acts : List Act) → ArePaired (stops_of acts) → AllCarried acts → DropApart acts
   drops_apart one_job acts done carried i k x y at by p q same =
       let its = carried i x at in
       let other = carried k y by in
@@ -109,7 +109,7 @@ module _ (places : Places) (jobs : Jobs) (key : VehicleKey) where
   drop_off load station Drop true phase stands = sym (ap (λ p. is_live p && not (is_on_vehicle places key load)) stands)
 
   ashore_due :
-      StopsTwice → (acts : List Act) → IsTrue (stops_fit (stops_of acts)) → AllCarried acts
+      StopsTwice → (acts : List Act) → IsTrue (are_paired (stops_of acts)) → AllCarried acts
       → count_by (λ (act : Act). is_to_drop act && not (is_on_vehicle places key act.load)) acts ≡ to_pick (action_views acts)
   ashore_due twice acts fits carried =
       counted_alike (λ (act : Act). is_to_drop act && not (is_on_vehicle places key act.load)) (is_drop_of off) acts (λ k act at.
@@ -124,7 +124,7 @@ module _ (places : Places) (jobs : Jobs) (key : VehicleKey) where
   -- ---- the two counts are one
 
   pub within_capacity_alike :
-      StopLaws → OneJob jobs → LoadsKnown places jobs → (acts : List Act) → IsTrue (stops_fit (stops_of acts)) → AllCarried acts
+      StopLaws → OneJob jobs → LoadsKnown places jobs → (acts : List Act) → IsTrue (are_paired (stops_of acts)) → AllCarried acts
       → others places key acts + count_by is_to_drop acts ≡ loads_on_vehicle places key + to_pick (action_views acts)
   within_capacity_alike laws one_job known acts fits carried =
       joined _ _ _ _ _ _

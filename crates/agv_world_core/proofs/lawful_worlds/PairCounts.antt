@@ -1,5 +1,5 @@
 -- Among stops that can be carried out, the jobs that pass a test have as many drops as picks.
-use Rattle.std.proofs.Common.{◌≡◌, ℕ, suc, ◌+◌, ◌*◌, ◌⊎◌, ◌&&◌, not, Bool, true, false, cond, List, [], ◌∷◌, map, length, count_by, IsTrue, Some, refl, sym, ap, ◌∙◌, inl, inr, arith}
+use Rattle.std.proofs.Common.{◌≡◌, ℕ, suc, ◌+◌, ◌*◌, ◌&&◌, not, Bool, true, false, cond, List, [], ◌∷◌, map, length, count_by, IsTrue, Some, refl, sym, ap, ◌∙◌, arith}
 use Rattle.std.specs.Cmp.Lexicographic.{same_text}
 use Rattle.std.specs.List.{filter, list_all, slice_get}
 use Rattle.std.proofs.lemmas.Bool.{and_parts, and_from, false_from_ne_true, true≢false}
@@ -7,7 +7,7 @@ use Rattle.std.proofs.lemmas.List.Sums.{sum_by-cons}
 use Rattle.agv_message_core.specs.declared.order.ActKind.{ActKind}
 use Rattle.agv_message_core.specs.declared.order.ActKind.TheVariants.{Pick, Drop}
 use Rattle.agv_order.specs.StopPlaces.{stop_picks}
-use Rattle.agv_order.specs.Stops.{is_drop, is_of, is_pick_then_drop, kinds_of, stops_fit}
+use Rattle.agv_order.specs.Stops.{is_drop, is_of, is_pick_then_drop, kinds_of, are_paired}
 use Rattle.agv_order.specs.declared.act.Act.{Act}
 use Rattle.agv_order.specs.declared.stop.Stop.{Stop}
 use Rattle.agv_world_core.proofs.lawful_worlds.ActPlaces.{stops_of}
@@ -67,19 +67,9 @@ module _ {X : Type 0} where
 abbrev is_served : List Stop → Stop → Bool
 is_served all stop = is_pick_then_drop (kinds_of all stop.job)
 
-each_served : (stops : List Stop) → IsTrue (stops_fit stops) → list_all (is_served stops) stops ≡ true
-unfolding stops_fit
-each_served [] fits = refl
-each_served (x ∷ xs) fits = fits
-
-fit_or_none : (stops : List Stop) → list_all (is_served stops) stops ≡ true → (stops ≡ []) ⊎ IsTrue (stops_fit stops)
-unfolding stops_fit
-fit_or_none [] each = inl refl
-fit_or_none (x ∷ xs) each = inr each
-
--- fitting stops are twice as many as the picks
+-- paired stops are twice as many as the picks
 abbrev pub StopsTwice : Type 0
-StopsTwice = (stops : List Stop) → IsTrue (stops_fit stops) → length stops ≡ 2 * length (filter stop_picks stops)
+StopsTwice = (stops : List Stop) → IsTrue (are_paired stops) → length stops ≡ 2 * length (filter stop_picks stops)
 
 -- so many stops are drops, and so many are picks
 abbrev Sizes : List Stop → ℕ → ℕ → Type 0
@@ -89,18 +79,14 @@ module _ (test : List ℕ → Bool) where
   abbrev passes : Stop → Bool
   passes stop = test stop.job
 
-  kept_fit : (stops : List Stop) → IsTrue (stops_fit stops) → (filter passes stops ≡ []) ⊎ IsTrue (stops_fit (filter passes stops))
-  kept_fit stops fits =
-      fit_or_none (filter passes stops) (all_kept (is_served stops) (is_served (filter passes stops)) passes (λ stop kept.
+  kept_paired : (stops : List Stop) → IsTrue (are_paired stops) → IsTrue (are_paired (filter passes stops))
+  kept_paired stops fits =
+      all_kept (is_served stops) (is_served (filter passes stops)) passes (λ stop kept.
       ap (λ own. is_pick_then_drop (map (λ (s : Stop). s.kind) own)) (sym (filter_twice (is_of stop.job) passes (λ other own. ap test (same_text other.job stop.job (sym own)) ∙ kept) stops)))
-      stops (each_served stops fits))
+      stops fits
 
-  kept_twice : StopsTwice → (stops : List Stop) → IsTrue (stops_fit stops) → length (filter passes stops) ≡ 2 * length (filter stop_picks (filter passes stops))
-  kept_twice twice stops fits =
-      elim (kept_fit stops fits) [
-        | inl none ↦ ap length none ∙ sym (ap (λ zs. 2 * length (filter stop_picks zs)) none)
-        | inr fit ↦ twice (filter passes stops) fit
-      ]
+  kept_twice : StopsTwice → (stops : List Stop) → IsTrue (are_paired stops) → length (filter passes stops) ≡ 2 * length (filter stop_picks (filter passes stops))
+  kept_twice twice stops fits = twice (filter passes stops) (kept_paired stops fits)
 
   abbrev pub is_drop_of : Act → Bool
   is_drop_of act = is_drop act.kind && test act.job
@@ -124,5 +110,5 @@ module _ (test : List ℕ → Bool) where
       by Drop false m n e f so = (omega (arith, so.0, e, f), omega (arith, so.1, f))
 
   -- as many drops as picks
-  pub drops_as_picks : StopsTwice → (acts : List Act) → IsTrue (stops_fit (stops_of acts)) → count_by is_drop_of acts ≡ count_by is_pick_of acts
+  pub drops_as_picks : StopsTwice → (acts : List Act) → IsTrue (are_paired (stops_of acts)) → count_by is_drop_of acts ≡ count_by is_pick_of acts
   drops_as_picks twice acts fits = let so = sizes acts in omega (arith, so.0, so.1, kept_twice twice (stops_of acts) fits)

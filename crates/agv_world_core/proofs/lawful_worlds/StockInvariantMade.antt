@@ -8,8 +8,8 @@ use Rattle.agv_header.specs.declared.key.VehicleKey.{VehicleKey}
 use Rattle.agv_message_core.specs.declared.order.ActKind.{ActKind}
 use Rattle.agv_message_core.specs.declared.order.ActKind.TheVariants.{Pick, Drop}
 use Rattle.agv_order.specs.Statuses.{is_finished}
-use Rattle.agv_order.specs.StopPlaces.{CanBeDone}
-use Rattle.agv_order.specs.Stops.{stops_fit}
+use Rattle.agv_order.specs.StopPlaces.{ArePaired}
+use Rattle.agv_order.specs.Stops.{are_paired}
 use Rattle.agv_order.specs.declared.act.Act.{Act}
 use Rattle.agv_order.specs.declared.trip.Trip.{Trip}
 use Rattle.agv_stock.specs.Phase.{is_live}
@@ -42,10 +42,10 @@ module _ {seats : ℕ} (laws : StopLaws) (world : World) (vehicles : HasLawfulVe
   -- ---- acts
 
   module _ (key : VehicleKey) (trip : Trip) (has : HasTrip world key trip) where
-    fits : IsTrue (stops_fit (stops_of trip.acts))
+    fits : IsTrue (are_paired (stops_of trip.acts))
     fits = (vehicles.trips key has.0 trip has.1 has.2).well_formed.planned.stops
 
-    done : CanBeDone (stops_of trip.acts)
+    done : ArePaired (stops_of trip.acts)
     done = (laws.said (stops_of trip.acts)).0 fits
 
     act_in : (k : ℕ) (act : Act) → slice_get trip.acts k ≡ Some act → HasAct world key trip act

@@ -6,7 +6,7 @@ use Rattle.agv_header.specs.declared.key.VehicleKey.{VehicleKey}
 use Rattle.agv_message_core.specs.declared.order.ActKind.{ActKind}
 use Rattle.agv_message_core.specs.declared.order.ActKind.TheVariants.{Pick, Drop}
 use Rattle.agv_order.specs.Statuses.{is_finished}
-use Rattle.agv_order.specs.Stops.{stops_fit}
+use Rattle.agv_order.specs.Stops.{are_paired}
 use Rattle.agv_order.specs.declared.act.Act.{Act}
 use Rattle.agv_order.specs.declared.trip.Trip.{Trip}
 use Rattle.agv_stock.specs.Phase.{is_live}
@@ -113,7 +113,7 @@ module _ {seats : ℕ} (laws : StopLaws) (world : World) (vehicles : HasLawfulVe
 
   -- ---- what a vehicle may carry
 
-  fits_of : (key : VehicleKey) (trip : Trip) → HasTrip world key trip → IsTrue (stops_fit (stops_of trip.acts))
+  fits_of : (key : VehicleKey) (trip : Trip) → HasTrip world key trip → IsTrue (are_paired (stops_of trip.acts))
   fits_of key trip has = (vehicles.trips key has.0 trip has.1 has.2).well_formed.planned.stops
 
   within_capacity : (key : VehicleKey) (vehicle : Vehicle) (trip : Trip) → IsVehicle world key vehicle → vehicle.trip ≡ Some trip → other_loads world key trip + count_by is_to_drop trip.acts ≤ vehicle.row.capacity

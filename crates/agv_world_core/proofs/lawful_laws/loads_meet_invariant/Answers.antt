@@ -7,4 +7,4 @@ pub returns : goal.returns
 returns c = λ seats world vehicles. (stock_made stops world vehicles, loads_told stops world vehicles)
   where
     stops : StopLaws
-    stops = record { said = c.fits_as_said.ensures; twice = c.stops_twice.ensures }
+    stops = record { said = c.pairs_as_said.ensures; twice = c.stops_twice.ensures }

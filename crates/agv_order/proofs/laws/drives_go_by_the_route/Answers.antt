@@ -1,0 +1,8 @@
+use Rattle.agv_order.proofs.Driving.{goes_by_the_route, none_by_the_route}
+use Rattle.agv_order.proofs.laws.drives_go_by_the_route.Goals as goal
+
+pub returns-clause-goes : goal.returns-clause-goes
+returns-clause-goes c = goes_by_the_route
+
+pub returns-clause-none : goal.returns-clause-none
+returns-clause-none c = none_by_the_route
