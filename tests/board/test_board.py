@@ -67,7 +67,7 @@ class Follows(Watching):
             'the job and the way are gone',
         )
         for words in (
-            'Job J1 waits: L1 to B',
+            'Job J1 waits: L1 from A to B',
             'Order O1 of KIT/0001, 2 edges: pick L1 at A, drop L1 at B',
             'KIT/0001 picked L1 up at A',
             'KIT/0001 dropped L1 at B',
@@ -121,7 +121,7 @@ class Follows(Watching):
             rest={'edge': 'E12', 'node': 'N2'},
         )
         self.held('node N1', 'node N2', 'edge E12')
-        self.said('Job J1 is stopped: L1 to B')
+        self.said('Job J1 is stopped, as order O1 of KIT/0001 was cancelled: L1 to B')
         self.desk.place(ONE, 'R1', 'N2')
         self.wait('vehicle', 'KIT/0001', astray=0, node='N2', rest=None)
         self.held('node N2')
@@ -381,7 +381,7 @@ class Keeps(Watching):
         moves = [('L2', 'station A', 'station B'), ('L1', 'station A', 'station C')]
         question = 'SELECT load, from_place, to_place FROM load_moves ORDER BY n'
         self.rows(question, moves)
-        self.said('L2 is at B, it was at A')
+        self.said('L2 was corrected or counted: it is at B, it was at A')
 
     def test_an_order_that_goes_on(self) -> None:
         """A board that is started again does not tell once more of an order that it has told of; it
@@ -401,7 +401,7 @@ class Keeps(Watching):
         self.board.stop()
         self.desk.place(ONE, 'R1', 'N1')
         self.board = self.plant.board()
-        self.said('Order O1 of KIT/0001 is over')
+        self.said('Order O1 of KIT/0001 is over: it ended while the board did not look')
 
     def test_anyone_reads_at_any_time(self) -> None:
         base = sqlite3.connect(f'file:{self.board.db}?mode=ro', uri=True)
@@ -506,7 +506,18 @@ class Keeps(Watching):
                 'answer': '',
                 'at': '',
             },
-            'events': {'words': '', 'kind': 'move', 'at': ''},
+            'events': {'words': '', 'kind': 'load', 'what': 'load.moved', 'cause': '', 'at': ''},
+            'vehicle_batteries': {'vehicle': '', 'at': ''},
+            'alarms': {
+                'key': '',
+                'kind': 'disk',
+                'level': 'alarm',
+                'words': '',
+                'todo': '',
+                'more': '{}',
+                'began': '',
+                'ended': '',
+            },
             'jobs': {'job': '', 'load': 'L1', 'phase': 'done', 'ended': ''},
         }
         self.assertEqual(tables.keys(), OLD.keys())

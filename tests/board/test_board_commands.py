@@ -13,8 +13,8 @@ import unittest
 from typing import Any
 
 from tests.support.board_run import ONE, TOOLS, TWO, Plant, Watching, has_loopback, until
+from nulvrader.common.names import VehicleKey
 from nulvrader.desk import refusals
-from nulvrader.board.sentences import advice
 
 
 class Commands(Watching):
@@ -97,6 +97,154 @@ class Commands(Watching):
         words = 'The next state of KIT/0001 is taken, whatever its number.'
         self.check(do('resync', vehicle='KIT/0001'), words)
 
+    def test_as_far_as_it_is_free(self) -> None:
+        """The look says how many edges these are: all, or those before what another one holds."""
+        do, post = self.board.do, self.board.post
+        self.check(do('job', load='L1', to='B', job='J1'), 'Job J1 waits.')
+        self.wait('job', 'J1', target='B')
+        said = {'vehicle': 'KIT/0001', 'stops': 'J1', 'order': 'O1'}
+        for edges, number in (('all', '2'), ('free', '2'), ('0', '0')):
+            look = post('/look', 'order', **said, edges=edges)
+            self.assertEqual(look['values']['edges'], number, edges)
+        self.plant.vehicle(TWO, 'N3')
+        until(lambda: self.board.get('hold', 'node N3'), 'the second vehicle')
+        look = post('/look', 'order', **said, edges='free')
+        self.assertEqual((look['values']['edges'], look['warns']), ('1', []))
+        look = post('/look', 'order', **said, edges='all')
+        self.assertEqual(
+            (look['values']['edges'], look['warns']), ('2', ['KIT/0002 holds node N3.'])
+        )
+        for path in ('/do', '/look'):
+            fault = post(path, 'order', **said, edges='some').get('fault', '')
+            self.assertIn("'some' is no number", fault)
+        self.assertIn('look first', post('/do', 'order', **said, edges='all')['fault'])
+        self.check(do('order', **said, edges='free'), 'KIT/0001 has the order O1.')
+        self.wait('vehicle', 'KIT/0001', base=1)
+        self.plant.state(ONE, 'N1', 'O1', 0, 0)
+        self.wait('vehicle', 'KIT/0001', confirmed=0)
+        self.wait('way', 'KIT/0001', order='O1')
+        look = post('/look', 'advance', vehicle='KIT/0001', edges='free')
+        self.assertEqual(look['values']['edges'], '0')
+        self.assertIn(
+            'No edge would be released: the way is not free, or is at its end.', look['warns']
+        )
+
+    def test_a_drive(self) -> None:
+        """Its look tells the way, who holds what of it, and the load aboard, which stays there; the
+        record says who has sent it."""
+        do, drive = self.board.do, {'vehicle': 'KIT/0001', 'node': 'N3', 'order': 'G1'}
+        self.plant.vehicle(TWO, 'N3')
+        until(lambda: self.board.get('hold', 'node N3'), 'the second vehicle')
+        says = [
+            'KIT/0001 drives to node N3 by the order G1, without a job.',
+            'Its way: 2 edges, over N1 N2 N3.',
+            'On the way KIT/0002 holds node N3.',
+        ]
+        look = self.board.post('/look', 'drive', **drive, edges='all')
+        released = 'Released now: 2 edges, over N2 N3. Left then: 0.'
+        self.assertEqual(look['says'], [*says, released])
+        self.assertEqual(look['warns'], ['KIT/0002 holds node N3.'])
+        self.refused(do('drive', **drive, edges='all'), 'Held', 'KIT/0002 holds node N3.')
+        told = do('drive', **drive, edges='free')
+        self.check(told, 'KIT/0001 drives to N3 by the order G1.')
+        self.assertEqual(told['says'], [*says, 'Released now: 1 edge, over N2. Left then: 1.'])
+        self.assertEqual(told['warns'], [])
+        self.wait('vehicle', 'KIT/0001', order_name='G1', base=1, edges=2)
+        answer = 'KIT/0001 drives to N3 by the order G1.'
+        self.said(f'Send KIT/0001 to node N3 by order G1, 1 edge released: {answer}')
+        started = "SELECT vehicle, order_name, cause, call FROM events WHERE what = 'order.started'"
+        self.rows(started, [('KIT/0001', 'G1', 'person', 'drive')])
+        given = "SELECT kind, node, order_name, call FROM events WHERE what = 'command.drive'"
+        self.rows(f'{given} ORDER BY n DESC LIMIT 1', [('command', 'N3', 'G1', 'drive')])
+
+    def test_a_drive_with_a_load_aboard(self) -> None:
+        self.check(self.board.do('job', load='L1', to='B', job='J1'), 'Job J1 waits.')
+        self.desk.start_order('O1', ONE, job='J1', edges=0)
+        self.plant.state(ONE, 'N1', 'O1', 0, 0, (('O1.0', 'FINISHED'),))
+        action = self.desk.cancel(ONE)
+        acts = (('O1.0', 'FINISHED'), ('O1.1', 'FAILED'), (action, 'FINISHED'))
+        self.plant.state(ONE, 'N1', 'O1', 0, 0, acts)
+        self.wait('vehicle', 'KIT/0001', order_name=None, loads=['L1'], pending=None)
+        told = self.board.do('drive', vehicle='KIT/0001', node='N4', edges='all', order='G1')
+        self.check(told, 'KIT/0001 drives to N4 by the order G1.')
+        self.assertIn('It carries L1, and keeps them aboard.', told['says'])
+        self.wait('vehicle', 'KIT/0001', order_name='G1', base=2, loads=['L1'])
+
+    def test_what_is_refused_of_a_drive(self) -> None:
+        post = self.board.post
+
+        def check(
+            name: str,
+            warning: str = '',
+            vehicle: str = 'KIT/0001',
+            node: str = 'N3',
+            edges: str = '1',
+            order: str = 'G9',
+        ) -> None:
+            told = self.board.do('drive', vehicle=vehicle, node=node, edges=edges, order=order)
+            self.refused({**told, 'warns': [*told['warns'], '']}, name, warning)
+
+        check('NoVehicle', 'No vehicle KIT/0009 is registered.', vehicle='KIT/0009')
+        check('NoWalk', 'KIT/0001 stands at node N1 already.', node='N1', edges='all')
+        check('Beyond', 'The order has 2 edges in all.', edges='3')
+        self.plant.state(ONE, 'N1', operatingMode='MANUAL')
+        self.wait('vehicle', 'KIT/0001', ready=0)
+        check('NotReady', 'KIT/0001 is not ready.')
+        self.plant.state(ONE, 'N1', 'O7')
+        self.wait('vehicle', 'KIT/0001', ready=1)
+        check('OrderKnown', order='O7')
+        self.check(
+            self.board.do('drive', vehicle='KIT/0001', node='N2', edges='1', order='G1'),
+            'KIT/0001 drives to N2 by the order G1.',
+        )
+        self.wait('vehicle', 'KIT/0001', order_name='G1')
+        check('Exists', order='G1')
+        check('Busy', 'KIT/0001 has the order G1.')
+        self.desk.cancel(ONE)
+        self.plant.state(ONE, 'N2', 'G1', 0, 2)
+        self.wait('vehicle', 'KIT/0001', order_name=None, pending='cancelOrder', node='N2')
+        check('InstantPending', 'It is told to cancel its order.')
+        self.desk.place(ONE, 'R1', 'N1')
+        self.desk.start_drive('G2', ONE, 'N2', 1)
+        action = self.desk.cancel(ONE)
+        self.plant.state(ONE, 'N1', 'G2', 0, 0, ((action, 'FINISHED'),))
+        self.wait('vehicle', 'KIT/0001', order_name=None, astray=1)
+        words = 'KIT/0001 left its last order on the way, and has to be placed first.'
+        check('Astray', words)
+        for node, fault in (('N9', 'There is no node N9.'), ('', 'Node is missing.')):
+            values = {'vehicle': 'KIT/0001', 'node': node, 'edges': '1', 'order': 'G9'}
+            for path in ('/look', '/do'):
+                self.assertEqual(post(path, 'drive', **values).get('fault'), fault)
+        values = {'vehicle': 'KIT/0001', 'node': 'N3', 'edges': 'all', 'order': 'G9'}
+        self.assertIn('look first', post('/do', 'drive', **values)['fault'])
+
+    def test_all_vehicles(self) -> None:
+        """One look and one command; each entry names who has told it; one that can't be told keeps
+        no other waiting."""
+        self.plant.vehicle(TWO, 'N3')
+        until(lambda: self.board.get('vehicle', 'KIT/0002').get('ready'), 'the second vehicle')
+        self.desk.pause(TWO)
+        self.wait('vehicle', 'KIT/0002', pending='startPause')
+        told = self.board.do('pause_all')
+        self.check(told, 'Told: KIT/0001.')
+        self.assertEqual(
+            told['says'][0], 'Told to pause. Each keeps its order and all that it holds: KIT/0001.'
+        )
+        self.assertEqual(told['warns'], ['Another instant action is not over yet: KIT/0002.'])
+        self.wait('vehicle', 'KIT/0001', pending='startPause')
+        row = "SELECT cause, call FROM events WHERE what = 'vehicle.told' AND vehicle = '%s'"
+        self.rows(row % 'KIT/0001', [('person', 'pause_all')])
+        self.rows(row % 'KIT/0002', [('client', 'pause')])
+        body = {'vehicles': 'KIT/0002 KIT/0001 KIT/0009'}
+        told = self.board.post('/do', 'pause_all', **body)
+        words = 'KIT/0002 (InstantPending), KIT/0001 (InstantPending), KIT/0009 (NoVehicle)'
+        self.assertEqual(told['text'], f'Told: none. Not told: {words}.')
+        self.assertIn('is no vehicle', self.board.post('/do', 'pause_all', vehicles='x y')['fault'])
+        self.plant.served.stop()
+        told = self.board.post('/do', 'resume_all', **body)
+        self.assertFalse(told['done'])
+        self.assertIn('told were none, then:', told['text'])
+
     def test_a_place_that_another_vehicle_holds(self) -> None:
         self.plant.vehicle(TWO, 'N3')
         until(lambda: self.board.get('hold', 'node N3'), 'the second vehicle')
@@ -157,6 +305,16 @@ class Commands(Watching):
             ('register', {'load': 'L 1'}, "'L 1' is no name for a load: "),
             ('advance', {'vehicle': 'KIT/0001', 'edges': '-1'}, "'-1' is no number"),
             (
+                'drive',
+                {'vehicle': 'KIT/0001', 'node': 'N2', 'edges': '1', 'order': 'D/1'},
+                "'D/1' is no name for a order: ",
+            ),
+            (
+                'drive',
+                {'vehicle': 'KIT/0001', 'node': 'N2', 'edges': '1000', 'order': 'G1'},
+                "'1000' is no number from 0 to 999",
+            ),
+            (
                 'order',
                 {'vehicle': 'KIT/0001', 'edges': '1', 'order': 'O1', 'stops': 'lift J1'},
                 "'lift J1' is no stop",
@@ -179,7 +337,7 @@ class Commands(Watching):
             self.board.ask('POST', '/do', body, headers)
             row = self.board.rows('SELECT who, command, said, done FROM commands ORDER BY n')[-1]
             self.assertEqual(row, ('anna', 'leave', '{"load": "L2", "ref": "R1"}', done))
-        self.assertTrue(self.board.said('A load leaves by anna: L2 has left.'))
+        self.assertTrue(self.board.said('Load L2 leaves: L2 has left.'))
 
     def test_a_command_while_the_desk_is_down(self) -> None:
         self.plant.served.stop()
@@ -193,9 +351,56 @@ class Commands(Watching):
         self.assertEqual(told['advice'], 'Nothing was done. Ask again once the desk answers.')
         self.board.refresh()
         self.assertEqual(
-            [event['kind'] for event in self.board.events if 'A load leaves' in event['text']],
+            [event['kind'] for event in self.board.events if 'Load L2 leaves' in event['text']],
             ['failed'],
         )
+
+
+@unittest.skipUnless(has_loopback(), 'no sockets on 127.0.0.1 here')
+class FarDrives(unittest.TestCase):
+    """Drives over a row of 211 edges that lead one way only, on which other vehicles stand."""
+
+    def setUp(self) -> None:
+        nodes = ''.join(f'node,N{n},,\n' for n in range(212))
+        edges = ''.join(f'edge,E{n},N{n},N{n + 1}\n' for n in range(211))
+        self.plant = Plant(f'kind,id,from,to\n{nodes}{edges}')
+        self.addCleanup(self.plant.close)
+        self.plant.vehicle(ONE, 'N0')
+        for n in range(12):
+            self.plant.desk.register_vehicle(VehicleKey('KIT', f'1{n:03}'), f'N{n + 100}')
+        self.board = self.plant.board()
+        until(lambda: self.board.get('hold', 'node N111'), 'the vehicles')
+
+    def drive(self, node: str, vehicle: str = 'KIT/0001') -> dict[str, Any]:
+        return self.board.do('drive', vehicle=vehicle, node=node, edges='0', order='G1')
+
+    def test_what_is_too_far(self) -> None:
+        told = self.drive('N201')
+        self.assertEqual((told['done'], told['refusal']), (False, 'TooLong'))
+        self.assertEqual(
+            told['warns'], ['The way has 201 edges, and 200 at most are allowed.'], told
+        )
+        self.assertLess(max(len(words) for words in told['says']), 100)
+        self.assertEqual(self.drive('N200')['done'], True)
+
+    def test_where_no_way_leads(self) -> None:
+        told = self.drive('N99', 'KIT/1000')
+        self.assertEqual((told['done'], told['refusal']), (False, 'NotReady'))
+        self.assertIn('No way leads from N100 to N99.', told['warns'])
+        self.plant.state(VehicleKey('KIT', '1000'), 'N100')
+        until(lambda: self.board.get('vehicle', 'KIT/1000')['ready'], 'it is ready')
+        told = self.drive('N99', 'KIT/1000')
+        self.assertEqual((told['done'], told['refusal']), (False, 'NoWalk'))
+        self.assertEqual(told['warns'], ['No way leads from N100 to N99.'])
+
+    def test_many_that_are_in_the_way(self) -> None:
+        """Ten of them are named, and how many more there are."""
+        look = self.board.post(
+            '/look', 'drive', vehicle='KIT/0001', node='N150', edges='free', order='G1'
+        )
+        held = [f'On the way KIT/1{n:03} holds node N{n + 100}.' for n in range(10)]
+        self.assertEqual(look['says'][2:13], [*held, 'And 2 more.'])
+        self.assertEqual((look['values']['edges'], look['warns']), ('99', []))
 
 
 class MayAsk(Watching):
@@ -320,15 +525,15 @@ class Advice(unittest.TestCase):
         """What to do at a refusal, without a program of the command line. Held names the vehicle,
         so no more is lost."""
         for refusal in refusals.BY_NAME.values():
-            self.assertNotRegex(advice(refusal.advice), '`|tools/(ask|check)', refusal.name)
+            self.assertNotRegex(refusal.on_page, '`|tools/', refusal.name)
         held = 'Wait until the states of that vehicle have freed it, or release fewer edges.'
-        self.assertEqual(advice(refusals.BY_NAME['Held'].advice), held)
-        self.assertEqual(advice('A load stands at one place.'), 'A load stands at one place.')
+        self.assertEqual(refusals.BY_NAME['Held'].on_page, held)
+        self.assertEqual(refusals.BY_NAME['CountTwice'].on_page, 'A load stands at one place.')
         full = (
             'The loads at the station and the live jobs to it fill it. Take another station, or'
             ' stop a job to it.'
         )
-        self.assertEqual(advice(refusals.BY_NAME['Full'].advice), full)
+        self.assertEqual(refusals.BY_NAME['Full'].on_page, full)
 
 
 def load_tests(
@@ -336,7 +541,7 @@ def load_tests(
 ) -> unittest.TestSuite:
     """`Watching` has no tests of its own."""
     suite = unittest.TestSuite()
-    for case in (Commands, MayAsk, ReadOnly, Starts, Advice):
+    for case in (Commands, FarDrives, MayAsk, ReadOnly, Starts, Advice):
         suite.addTests(loader.loadTestsFromTestCase(case))
     return suite
 

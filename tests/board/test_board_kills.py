@@ -189,6 +189,27 @@ class DeskKilled(Watching):
             done = f"SELECT done FROM commands WHERE said LIKE '%\"{load}\"%' ORDER BY n"
             self.rows(done, [(0,), (1,)] if kill == 'before' else [(0,), (0,)])
 
+    def test_while_a_drive_is_on_its_way(self) -> None:
+        """Where its answer is lost, the page is told the name of its order."""
+        relay = Relay(self.plant)
+        relay.start()
+        self.addCleanup(relay.listener.close)
+        self.board.stop()
+        self.board = self.plant.board('--desk', f'127.0.0.1:{relay.port}')
+        self.board.has_looked(2)
+        values = {'vehicle': 'KIT/0001', 'node': 'N2', 'edges': 'all', 'order': 'G1'}
+        look = self.board.post('/look', 'drive', **values)
+        relay.kill = 'after'
+        told = self.board.post('/do', 'drive', **look['values'])
+        self.assertEqual((told['done'], told.get('refusal')), (False, None))
+        advice = 'look first, and then ask the same again. The name of the order is G1.'
+        self.assertTrue(told['advice'].endswith(advice), told)
+        self.plant.served.stop(signal.SIGKILL)
+        self.come_back()
+        self.wait('vehicle', 'KIT/0001', order_name='G1')
+        again = self.board.post('/do', 'drive', **look['values'])
+        self.assertEqual((again['done'], again.get('refusal')), (False, 'Exists'))
+
     def test_while_it_opens(self) -> None:
         """A file of some more loads is opened again and again, and the desk is killed before it is
         open; in the end it is, and the loads that came meanwhile are seen."""

@@ -3,9 +3,11 @@ and each command, done and refused. It is skipped where there is no Chromium wit
 
 from __future__ import annotations
 
+import json
 import os
 import re
 import signal
+import socket
 import tempfile
 import unittest
 
@@ -82,11 +84,15 @@ class AtWork(Page):
             (('O1.0', 'FAILED'), ('O1.1', 'FAILED'), ('instant-1', 'FINISHED')),
         )
         self.sees('.vehicle-card', 'Has to be placed', 'Still holds edge E12 and node N2')
-        self.sees('#alarms', 'KIT/0001 left its order on the way: place it')
+        self.sees('#alarms', 'KIT/0001 left its order on the way', 'Look where it stands')
+        until(lambda: '▲ 1' in self.browser.run('return document.title'), 'the title says so')
+        self.assertEqual(self.browser.value('link[rel=icon]', 'href'), 'alarm.svg')
         self.on_the_map('hold', 'Edge E12', 'held by KIT/0001')
         self.desk.place(ONE, 'R1', 'N1')
         self.misses('.vehicle-card', 'Has to be placed')
         self.misses('#alarms', 'KIT/0001 left')
+        self.assertEqual(self.browser.run('return document.title'), 'Nulvrader board')
+        self.assertEqual(self.browser.value('link[rel=icon]', 'href'), 'icon.svg')
 
     def test_who_waits_for_whom(self) -> None:
         self.plant.vehicle(TWO, 'N2')
@@ -99,7 +105,7 @@ class AtWork(Page):
     def test_a_desk_that_is_stopped_and_comes_back(self) -> None:
         self.plant.served.stop(signal.SIGKILL)
         self.sees('#desk', 'The desk has not answered for')
-        self.sees('#alarms', 'The desk has not answered since')
+        self.sees('#alarms', 'The desk has not answered: what is seen here is old')
         self.plant.replay(('POST', '/loads/L2/correct', {'ref': 'R1', 'station': 'C'}))
         self.plant.start_desk()
         self.sees('#desk', 'The desk answers')
@@ -114,9 +120,7 @@ class AtWork(Page):
             os.rename(self.plant.path('warehouse.db' + end), self.plant.path('aside.db' + end))
         self.plant.start_desk()
         self.sees('#desk', 'Another desk answers')
-        self.sees(
-            '#alarms', 'Another desk answers since', 'nothing is recorded', 'move board.db away'
-        )
+        self.sees('#alarms', 'Another desk answers: nothing is recorded', 'move board.db away')
         self.browser.press('Pause', '.vehicle-card')
         self.sees('#command', 'The desk does not answer: nothing can be done now')
         self.browser.press('Do it', '#command')
@@ -165,6 +169,84 @@ class AtWork(Page):
         )
 
 
+class Says(Page):
+    """A board that is told what vehicles say."""
+
+    words = (*Page.words, '--words', 'WORDS')
+
+    def setUp(self) -> None:
+        self.folder = tempfile.TemporaryDirectory()
+        self.addCleanup(self.folder.cleanup)
+        self.path = os.path.join(self.folder.name, 'words.sock')
+        self.words = (*Page.words, '--words', self.path)
+        super().setUp()
+        self.out = socket.socket(socket.AF_UNIX, socket.SOCK_DGRAM)
+        self.addCleanup(self.out.close)
+
+    def say(self, **members: object) -> None:
+        told: dict[str, object] = {'manufacturer': 'KIT', 'serialNumber': '0001', **members}
+        self.out.sendto(json.dumps(told).encode(), self.path)
+
+    def test_why_it_is_not_ready(self) -> None:
+        """In the vehicle's own words, which are text, whatever they are; and since when."""
+        error = {
+            'errorType': 'scannerDirty',
+            'errorLevel': 'FATAL',
+            'errorDescription': '<img src=x onerror=alert(1)> front scanner dirty',
+        }
+        safety = {'eStop': 'MANUAL', 'fieldViolation': True}
+        self.say(
+            operatingMode='MANUAL',
+            safetyState=safety,
+            errors=[error],
+            batteryState={'batteryCharge': 12, 'charging': False},
+        )
+        self.plant.state(ONE, 'N1', operatingMode='MANUAL')
+        for words in (
+            'Emergency stop MANUAL (to be acknowledged at the vehicle)',
+            'FATAL scannerDirty: <img src=x onerror=alert(1)> front scanner dirty',
+            'Operating mode MANUAL',
+            'Something is in its protective field',
+            'Its battery is low: 12 %',
+        ):
+            self.sees('.vehicle-card .saying', words, 'since')
+        self.sees('#alarms', 'KIT/0001 is not ready, at N1: emergency stop MANUAL', 'Solve that')
+        self.browser.click('#tab-events')
+        self.sees('#events', 'KIT/0001 says: operating mode MANUAL, it was AUTOMATIC')
+        self.assertEqual(self.browser.run('return document.querySelectorAll("img").length'), 1)
+
+    def test_who_has_taken_an_alarm_on(self) -> None:
+        """The name is asked for once, by keyboard too, and is kept by the board."""
+        self.plant.state(ONE, 'N1', operatingMode='MANUAL')
+        self.browser.press('I take it on', '#alarms')
+        self.sees('#alarms', 'Say your name first.')
+        self.has_focus('id', 'my-name')
+        self.browser.keys('a', 'n', 'n', 'a')
+        self.browser.press('I take it on', '#alarms')
+        self.sees('#alarms', 'seen by anna')
+        self.misses('#alarms', 'Say your name')
+        self.browser.open(f'http://127.0.0.1:{self.board.port}/')
+        self.sees('#alarms', 'seen by anna')
+        self.browser.press('Not any more', '#alarms')
+        self.misses('#alarms', 'seen by anna')
+
+    def test_a_load_aboard_after_a_cancel(self) -> None:
+        """It is no green Ready, but an alarm."""
+        self.desk.add_job('J1', 'L1', 'B')
+        self.desk.start_order('O1', ONE, job='J1', edges=0)
+        self.sees('.vehicle-card', 'Order O1')
+        self.plant.state(ONE, 'N1', 'O1', 0, 0, (PICKED,))
+        self.sees('.vehicle-card', 'L1: A → B, on it')
+        action = self.desk.cancel(ONE)
+        self.plant.state(ONE, 'N1', 'O1', 0, 0, (PICKED, ('O1.1', 'FAILED'), (action, 'FINISHED')))
+        self.sees('.vehicle-card .badges', 'Carries L1 in no job')
+        self.sees('#alarms', 'KIT/0001 carries L1 in no job, at N1', 'Take it off')
+        self.misses('.vehicle-card .badges', 'Ready')
+        self.desk.correct_load('L1', 'R1', 'A')
+        self.sees('.vehicle-card .badges', 'Ready')
+        self.misses('#alarms', 'carries L1')
+
+
 class FallsSilent(Page):
     words = ('--silent', '8')
 
@@ -177,7 +259,7 @@ class FallsSilent(Page):
             return 'No state for' not in self.browser.text('.vehicle-card')
 
         until(is_heard, 'its states are seen again')
-        why = 'an emergency stop, or an error of the level FATAL: the desk does not keep which'
+        why = 'an emergency stop, or an error of the level FATAL: the desk does not keep which, and'
 
         def is_not_ready() -> bool:
             is_heard('MANUAL')
@@ -307,12 +389,12 @@ class Gives(Page):
         page.write('#field-edges', '1')
         self.look('Released now: 1 edge, over N2. Left then: 1.')
         self.do('KIT/0001 has the order O1.')
-        self.on_vehicle('Release more')
+        self.on_vehicle('Let it drive further')
         self.look('The vehicle has not confirmed the last update.')
         self.do("The vehicle hasn't confirmed the last update")
         self.plant.state(ONE, 'N1', 'O1', 0, 0)
         self.misses('.vehicle-card', 'Not confirmed')
-        self.on_vehicle('Release more')
+        self.on_vehicle('Let it drive further')
         self.look(
             'Order O1 of KIT/0001 goes on by update 1.',
             'Released now: 1 edge, over N3. Left then: 0.',
@@ -342,6 +424,92 @@ class Gives(Page):
         self.do('KIT/0001 is told to cancel its order (instant-3).')
         self.place_it()
 
+    def test_a_drive(self) -> None:
+        """By clicks on the card of the vehicle: refused, as it stands there already, and done."""
+        self.plant.vehicle(TWO, 'N4')
+        self.on_the_map('node', 'Node N4', 'held by KIT/0002')
+        page = self.browser
+        page.write('#find-vehicle', 'KIT/0001')
+        until(lambda: page.text('.vehicle-card .title') == 'KIT/0001', 'the one at N1')
+        self.on_vehicle('Drive to a node')
+        page.press('What will it do?', '#command')
+        self.sees('#command', 'Node is missing.')
+        page.write('#field-node', 'N1')
+        page.write('#field-order', 'G1')
+        self.look('KIT/0001 stands at node N1 already.')
+        page.press('Do it', '#command')
+        self.sees('#command .answer', 'No walk leads there')
+        page.press('Back', '#command')
+        page.write('#field-node', 'N4')
+        page.press('All the way', '#command')
+        self.look('Released now: 2 edges, over N2 N4.', 'KIT/0002 holds node N4.')
+        page.press('Back', '#command')
+        page.press('As far as it is free', '#command')
+        self.look(
+            'KIT/0001 drives to node N4 by the order G1, without a job.',
+            'Its way: 2 edges, over N1 N2 N4.',
+            'On the way KIT/0002 holds node N4.',
+            'Released now: 1 edge, over N2. Left then: 1.',
+        )
+        self.do('KIT/0001 drives to N4 by the order G1.')
+        self.sees('.vehicle-card', 'Order G1', '0 of 2 edges, released to 1', 'Drives to N4')
+        self.misses('.vehicle-card .actions button', 'Drive to a node')
+        page.click('#tab-events')
+        self.sees('#events', 'Send KIT/0001 to node N4 by order G1', 'Order G1 of KIT/0001')
+
+    def test_stops_by_clicks(self) -> None:
+        """Jobs are added by clicks, and their stops put in order by buttons and by dragging; a drop
+        stays behind its pick."""
+        page = self.browser
+        self.desk.add_job('J1', 'L1', 'B')
+        self.desk.add_job('J2', 'L2', 'C')
+        page.click('#tab-jobs')
+        self.sees('#jobs', 'J1', 'J2')
+        page.press('Start an order', '#jobs .job-card')
+
+        def stops(*wanted: str) -> None:
+            script = 'return document.querySelector("#field-stops").value'
+            until(lambda: page.run(script) == ', '.join(wanted), ', '.join(wanted))
+
+        self.sees('#command .stops', 'Pick L1 at A (J1)', 'Drop L1 at B (J1)')
+        page.click('#command [data-job=J2]')
+        stops('pick J1', 'drop J1', 'pick J2', 'drop J2')
+        page.click('#command .stops li:nth-child(3) button')
+        stops('pick J1', 'pick J2', 'drop J1', 'drop J2')
+        page.click('#command .stops li:nth-child(4) button')
+        stops('pick J1', 'pick J2', 'drop J2', 'drop J1')
+        page.click('#command .stops li:nth-child(3) button')
+        stops('pick J1', 'pick J2', 'drop J2', 'drop J1')
+        drag = '''
+            const stop = (at) => document.querySelector(`.stops li:nth-child(${at})`);
+            const [from, to] = [stop(4), stop(3)];
+            const dataTransfer = new DataTransfer();
+            from.dispatchEvent(new DragEvent('dragstart', { dataTransfer, bubbles: true }));
+            const drop = { dataTransfer, bubbles: true, cancelable: true };
+            to.dispatchEvent(new DragEvent('drop', drop));
+        '''
+        page.run(drag)
+        stops('pick J1', 'pick J2', 'drop J1', 'drop J2')
+        page.click('#command .stops li:first-child button:last-child')
+        stops('pick J2', 'drop J2')
+        page.write('#field-vehicle', 'KIT/0001')
+        page.press('All the way', '#command')
+        self.look(
+            'Pick L2 at A.', 'Drop L2 at C.', 'Released now: 2 edges, over N2 N4. Left then: 0.'
+        )
+
+    def test_all_are_paused(self) -> None:
+        """One look and one command; vehicles are found by their names, nodes and loads."""
+        self.plant.vehicle(TWO, 'N3')
+        self.sees('#tab-vehicles', '2')
+        self.browser.write('#find-vehicle', 'N3')
+        until(lambda: self.browser.text('.vehicle-card .title') == 'KIT/0002', 'the one at N3')
+        self.browser.write('#find-vehicle', 'nothing')
+        self.sees('#vehicles .none', 'No vehicle was found.')
+        self.browser.press('Pause all', '#vehicles')
+        self.look('Told to pause. Each keeps its order and all that it holds: KIT/0001, KIT/0002.')
+        self.do('Told: KIT/0001, KIT/0002.')
+
     def place_it(self) -> None:
         self.plant.vehicle(TWO, 'N4')
         self.on_the_map('node', 'Node N4', 'held by KIT/0002')
@@ -354,10 +522,10 @@ class Gives(Page):
         self.look('Its order O1 ends', 'The vehicle gets no message')
         self.do('KIT/0001 stands at N2.')
         self.sees('.vehicle-card', 'at N2')
-        self.on_vehicle('Accept its states')
+        self.on_vehicle('Accept its states after a restart')
         self.look('The desk forgets the number of the last state of KIT/0001')
         self.do('The next state of KIT/0001 is taken, whatever its number.')
-        self.on_vehicle('Accept its states')
+        self.on_vehicle('Accept its states after a restart')
         self.browser.press('Back', '#command')
         self.browser.write('#field-vehicle', 'KIT/0009')
         self.look('No vehicle KIT/0009 is registered.')
@@ -409,7 +577,11 @@ class EyesAndHands(Page):
             self.browser.keys('RIGHT')
             self.has_focus('id', tab)
             self.assertEqual(self.browser.value('#' + tab, 'aria-selected'), 'true')
-        self.browser.keys('TAB', 'ENTER')
+        self.browser.keys('TAB')
+        self.has_focus('id', 'find-vehicle')
+        self.browser.keys('TAB', 'TAB')  # over the order of the list
+        self.has_focus('dataset.command', 'pause_all')
+        self.browser.keys('TAB', 'TAB', 'ENTER')
         until(
             lambda: self.browser.value('.vehicle-card .head', 'aria-expanded') == 'true',
             'the card is open',
@@ -485,7 +657,7 @@ def load_tests(
 ) -> unittest.TestSuite:
     """`Page` has no tests of its own."""
     suite = unittest.TestSuite()
-    for case in (AtWork, FallsSilent, Gives, LooksOnly, EyesAndHands):
+    for case in (AtWork, Says, FallsSilent, Gives, LooksOnly, EyesAndHands):
         suite.addTests(loader.loadTestsFromTestCase(case))
     return suite
 

@@ -46,15 +46,18 @@ class BoardByNginx(unittest.TestCase):
         the record of them. A gateway gets nothing."""
         self.assertEqual(self.ask('GET /board/', None).status, 401)
         for user, status in (('anna', 200), ('otto', 200), ('gate', 403)):
-            for path in ('', 'data?run=&since=0', 'data?vehicle=KIT%2F0001', 'main.js'):
+            files = 'main.js', 'messages.json', 'record?load=L1', 'record.csv', 'alarm.svg'
+            for path in ('', 'data?run=&since=0', 'data?vehicle=KIT%2F0001', *files):
                 self.assertEqual(self.ask(f'GET /board/{path}', user).status, status, (user, path))
         lines = (f'X-Board-Token: {self.token()}', f'Origin: {self.proxy.origin(True)}')
         command = {'command': 'leave', 'values': {'load': 'L1', 'ref': 'R1'}}
         for user in ('otto', 'gate'):
-            for path in ('do', 'look', 'may'):
+            for path in ('do', 'look', 'may', 'take'):
                 told = self.ask(f'POST /board/{path}', user, *lines, body=command)
                 self.assertEqual(told.status, 403, (user, path))
         self.assertEqual(self.ask('POST /board/may', 'anna', *lines, body={}).status, 200)
+        told = self.ask('POST /board/take', 'anna', *lines, body={'alarm': 999})
+        self.assertEqual(json.loads(told.body), {'fault': 'This alarm is over.'})
         self.assertEqual(self.plant.desk.load('L1').place, 'station A')
         told = self.ask('POST /board/do', 'anna', 'X-User: otto', *lines, body=command)
         self.assertEqual((told.status, json.loads(told.body)['done']), (200, True))

@@ -2,6 +2,7 @@
 from __future__ import annotations
 
 import argparse
+import functools
 import signal
 import socket
 import sqlite3
@@ -10,6 +11,10 @@ import threading
 from ..common import entry
 from ..desk import arguments
 from ..desk.client import Desk
+from .alarms import Alarms
+from .api.routes import Api
+from .api.watch import Watch
+from .api.watched_desk import DeskMeter, WatchedDesk
 from .poller import Asker, Followers
 from .commands import Commands
 from .fleet import Fleet
@@ -24,6 +29,8 @@ from .same_desk import Same
 from .server import Server, listening_at, listening_in
 from .page_state import Shown
 from .stock import Stores
+from .words_keeper import Keeper
+from .words_socket import Heard, hearing_in
 
 PATIENCE = 0.5  # seconds for an answer of the desk, at the end
 
@@ -44,9 +51,13 @@ def words(text: str) -> argparse.ArgumentParser:
         'listen on this socket in the place of a port, for a proxy: its group alone may open it'
     )
     add('--socket', metavar='FILE', help=socket_text)
+    words_text = 'a socket on which gateways tell it what vehicles say (gateway --board)'
+    add('--words', metavar='FILE', help=words_text)
     add('--days', type=int, default=30, help='how many days it keeps changes (default: 30)')
     silent = 'a vehicle of which no state has come for so long is shown as silent (default: 10)'
     add('--silent', type=arguments.seconds, default=10.0, metavar='SECONDS', help=silent)
+    late = 'a job that waits for longer is an alarm (default: 30)'
+    add('--late', type=float, default=30.0, metavar='MINUTES', help=late)
     add('--read-only', action='store_true', help='no commands')
     name = (
         'a host name that a proxy uses for it, as desk.example or desk.example:8443; may be'
@@ -72,6 +83,16 @@ def listener_of(said: argparse.Namespace) -> socket.socket:
         ) from None
 
 
+def heard_of(said: argparse.Namespace) -> Heard | None:
+    """What hears what gateways tell of vehicles; None where that isn't wanted."""
+    if said.words is None:
+        return None
+    try:
+        return Heard(hearing_in(said.words))
+    except OSError as fault:
+        raise Unready(f'{said.words}: {fault}') from None
+
+
 def signalled() -> threading.Event:
     """What is set once SIGINT or SIGTERM has come."""
     over = threading.Event()
@@ -95,7 +116,7 @@ def commands_of(
     is told."""
     if said.read_only:
         return None
-    commands = Commands(desk, floor, news.shown, Given(said.db), asker)
+    commands = Commands(desk, floor, news, Given(said.db, news.shown.event), asker)
     try:
         commands.tell_left()
     except NoRecord as fault:
@@ -107,36 +128,47 @@ def serve(said: argparse.Namespace) -> bool:
     """Asks the desk and serves pages until a signal comes. False where it ends by a fault."""
     listener = listener_of(said)
     try:
-        desks = arguments.desk_of(said), arguments.desk_of(said)
+        meter, options = DeskMeter(), arguments.options_of(said)
+        desks = WatchedDesk(meter, **options), WatchedDesk(meter, **options)
         record = Record(said.db)
         news = News(Shown(), record)
         floor = Floor(news)
-        asker = Asker(desks[0], news, floor, lambda: followers_of(news, said.silent), said.days)
+        heard = heard_of(said)
+        follow = functools.partial(followers_of, news, said.silent, said.late)
+        asker = Asker(desks[0], news, floor, follow, said.days, heard)
         commands = commands_of(said, desks[1], floor, news, asker)
+        api = Api(record, Watch(said.db, news.shown, asker, meter))
     except (NoRecord, OSError, ValueError, sqlite3.Error) as fault:
         raise Unready(str(fault)) from None
     port = int(listener.getsockname()[1]) if said.socket is None else None
     guard = Guard(port, said.name)
-    board = Board(news.shown, record, asker, guard, commands, said.user_header)
+    board = Board(news.shown, record, asker, guard, commands, said.user_header, api)
     server = Server(listener, Pages(board))
     over = signalled()
+    api.feed.begin()
     asker.start()
     server.start()
+    if heard is not None:
+        heard.start()
     print(f'listening on {said.socket or f"http://127.0.0.1:{port}/"}', flush=True)
     told = wait_for_the_end(over, asker, server)
     server.stop()
     asker.stop(PATIENCE)
+    if heard is not None:
+        heard.stop()
+    api.feed.stop()
     if commands is not None:
         commands.given.close()
     record.close()
     return told
 
 
-def followers_of(news: News, silent: float) -> Followers:
+def followers_of(news: News, silent: float, late: float) -> Followers:
     """Those that take the answers, by what the record has."""
     stores, fleet = Stores(news), Fleet(news, int(silent * 1000))
-    news.record.commit()
-    return Followers(stores, fleet, Same(news.record))
+    keeper, alarms = Keeper(news), Alarms(news, int(late * 60_000))
+    news.commit()
+    return Followers(stores, fleet, Same(news.record), keeper, alarms)
 
 
 def run(line: list[str], text: str) -> int:

@@ -6,41 +6,45 @@ import contextlib
 import json
 import sqlite3
 import threading
-from collections.abc import Mapping
+from collections.abc import Callable, Mapping
 from dataclasses import dataclass
+from typing import Any
 
-from .record import NoRecord, opened, text_of
+from .events import Cause, Event, told
+from .record import INSERT_EVENT, NoRecord, event_row, opened, text_of
 
 WAIT = 5.0  # seconds for another program that writes to the file
 
 
 @dataclass(frozen=True)
 class Command:
-    """A command that stands in the file: the number of its row, who gave it, and its name."""
+    """A command that stands in the file: the number of its row, who gave it, its name, and its
+    values."""
 
     number: int
     who: str
     name: str
+    values: Mapping[str, str]
 
 
 @dataclass(frozen=True)
 class Outcome:
     """What came of a command: whether it was done, None where that is not known, and the answer.
-    `kind` and `words` are those of its line of what happened, at a moment in milliseconds since
+    `event` is its entry of what happened, at a moment in milliseconds since
     1970."""
 
     done: bool | None
     answer: str
     at: int
-    kind: str
-    words: str
+    event: Event
 
 
 class Given:
     """Writes commands by a connection of its own, so that each is on the disk at once. Threads may
-    use it at the same time."""
+    use it at the same time. `told` takes each entry that was written, as pages have it."""
 
-    def __init__(self, path: str):
+    def __init__(self, path: str, told: Callable[[dict[str, Any]], None] = lambda entry: None):
+        self.told = told
         self._lock = threading.Lock()
         self._late: list[tuple[int, Outcome]] = []  # outcomes that could not be written
         try:
@@ -71,8 +75,8 @@ class Given:
         return number
 
     def answered(self, number: int, outcome: Outcome) -> None:
-        """Writes the outcome of a command; `NoRecord` where that can't be written, which is tried
-        again with the next command."""
+        """Writes the outcome of a command, and tells of its entry; `NoRecord` where that can't be
+        written, which is tried again with the next command."""
         with self._lock:
             self._late.append((number, outcome))
             try:
@@ -80,31 +84,67 @@ class Given:
             except sqlite3.Error as fault:
                 raise NoRecord(str(fault)) from fault
 
+    def tell(self, event: Event, at: int) -> None:
+        """Writes an entry of something that a person has done here; `NoRecord` where that can't be
+        written."""
+        with self._lock:
+            try:
+                self._write_late()
+                number = self._base.execute(INSERT_EVENT, event_row(at, event)).lastrowid
+            except sqlite3.Error as fault:
+                raise NoRecord(str(fault)) from fault
+        self.told(told(number or 0, at, event))
+
+    def take(self, number: int, who: str | None, at: int) -> Event | None:
+        """Writes who has taken an open alarm on, None where nobody has any more. Its entry; None
+        where no such alarm is open. `NoRecord` where that can't be written."""
+        question = 'SELECT key, kind, level, vehicle, load, job, station, more FROM alarms'
+        with self._lock:
+            try:
+                rows = self._base.execute(
+                    f'{question} WHERE n = ? AND ended IS NULL', (number,)
+                ).fetchall()
+                moment = None if who is None else text_of(at)
+                change = 'UPDATE alarms SET taken_by = ?, taken_at = ? WHERE n = ?'
+                self._base.execute(change, (who, moment, number))
+            except sqlite3.Error as fault:
+                raise NoRecord(str(fault)) from fault
+        for key, kind, level, vehicle, load, job, station, more in rows:
+            about = {'vehicle': vehicle, 'load': load, 'job': job, 'station': station}
+            values = {**json.loads(more), 'alarm': kind, 'key': key, 'level': level}
+            what = 'alarm.left' if who is None else 'alarm.taken'
+            cause = Cause('person', who)
+            return Event('alarm', what, cause, about, after=who, more=values)
+        return None
+
     def _write_late(self) -> None:
         while self._late:
             number, outcome = self._late[0]
             done = None if outcome.done is None else int(outcome.done)
-            event = text_of(outcome.at), outcome.kind, outcome.words
             self._base.execute('BEGIN IMMEDIATE')
             try:
                 self._base.execute(
                     'UPDATE commands SET done = ?, answer = ? WHERE n = ?',
                     (done, outcome.answer, number),
                 )
-                self._base.execute('INSERT INTO events (at, kind, words) VALUES (?, ?, ?)', event)
+                row = event_row(outcome.at, outcome.event)
+                entry = self._base.execute(INSERT_EVENT, row).lastrowid
                 self._base.execute('COMMIT')
             finally:
                 if self._base.in_transaction:
                     self._base.execute('ROLLBACK')
             del self._late[0]
+            self.told(told(entry or 0, outcome.at, outcome.event))
 
     def left(self) -> list[Command]:
         """The commands of an earlier run whose outcome is not known."""
         with self._lock:
             try:
                 rows = self._base.execute(
-                    'SELECT n, who, command FROM commands WHERE answer IS NULL ORDER BY n'
+                    'SELECT n, who, command, said FROM commands WHERE answer IS NULL ORDER BY n'
                 )
-                return [Command(number, who, name) for number, who, name in rows]
+                return [
+                    Command(number, who, name, json.loads(said)) for number, who, name, said in rows
+                ]
             except sqlite3.Error as fault:
                 raise NoRecord(str(fault)) from fault

@@ -4,7 +4,7 @@ from __future__ import annotations
 
 import re
 from collections.abc import Callable, Mapping
-from dataclasses import dataclass
+from dataclasses import dataclass, replace
 from typing import Any, Protocol
 
 from ..desk.client import Desk, NoAnswer, Refused, Stop
@@ -12,17 +12,20 @@ from ..common.names import BadName, BadValue, VehicleKey, checked
 from ..common.tables import BODY
 from ..common.text import shown as printable
 from . import previews, order_previews
+from .events import ABOUT, Cause, Event
 from .floor import Floor
+from .messages import has
+from .news import News
 from .poller import now
 from .command_log import Command, Given, Outcome
-from .previews import Look
+from .previews import Line, Look
 from .record import NoRecord
 from .scene import Scene
-from .page_state import Shown
 from .stocktakes import stocktake
-from .sentences import advice, count, ended
+from .sentences import count, ended
 
 Values = Mapping[str, str]
+MORE = ('order', 'stops', 'edges', 'update', 'ref', 'vehicles')  # values that an entry says besides
 TEXT = 20_000  # characters of what was answered
 NAME = 80
 UPDATES = 4_294_967_295
@@ -78,8 +81,10 @@ class Kind:
 
 
 VEHICLE = Field('vehicle', 'Vehicle', 'vehicle')
+VEHICLES = Field('vehicles', 'The vehicles', 'vehicles')
 LOAD = Field('load', 'Load', 'load')
 REFERENCE = Field('ref', 'Reference', 'name')
+RELEASE = 'Edges released: free (as far as the way is free), all (all the way), or a number'
 OPEN_ORDER = Field('order', 'The open order', 'name'), Field(
     'update', 'The number of the update', 'update'
 )
@@ -123,6 +128,11 @@ def _start(desk: Desk, said: Values) -> str:
     return f'{said["vehicle"]} has the order {said["order"]}.'
 
 
+def _drive(desk: Desk, said: Values) -> str:
+    desk.start_drive(said['order'], _key(said), said['node'], int(said['edges']))
+    return f'{said["vehicle"]} drives to {said["node"]} by the order {said["order"]}.'
+
+
 def _advance(desk: Desk, said: Values) -> str:
     update = desk.advance(_key(said), said['order'], int(said['update']), int(said['edges']))
     return f'Update {update} of order {said["order"]} is sent.'
@@ -138,6 +148,28 @@ def _pause(desk: Desk, said: Values) -> str:
 
 def _resume(desk: Desk, said: Values) -> str:
     return f'{said["vehicle"]} is told to go on ({desk.resume(_key(said))}).'
+
+
+def _all(tell: Callable[[Desk, VehicleKey], str]) -> Callable[[Desk, Values], str]:
+    """Tells all vehicles, one after the other. One that can't be told keeps none of the others
+    waiting; where the desk does not answer the rest is not told."""
+
+    def do(desk: Desk, said: Values) -> str:
+        told: list[str] = []
+        refused: list[str] = []
+        for vehicle in said['vehicles'].split():
+            try:
+                tell(desk, VehicleKey.parse(vehicle))
+                told.append(vehicle)
+            except Refused as refusal:
+                refused.append(f'{vehicle} ({refusal.name})')
+            except NoAnswer as fault:
+                words = f'told were {", ".join(told) or "none"}, then: {fault}'
+                raise NoAnswer(words, bool(told) or fault.may_be_done) from fault
+        rest = f' Not told: {", ".join(refused)}.' if refused else ''
+        return f'Told: {", ".join(told) or "none"}.{rest}'
+
+    return do
 
 
 def _place(desk: Desk, said: Values) -> str:
@@ -163,15 +195,26 @@ COMMANDS: dict[str, Kind] = {
         (
             VEHICLE,
             Field('stops', 'Job, or stops as: pick J1, pick J2, drop J1, drop J2', 'stops'),
-            Field('edges', 'Edges released at once', 'number', given=lambda: '1'),
+            Field('edges', RELEASE, 'release', given=lambda: order_previews.FREE),
             Field('order', 'Name of the order', 'name', given=lambda: order_previews.new_name('O')),
         ),
         order_previews.start_order,
         _start,
     ),
+    'drive': Kind(
+        'Drive to a node',
+        (
+            VEHICLE,
+            Field('node', 'Node', 'node'),
+            Field('edges', RELEASE, 'release', given=lambda: order_previews.FREE),
+            Field('order', 'Name of the order', 'name', given=lambda: order_previews.new_name('D')),
+        ),
+        order_previews.start_drive,
+        _drive,
+    ),
     'advance': Kind(
-        'Release more',
-        (VEHICLE, Field('edges', 'Edges more', 'number', given=lambda: '1')),
+        'Let it drive further',
+        (VEHICLE, Field('edges', RELEASE, 'release', given=lambda: order_previews.FREE)),
         order_previews.advance,
         _advance,
         OPEN_ORDER,
@@ -179,10 +222,12 @@ COMMANDS: dict[str, Kind] = {
     'cancel': Kind('Cancel the order', (VEHICLE,), previews.cancel, _cancel),
     'pause': Kind('Pause', (VEHICLE,), previews.pause, _pause),
     'resume': Kind('Go on', (VEHICLE,), previews.resume, _resume),
+    'pause_all': Kind('Pause all', (), previews.pause_all, _all(Desk.pause), (VEHICLES,)),
+    'resume_all': Kind('Let all go on', (), previews.resume_all, _all(Desk.resume), (VEHICLES,)),
     'place': Kind(
         'Place', (VEHICLE, Field('node', 'Node', 'node')), previews.place, _place, (REFERENCE,)
     ),
-    'resync': Kind('Accept its states again', (VEHICLE,), previews.resync, _resync),
+    'resync': Kind('Accept its states after a restart', (VEHICLE,), previews.resync, _resync),
     'register': Kind(
         'Register a load',
         (Field('load', 'Name of the load', 'name'), STATION),
@@ -214,12 +259,32 @@ COMMANDS: dict[str, Kind] = {
 }
 
 
+def event_of(given: Command, kind: str, cause: Cause, told: Mapping[str, Any]) -> Event:
+    """The entry of a command: it names all things that the command does."""
+    values = given.values
+    names = {'order': 'order_name', 'to': 'station'}
+    about = {names.get(name, name): value for name, value in values.items()}
+    after = None
+    if given.name in ('register', 'correct'):
+        after = f'station {values["station"]}' if values.get('station') else 'checking'
+    refusal = told.get('refusal')
+    more: dict[str, Any] = {'answer': f'{refusal}: {told["text"]}' if refusal else told['text']}
+    more |= {name: values[name] for name in MORE if values.get(name)}
+    if re.fullmatch('[0-9]{1,3}', more.get('edges', '')):
+        more['edges'] = int(more['edges'])
+    more |= {'refusal': refusal} if refusal else {}
+    known = {name: about.get(name) or None for name in ABOUT}
+    if not has(f'event.command.{given.name}'):
+        return Event(kind, 'command.', cause, known, None, after, {**more, 'command': given.name})
+    return Event(kind, f'command.{given.name}', cause, known, None, after, more)
+
+
 class Commands:
     """Looks at commands and carries them out, each over a connection of its own. Threads may call
     it at a time."""
 
-    def __init__(self, desk: Desk, floor: Floor, shown: Shown, given: Given, asker: Hurried):
-        self.desk, self.floor, self.shown = desk, floor, shown
+    def __init__(self, desk: Desk, floor: Floor, news: News, given: Given, asker: Hurried):
+        self.desk, self.floor, self.shown, self.calls = desk, floor, news.shown, news.calls
         self.given, self.asker = given, asker
 
     def listed(self) -> list[dict[str, Any]]:
@@ -248,14 +313,16 @@ class Commands:
         self._check_adds(name, values)
         look = COMMANDS[name].look(Scene(self.floor.layout, self.shown), values)
         desk = self.shown.get('desk', '')
-        down = [
-            'The desk does not answer: nothing can be done now, and what the board knows is old.'
-        ]
+        down = [Line('look.down', {})]
         warns = look.warns if desk is None or desk['up'] else down + look.warns
         return {
             'title': COMMANDS[name].title,
-            'says': look.says,
-            'warns': warns,
+            'says': [line.words() for line in look.says],
+            'warns': [line.words() for line in warns],
+            'lines': {
+                'says': [[line.name, line.values] for line in look.says],
+                'warns': [[line.name, line.values] for line in warns],
+            },
             'values': look.values,
         }
 
@@ -264,6 +331,8 @@ class Commands:
         and what to do. `NotSent` where it can't be recorded, or another desk answers."""
         name, values = self._read(said)
         self._check_adds(name, values, is_needed=True)
+        if values.get('edges') in order_previews.WAYS:
+            raise NoCommand('How many edges are released is said by the look at it: look first.')
         desk = self.shown.get('desk', '')
         if desk is not None and desk.get('other'):
             raise NotSent('Nothing was sent: it is not the desk of board.db that answers.')
@@ -274,10 +343,13 @@ class Commands:
                 f'Nothing was sent: board.db can not be written ({fault}), '
                 'and each command stands there first.'
             )
+        self.calls.sent(number, who, name, values, now())
         told = self._sent(name, values)
         kind = 'command' if told['done'] else 'refused' if 'refusal' in told else 'failed'
+        is_known = told['done'] or not told.get('may_be_done')
+        self.calls.ended(number, told['done'] if is_known else None, now())
         try:
-            self._end(Command(number, who, name), told['done'], kind, told['text'])
+            self._end(Command(number, who, name, values), told, kind)
         except NoRecord as fault:
             told['text'] += f' The answer could not be written to board.db: {fault}.'
         if told['done']:
@@ -293,7 +365,7 @@ class Commands:
                 'advice': '',
             }
         except Refused as refusal:
-            words = advice(refusal.advice) or LOOK_AGAIN
+            words = refusal.on_page or LOOK_AGAIN
             return {
                 'done': False,
                 'text': printable(f'{refusal}.', TEXT),
@@ -302,8 +374,11 @@ class Commands:
             }
         except NoAnswer as fault:
             words = MAY_BE_DONE if fault.may_be_done else NOT_DONE
+            if fault.may_be_done and values.get('order'):
+                words += f' The name of the order is {values["order"]}.'
             text = ended(printable(f'The desk does not answer: {fault}', TEXT))
-            return {'done': False, 'text': text, 'advice': words}
+            is_open = {'may_be_done': True} if fault.may_be_done else {}
+            return {'done': False, 'text': text, 'advice': words, **is_open}
         except BadValue as fault:
             return {
                 'done': False,
@@ -311,19 +386,36 @@ class Commands:
                 'advice': 'Nothing was sent.',
             }
 
-    def _end(self, given: Command, done: bool | None, kind: str, answer: str) -> None:
+    def _end(self, given: Command, told: Mapping[str, Any], kind: str) -> None:
         """Tells the pages and the record what came of a command."""
-        title = COMMANDS[given.name].title if given.name in COMMANDS else given.name
-        outcome = Outcome(
-            done, answer, now(), kind, f'{title}{f" by {given.who}" if given.who else ""}: {answer}'
-        )
-        self.shown.event({'at': outcome.at, 'kind': kind, 'text': outcome.words})
-        self.given.answered(given.number, outcome)
+        cause = Cause('person', given.who or None, given.name, given.number)
+        event = event_of(given, kind, cause, told)
+        self.given.answered(given.number, Outcome(told['done'], told['text'], now(), event))
+
+    def take(self, said: Mapping[str, Any], user: str) -> dict[str, Any]:
+        """Notes that somebody has taken an alarm on, or has it no more. `NotSent` where that can't
+        be recorded."""
+        number, who = said.get('alarm'), user or printable(str(said.get('name') or ''), NAME)
+        if type(number) is not int or not 0 < number < 2**63:
+            raise NoCommand('There is no such alarm.')
+        if not who.strip():
+            raise NoCommand('Say your name first.')
+        is_taken = said.get('take') is not False
+        try:
+            event = self.given.take(number, who if is_taken else None, now())
+            if event is None:
+                raise NoCommand('This alarm is over.')
+            if not is_taken:
+                event = replace(event, cause=Cause('person', who))
+            self.given.tell(event, now())
+        except NoRecord as fault:
+            raise NotSent(f'board.db can not be written: {fault}') from fault
+        return {'done': True}
 
     def tell_left(self) -> None:
         """Tells of the commands of an earlier run whose outcome is not known."""
         for left in self.given.left():
-            self._end(left, None, 'failed', NOT_KNOWN)
+            self._end(left, {'done': None, 'text': NOT_KNOWN}, 'failed')
 
     def _read(self, said: Mapping[str, Any]) -> tuple[str, dict[str, str]]:
         """The command and its values, each a text of its kind."""
@@ -358,7 +450,9 @@ class Commands:
             self._check_name(field, text)
         except (BadName, order_previews.BadStops) as fault:
             raise NoCommand(ended(str(fault))) from fault
-        most = {'number': 999, 'update': UPDATES}.get(field.kind)
+        if field.kind == 'release' and text in order_previews.WAYS:
+            return
+        most = {'number': 999, 'release': 999, 'update': UPDATES}.get(field.kind)
         if most is not None and not (re.fullmatch('[0-9]{1,10}', text) and int(text) <= most):
             raise NoCommand(f'{field.label}: {text[:40]!a} is no number from 0 to {most}.')
         if field.kind == 'station' and text not in self.floor.layout.stations:
@@ -377,8 +471,9 @@ class Commands:
 
     @staticmethod
     def _check_name(field: Field, text: str) -> None:
-        if field.kind == 'vehicle':
-            VehicleKey.parse(text)
+        if field.kind in ('vehicle', 'vehicles'):
+            for name in text.split() if field.kind == 'vehicles' else [text]:
+                VehicleKey.parse(name)
         elif field.kind in ('name', 'load', 'job'):
             checked(text, field.name)
         elif field.kind == 'stops':

@@ -3,16 +3,22 @@ come, and who waits for whom, by the export of vehicles, the hold report and ord
 from __future__ import annotations
 
 from collections.abc import Mapping
-from dataclasses import dataclass, field
+from dataclasses import dataclass, field, replace
 from typing import Any
 
 from ..desk.client import NotADesk, VehicleRow
 from ..common.names import VehicleKey, natural
 from ..desk.reports import Holds, Stock
 from . import sentences
-from .news import News
+from .events import BOARD, UNSEEN, VEHICLE, Cause
+from .news import News, OrderEnd
 from .progress import Thing, Way
+from .record import moment_of
 from .waits import Wait, circles_of, wait_of
+
+
+# The call by which a vehicle is told to do an instant action.
+CALLS = {'startPause': 'pause', 'stopPause': 'resume', 'cancelOrder': 'cancel'}
 
 
 @dataclass
@@ -20,13 +26,15 @@ class Seen:
     """What is known of a vehicle: what the desk tells of it, and the way of its open order, None
     until the order's message has told it. `is_asked` says that it was asked for since the vehicle
     was told of last. `heard` is when the board last saw that a state had come, and `silent` since
-    when none has come, where that is long. `kept` is the row that the record has."""
+    when none has come, where that is long; `unready` is since when it is not ready. `kept` is the
+    row that the record has."""
 
     row: VehicleRow
     way: Way | None = None
     is_asked: bool = False
     heard: int | None = None
     silent: int | None = None
+    unready: int | None = None
     kept: dict[str, Any] = field(default_factory=dict)
 
 
@@ -50,6 +58,9 @@ class Fleet:
         # the orders that were open when the board was stopped
         self.earlier = {str(vehicle): str(order) for vehicle, order in rows}
         news.record.end_waits(news.at)
+        self.placed: set[int | None] = set()  # the commands that have ended an order
+        # whether vehicles were looked at, in this run or an earlier one
+        self.has_looked = bool(news.record.rows('SELECT 1 FROM vehicles LIMIT 1'))
 
     def again(self) -> None:
         """The desk answers again: every vehicle has time to post a state."""
@@ -76,22 +87,133 @@ class Fleet:
 
     def take_vehicles(self, rows: Mapping[VehicleKey, VehicleRow]) -> None:
         """The export of vehicles."""
+        is_unseen = self.news.look('vehicles')
         for key, row in rows.items():
-            self._take_row(str(key), row)
+            self._take_row(str(key), row, is_unseen)
+        self.news.cancelling = {
+            row.order for row in rows.values() if row.order and row.pending == 'cancelOrder'
+        }
+        self.has_looked = True
         self._wait()
 
-    def _take_row(self, name: str, row: VehicleRow) -> None:
+    def _take_row(self, name: str, row: VehicleRow, is_unseen: bool) -> None:
         seen = self.seen.get(name)
         if seen is None:
             seen = self.seen[name] = Seen(row, heard=None if row.header is None else self.news.at)
+            self._is_new(name, row, is_unseen)
         before, seen.row, seen.is_asked = seen.row, row, False
         self._hear(name, seen, row.header not in (None, before.header))
         if self.earlier.get(name) not in (None, row.order):
-            self._is_over(name, self.earlier.pop(name))
+            self._is_over(name, self.earlier.pop(name), OrderEnd('unseen', UNSEEN))
+        elif before.order not in (None, row.order):
+            end = self._end_of(name, before, row, is_unseen)
+            acts = seen.way.acts if seen.way is not None else ()
+            end = replace(end, acts=tuple((act.number, act.kind, act.load) for act in acts))
+            self.news.ends_order(str(before.order), end)
+            if seen.way is not None:
+                self._is_over(name, str(before.order), end)
         if seen.way is not None and seen.way.order != row.order:
-            self._is_over(name, seen.way.order)
             seen.way = None
+        self._tell_changes(name, before, row, is_unseen)
         self._show(name, seen)
+
+    def _is_new(self, name: str, row: VehicleRow, is_unseen: bool) -> None:
+        """A vehicle that was not there is registered, unless the board looks for the first time."""
+        is_known = self.news.record.rows('SELECT 1 FROM vehicles WHERE vehicle = ?', (name,))
+        if not is_known and self.has_looked:
+            cause = UNSEEN if is_unseen else Cause('client', call='vehicle')
+            self.news.event('vehicle.registered', cause, {'vehicle': name, 'node': row.node})
+
+    def _end_of(self, name: str, before: VehicleRow, row: VehicleRow, is_unseen: bool) -> OrderEnd:
+        """How an order has ended that was open at the last look. It ends by itself at its last
+        node; else it is cancelled, which leaves the vehicle astray or is pending before; or the
+        vehicle is placed, which needs no state of it."""
+        place = self._command('place', name)
+        if place is not None and place.command in self.placed:
+            place = None  # it has ended another order
+        if is_unseen:
+            return OrderEnd('unseen', UNSEEN)
+        if place is not None:
+            self.placed.add(place.command)
+            return OrderEnd('placed', place)
+        if before.pending == 'cancelOrder' or row.astray:
+            return OrderEnd('cancelled', self._cause('cancel', name))
+        if row.header == before.header:
+            return OrderEnd('placed', Cause('client', call='place'))
+        way = self.seen[name].way
+        if way is not None and row.node != way.nodes[-1]:
+            cancel = self._command('cancel', name)
+            if cancel is not None:
+                return OrderEnd('cancelled', cancel)
+            return OrderEnd('broken', Cause('client', call='cancel or place'))
+        return OrderEnd('ended', VEHICLE)
+
+    def _command(self, call: str, vehicle: str) -> Cause | None:
+        """A command of this board that may have caused what is seen of a vehicle: one to it, or to
+        all."""
+
+        def is_of(values: Mapping[str, str]) -> bool:
+            is_named = vehicle in values.get('vehicles', '').split()
+            return values.get('vehicle') == vehicle or is_named
+
+        return self.news.calls.find((call, f'{call}_all'), is_of, self.news.at)
+
+    def _cause(self, call: str, vehicle: str) -> Cause:
+        return self._command(call, vehicle) or Cause('client', call=call)
+
+    def _tell_changes(
+        self, name: str, before: VehicleRow, row: VehicleRow, is_unseen: bool
+    ) -> None:
+        """What is worth an entry of what changed of a vehicle."""
+
+        def tell(what: str, cause: Cause, **others: Any) -> None:
+            why = UNSEEN if is_unseen else cause
+            about = {'vehicle': name, 'node': row.node, 'order_name': before.order}
+            self.news.event(f'vehicle.{what}', why, about, **others)
+
+        if before.ready != row.ready:
+            reasons = [] if row.ready else self.news.reasons.get(name, [])
+            more = {'why': f': {", ".join(reasons)}'} if reasons else {}
+            tell('ready' if row.ready else 'unready', VEHICLE, more=more)
+        if before.paused != row.paused:
+            tell('paused' if row.paused else 'resumed', VEHICLE)
+        if before.header is not None and row.header is None:
+            tell('resynced', self._cause('resync', name))
+        if row.astray and not before.astray:
+            tell('astray', VEHICLE)
+        is_placed = self._is_placed(name, before, row, is_unseen)
+        if is_placed:
+            cause = self._cause('place', name)
+            tell('placed', cause, before=before.node, after=row.node)
+        elif before.order is None and row.order is None and before.node != row.node:
+            cause = Cause('client', call='place or order')
+            tell('moved', cause, before=before.node, after=row.node)
+        if before.pending != row.pending:
+            if before.pending:
+                what = 'freed' if is_placed else self._obeys(before.pending, row)
+                tell(what, VEHICLE, more={'action': before.pending})
+            if row.pending:
+                cause = self._cause(CALLS.get(row.pending, row.pending), name)
+                tell('told', cause, more={'action': row.pending})
+
+    def _is_placed(self, name: str, before: VehicleRow, row: VehicleRow, is_unseen: bool) -> bool:
+        """Whether a vehicle was placed: only that takes an astray one back, moves one without an
+        order and a state, or ends an order without a state."""
+        if before.astray and not row.astray:
+            return True
+        if is_unseen:
+            return False
+        if before.order is None and row.order is None and before.node != row.node:
+            return row.header == before.header or self._command('place', name) is not None
+        end = self.news.ends.get(before.order or '')
+        return before.order not in (None, row.order) and end is not None and end.how == 'placed'
+
+    @staticmethod
+    def _obeys(action: str, row: VehicleRow) -> str:
+        """Whether a vehicle that reports the end of an instant action is as it was told to be."""
+        is_so = {'startPause': row.paused, 'stopPause': not row.paused}
+        is_so['cancelOrder'] = row.order is None
+        return 'obeyed' if is_so.get(action, True) else 'disobeyed'
 
     def _hear(self, name: str, seen: Seen, is_new: bool) -> None:
         """A state of a vehicle is new, or none has come for a while."""
@@ -100,12 +222,12 @@ class Fleet:
             seen.heard = at
             self.news.record.heard(name, at)
             if seen.silent is not None:
-                self.news.event('vehicle', f'A state of {name} has come again', vehicle=name)
+                self.news.event('vehicle.heard', VEHICLE, {'vehicle': name})
                 seen.silent = None
         elif seen.heard is not None and seen.silent is None:
             if at - seen.heard >= self.silent_after:
                 seen.silent = seen.heard
-                self.news.event('vehicle', f'No state of {name} comes any more', vehicle=name)
+                self.news.event('vehicle.silent', BOARD, {'vehicle': name})
 
     def next_order(self) -> VehicleKey | None:
         """A vehicle whose order message is to be asked for, or None."""
@@ -126,25 +248,46 @@ class Fleet:
             raise NotADesk(f'its answers contradict each other about order {way.order}')
         seen.way = way
         if self.earlier.pop(name, None) != way.order:
-            self.news.event('order', sentences.order(name, way), vehicle=name)
+            self._tell_start(name, way)
         self._show(name, seen)
         self._wait()
 
-    def _is_over(self, name: str, order: str) -> None:
-        self.news.event('order', f'Order {order} of {name} is over', vehicle=name)
+    def _tell_start(self, name: str, way: Way) -> None:
+        """Tells of an order that has begun."""
+
+        def is_of(values: Mapping[str, str]) -> bool:
+            return values.get('vehicle') == name and values.get('order') == way.order
+
+        more = {'edges': way.end, 'stops': sentences.stops(way)}
+        about: dict[str, str | None] = {'vehicle': name, 'order_name': way.order}
+        about['node'] = way.nodes[0]
+        call = 'order' if way.acts else 'drive'
+        self.news.event('order.started', self.news.cause(call, of=is_of), about, more=more)
+
+    def _is_over(self, name: str, order: str, end: OrderEnd) -> None:
+        about = {'vehicle': name, 'order_name': order}
+        self.news.event(f'order.{end.how}', end.cause, about)
 
     def _show(self, name: str, seen: Seen) -> None:
         row = seen.row
         values = sentences.vehicle(row)
         if values != seen.kept:
-            for text in sentences.vehicle_change(name, seen.kept, values):
-                self.news.event('vehicle', text, vehicle=name)
             seen.kept = values
             self.news.record.vehicle(self.news.at, name, values, seen.heard)
+        if row.ready or seen.unready is None:
+            seen.unready = None if row.ready else self._unready_since(name)
         rest = None if row.rest is None else {'edge': row.rest[0], 'node': row.rest[1]}
         told = {**values, 'loads': self.loads.get(name, ()), 'rest': rest, 'silent': seen.silent}
-        self.news.shown.put('vehicle', name, {**told, 'heard': row.header is not None})
+        told |= {'heard': row.header is not None, 'unready': seen.unready}
+        self.news.shown.put('vehicle', name, told)
         self.news.shown.put('way', name, None if seen.way is None else sentences.way(seen.way))
+
+    def _unready_since(self, name: str) -> int:
+        """Since when a vehicle is not ready, as far as the record reaches."""
+        ready = 'SELECT coalesce(max(n), 0) FROM vehicle_states WHERE vehicle = ? AND ready = 1'
+        question = f'SELECT min(at) FROM vehicle_states WHERE vehicle = ? AND n > ({ready})'
+        ((at,),) = self.news.record.rows(question, (name, name))
+        return self.news.at if at is None else moment_of(at)
 
     def _wait(self) -> None:
         waits: dict[str, Wait] = {}
@@ -159,7 +302,8 @@ class Fleet:
         circles = circles_of({name: wait for name, wait in waits.items() if wait.stands})
         for circle in circles:
             if circle not in self.circles:
-                self.news.event('wait', sentences.circle(circle), vehicle=circle[0])
+                more = {'vehicles': circle}
+                self.news.event('wait.circle', BOARD, {'vehicle': circle[0]}, more=more)
         self.circles = circles
         self.news.shown.put('circles', '', circles or None)
 

@@ -3,7 +3,7 @@ longer there."""
 from __future__ import annotations
 
 from collections.abc import Callable, Iterable, Mapping
-from dataclasses import dataclass, replace
+from dataclasses import dataclass, field, replace
 
 from ..desk.client import Job
 
@@ -13,7 +13,9 @@ LIVE = ('waiting', 'riding')
 @dataclass(frozen=True)
 class LiveJob:
     """A job: `phase` is `waiting`, `riding`, `done` or `stopped`. The moments are those at which
-    the board saw it come (None where it was there at the first look), begin to ride, and end."""
+    the board saw it come (None where it was there at the first look), begin to ride, end, and its
+    load picked and dropped. `is_unseen` says that it came to be so while the board did not look for
+    long."""
 
     name: str
     load: str
@@ -25,6 +27,9 @@ class LiveJob:
     added: int | None = None
     began: int | None = None
     ended: int | None = None
+    picked: int | None = None
+    dropped: int | None = None
+    is_unseen: bool = field(default=False, compare=False)
 
 
 class Jobs:
@@ -39,10 +44,11 @@ class Jobs:
         """The live jobs of an earlier run."""
         self.live = {job.name: job for job in jobs}
 
-    def take(self, jobs: Mapping[str, Job], at: int, is_first: bool) -> None:
-        """The export of jobs, at a moment; at the first look it isn't known since when they are."""
+    def take(self, jobs: Mapping[str, Job], at: int, is_first: bool, is_unseen: bool) -> None:
+        """The export of jobs, at a moment; at the first look it isn't known since when they are.
+        `is_unseen` says that the look before was long ago."""
         for name in self.live.keys() - jobs.keys():
-            self.ended.append(replace(self.live.pop(name), ended=at))
+            self.ended.append(replace(self.live.pop(name), ended=at, is_unseen=is_unseen))
         for name, job in jobs.items():
             before = self.live.get(name)
             added = None if is_first else at
@@ -50,6 +56,8 @@ class Jobs:
                 name, job.load, job.origin, job.target, job.phase, job.order,
                 vehicle=None if job.vehicle is None else str(job.vehicle),
                 added=before.added if before else added,
+                picked=before.picked if before else None,
+                is_unseen=is_unseen,
             )  # fmt: skip
             if now.order is not None:
                 is_same = before is not None and before.order == now.order
@@ -58,9 +66,29 @@ class Jobs:
                 self.live[name] = now
                 self.told(now)
 
-    def take_places(self, places: Mapping[str, str]) -> None:
-        """A later stock report: the load of a job that was done stands where the job led."""
+    def of(self, load: str) -> LiveJob | None:
+        """The job of a load that lives, or of which it is not known yet how it has ended."""
+        found = [job for job in (*self.ended, *self.live.values()) if job.load == load]
+        return found[0] if found else None
+
+    def has_moved(self, name: str, at: int, *, is_pick: bool) -> None:
+        """The load of a job was picked or dropped, at this moment, or before the job was over."""
+        what = 'picked' if is_pick else 'dropped'
+        self.ended = [
+            replace(job, **{what: job.ended}) if job.name == name else job for job in self.ended
+        ]
+        if name in self.live:
+            self.live[name] = replace(self.live[name], **{what: at})
+            self.told(self.live[name])
+
+    def take_places(self, places: Mapping[str, str], looked: int) -> None:
+        """A later stock report: the load of a job that was done stands where the job led. How one
+        that rode was stopped is known by a look at its vehicle, of which the last was at `looked`.
+        """
         ended, self.ended = self.ended, []
         for job in ended:
             is_done = places.get(job.load) == f'station {job.target}'
-            self.told(replace(job, phase='done' if is_done else 'stopped'))
+            if not is_done and job.order is not None and looked <= (job.ended or 0):
+                self.ended.append(job)
+            else:
+                self.told(replace(job, phase='done' if is_done else 'stopped'))

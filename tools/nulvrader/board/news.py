@@ -2,21 +2,98 @@
 take."""
 from __future__ import annotations
 
-from .record import Record
+from collections import OrderedDict
+from collections.abc import Mapping
+from dataclasses import dataclass
+from typing import Any
+
+from .causes import Calls, Matches
+from .events import Cause, Event, told
 from .page_state import EVENTS, Shown
+from .record import Record
+
+GAP = 60_000  # milliseconds between two looks, beyond which it isn't known how things have changed
+ENDS = 2_000  # ends of orders that are kept
+
+
+@dataclass(frozen=True)
+class OrderEnd:
+    """How an order has ended: `ended`, `cancelled`, `placed`, `broken` (one of the last two) or
+    `unseen`, and by whom. `acts` are the number, the kind and the load of each of its acts, where
+    they are known."""
+
+    how: str
+    cause: Cause
+    acts: tuple[tuple[int, str, str], ...] = ()
 
 
 class News:
     """The page's values and the record. `at` is the moment of the last answer of the desk, in
-    milliseconds since 1970."""
+    milliseconds since 1970. `calls` are the commands of this board, and `ends` the orders that have
+    ended, by their names. Pages are told of an entry once it is committed."""
 
     def __init__(self, shown: Shown, record: Record):
         self.shown, self.record = shown, record
         self.at = 0
+        self.calls = Calls()
+        self.ends: OrderedDict[str, OrderEnd] = OrderedDict()
+        self.failures: OrderedDict[str, str] = OrderedDict()  # by failed action what is said of it
+        self.cancelling: set[str] = set()  # the open orders that are being cancelled
+        self.reasons: dict[str, list[str]] = {}  # by vehicle why it is not ready, in its words
+        self._looked: dict[str, int] = {}
+        self._waiting: list[dict[str, Any]] = []
         for event in record.last_events(EVENTS):
             shown.event(event)
 
-    def event(self, kind: str, text: str, **about: str) -> None:
-        """A line of what happened; `about` names a `vehicle` or a `load` that it is about."""
-        self.record.event(self.at, kind, text, about)
-        self.shown.event({'at': self.at, 'kind': kind, 'text': text, **about})
+    def event(
+        self,
+        what: str,
+        cause: Cause,
+        about: Mapping[str, str | None],
+        *,
+        before: str | None = None,
+        after: str | None = None,
+        more: Mapping[str, Any] | None = None,
+    ) -> None:
+        """Something happened: `what`, as `load.picked`, whose first part is its family; `about`
+        names the things."""
+        event = Event(what.partition('.')[0], what, cause, about, before, after, more or {})
+        self._waiting.append(told(self.record.event(self.at, event), self.at, event))
+
+    def commit(self) -> None:
+        """What was put so far is in the file, and pages are told of it."""
+        self.record.commit()
+        waiting, self._waiting = self._waiting, []
+        for event in waiting:
+            self.shown.event(event)
+
+    def roll_back(self) -> None:
+        """What was put since the last `commit` is not in the file."""
+        self._waiting.clear()
+        self.record.roll_back()
+
+    def cause(self, *names: str, of: Matches) -> Cause:
+        """By which of these calls it came to be as it is seen now."""
+        return self.calls.cause(names, of, self.at)
+
+    def look(self, kind: str) -> bool:
+        """Notes a look at a kind of things. Whether none was for long before, so that it isn't
+        known how they have changed."""
+        before, self._looked[kind] = self._looked.get(kind), self.at
+        return before is None or self.at - before > GAP
+
+    def looked(self, kind: str) -> int:
+        """The moment of the last look at a kind of things, 0 where there was none."""
+        return self._looked.get(kind, 0)
+
+    def ends_order(self, order: str, end: OrderEnd) -> None:
+        """Notes how an order has ended."""
+        self.ends[order] = end
+        while len(self.ends) > ENDS:
+            self.ends.popitem(last=False)
+
+    def fails_action(self, action: str, result: str) -> None:
+        """Notes that an action has failed, by its id, and what the vehicle says of it."""
+        self.failures[action] = result
+        while len(self.failures) > ENDS:
+            self.failures.popitem(last=False)

@@ -1,5 +1,5 @@
-"""What an order, or the release of more of it, will do: its way, what is released of it, and who is
-on it."""
+"""What an order, a drive, or the release of more of it, will do: its way, what is released of it,
+and who is on it."""
 from __future__ import annotations
 
 import time
@@ -9,12 +9,15 @@ from dataclasses import dataclass
 from ..common.layouts import Layout
 from .previews import Look, vehicle_here
 from .scene import Scene
-from .sentences import count
 
 Walk = list[tuple[str, str]]  # edges, each with the node that it leads to
 
 
+FREE, ALL = 'free', 'all'  # in place of a number of edges: as far as the way is free, and all of it
+WAYS = (FREE, ALL)
 STOPS = 50  # that are looked at; a vehicle carries four loads
+LONGEST = 200  # edges of an order
+HELD = 10  # things of a way that are told as held by others
 
 
 class BadStops(ValueError):
@@ -51,70 +54,112 @@ def stops_of(text: str) -> list[Planned]:
 def start_order(scene: Scene, said: Mapping[str, str]) -> Look:
     look, name = Look(dict(said)), said['vehicle']
     vehicle = vehicle_here(scene, look, name)
-    stops, edges = stops_of(said['stops']), int(said['edges'])
-    look.says.append(f'{name} gets the order {said["order"]}:')
+    stops = stops_of(said['stops'])
+    look.say('order', vehicle=name, order=said['order'])
     walk: Walk | None = []
     at = vehicle['node'] if vehicle else ''
     start = at
     for stop in stops:
         job = scene.job(stop.job)
         station = (job['origin'] if stop.action == 'pick' else job['target']) if job else None
-        load = job['load'] if job else f'the load of job {stop.job}'
-        look.says.append(
-            f'{stop.action.capitalize()} {load} at'
-            f' {station or "a station that the board does not know yet"}.'
-        )
-        look.warn(job is None, f'No live job {stop.job} is known.')
-        look.warn(job is not None and job['phase'] == 'riding', f'Job {stop.job} rides already.')
+        if job is not None and station:
+            look.say(f'order.{stop.action}', load=job['load'], station=station)
+        else:
+            look.say(f'order.{stop.action}.unknown', job=stop.job)
+        look.warn(job is None, 'no.job', job=stop.job)
+        look.warn(job is not None and job['phase'] == 'riding', 'rides', job=stop.job)
         node = scene.layout.stations[station].node if station in scene.layout.stations else None
         part = walk_of(scene.layout, at, node) if node and walk is not None else None
-        look.warn(
-            node is not None and walk is not None and part is None,
-            f'No way leads from {at} to {node}.',
-        )
+        is_cut = node is not None and walk is not None and part is None
+        look.warn(is_cut, 'no.way', start=at, end=node)
         walk = walk + part if walk is not None and part is not None else None
         at = node or at
+    edges = released(scene, look, name, walk or [], start)
     if walk is not None:
-        look.says.append(_way_words(walk, edges))
-        look.warn(edges > len(walk), f'The order has {len(walk)} edges in all.')
-        look.warn(len(walk) > 200, f'The way has {len(walk)} edges, and 200 at most are allowed.')
+        _say_way(look, walk, edges)
+        look.warn(edges > len(walk), 'order.edges', count=len(walk))
+        look.warn(len(walk) > LONGEST, 'order.long', count=len(walk))
         _check_free(scene, look, name, walk[:edges], start)
     if vehicle:
-        look.warn(not vehicle['ready'], f'{name} is not ready.')
-        look.warn(
-            vehicle['order_name'] is not None, f'{name} has the order {vehicle["order_name"]}.'
-        )
-        look.warn(
-            bool(vehicle['astray']),
-            f'{name} left its last order on the way, and has to be placed first.',
-        )
+        order, capacity = vehicle['order_name'], vehicle['capacity']
+        look.warn(not vehicle['ready'], 'unready', vehicle=name)
+        look.warn(order is not None, 'has.order', vehicle=name, order=order)
+        look.warn(bool(vehicle['astray']), 'astray', vehicle=name)
         carried = len({stop.job for stop in stops}) + len(vehicle['loads'])
-        look.warn(carried > vehicle['capacity'], f'{name} carries {vehicle["capacity"]} at most.')
+        look.warn(carried > capacity, 'carries', vehicle=name, count=capacity)
+    return look
+
+
+def start_drive(scene: Scene, said: Mapping[str, str]) -> Look:
+    look, name, end = Look(dict(said)), said['vehicle'], said['node']
+    vehicle = vehicle_here(scene, look, name)
+    look.say('drive', vehicle=name, order=said['order'], node=end)
+    start: str = vehicle['node'] if vehicle else ''
+    walk = walk_of(scene.layout, start, end) if vehicle else None
+    edges = released(scene, look, name, walk or [], start)
+    if walk:
+        _say_whole_way(scene, look, name, walk, start)
+        _say_way(look, walk, edges)
+        look.warn(edges > len(walk), 'order.edges', count=len(walk))
+        look.warn(len(walk) > LONGEST, 'order.long', count=len(walk))
+        _check_free(scene, look, name, walk[:edges], start)
+    if vehicle:
+        order, loads = vehicle['order_name'], vehicle['loads']
+        if loads:
+            look.say('drive.loads', loads=list(loads))
+        look.warn(start == end, 'drive.there', vehicle=name, node=end)
+        look.warn(walk is None, 'no.way', start=start, end=end)
+        look.warn(not vehicle['ready'], 'unready', vehicle=name)
+        look.warn(order is not None, 'has.order', vehicle=name, order=order)
+        look.warn(bool(vehicle['astray']), 'astray', vehicle=name)
+        look.warn(vehicle['pending'] == 'cancelOrder', 'cancelling')
     return look
 
 
 def advance(scene: Scene, said: Mapping[str, str]) -> Look:
-    look, name, edges = Look(dict(said)), said['vehicle'], int(said['edges'])
+    look, name = Look(dict(said)), said['vehicle']
     vehicle, way = scene.vehicle(name), scene.way(name)
     if vehicle is None or way is None or vehicle['order_name'] is None:
-        look.says.append(f'{name} has no open order of which more can be released.')
-        look.warn(True, 'It has no open order.')
+        look.say('no.more', vehicle=name)
+        look.warn(True, 'no.order')
+        look.values['edges'] = said['edges'] if said['edges'] not in WAYS else '0'
         return look
     look.values |= {'order': vehicle['order_name'], 'update': str(vehicle['sent'] + 1)}
     base, first = vehicle['base'], way['first']
     walk = list(zip(way['edges'][base - first :], way['nodes'][base - first + 1 :]))
-    look.says.append(
-        f'Order {vehicle["order_name"]} of {name} goes on by update {vehicle["sent"] + 1}.'
-    )
-    look.says.append(_way_words(walk, edges))
-    look.warn(edges > len(walk), f'Only {len(walk)} edges are left.')
-    look.warn(
-        vehicle['confirmed'] != vehicle['sent'], 'The vehicle has not confirmed the last update.'
-    )
-    look.warn(not vehicle['ready'], f'{name} is not ready.')
-    look.warn(vehicle['pending'] == 'cancelOrder', 'It is told to cancel its order.')
+    edges = released(scene, look, name, walk, None)
+    look.warn(edges == 0, 'none.free')
+    update = vehicle['sent'] + 1
+    look.say('advance', vehicle=name, order=vehicle['order_name'], update=update)
+    _say_way(look, walk, edges)
+    look.warn(edges > len(walk), 'edges.left', count=len(walk))
+    look.warn(vehicle['confirmed'] != vehicle['sent'], 'unconfirmed')
+    look.warn(not vehicle['ready'], 'unready', vehicle=name)
+    look.warn(vehicle['pending'] == 'cancelOrder', 'cancelling')
     _check_free(scene, look, name, walk[:edges], None)
     return look
+
+
+def released(scene: Scene, look: Look, name: str, walk: Walk, start: str | None) -> int:
+    """How many edges of a way are released: as many as are said, all, or those before the first one
+    that another vehicle holds, or whose end it holds. The look has the number from then on."""
+    said = look.values['edges']
+    if said == ALL:
+        number = len(walk)
+    elif said == FREE:
+        held = [scene.holder('node', start) not in (None, name)] if start else [False]
+        held += [
+            any(
+                scene.holder(*thing) not in (None, name)
+                for thing in (('edge', edge), ('node', node))
+            )
+            for edge, node in walk
+        ]
+        number = 0 if held[0] else (held.index(True) if True in held else len(held)) - 1
+    else:
+        number = int(said)
+    look.values['edges'] = str(number)
+    return number
 
 
 def walk_of(layout: Layout, start: str, end: str) -> Walk | None:
@@ -123,13 +168,30 @@ def walk_of(layout: Layout, start: str, end: str) -> Walk | None:
     return None if route is None else [(edge, layout.edges[edge].finish) for edge in route]
 
 
-def _way_words(walk: Sequence[tuple[str, str]], edges: int) -> str:
-    released = walk[:edges]
-    if not released:
-        return f'Released now: no edge of {len(walk)}.'
-    through = ' '.join(node for _, node in released)
-    words = 'Released now: %s, over %s. Left then: %d.'
-    return words % (count(len(released), 'edge'), through, len(walk) - len(released))
+def _say_way(look: Look, walk: Sequence[tuple[str, str]], edges: int) -> None:
+    """Says what is released of a way."""
+    part = walk[:edges]
+    if part:
+        nodes, left = ' '.join(node for _, node in part), len(walk) - len(part)
+        look.say('released', edges=len(part), nodes=nodes, left=left)
+    else:
+        look.say('released.none', count=len(walk))
+
+
+def _say_whole_way(scene: Scene, look: Look, name: str, walk: Walk, start: str) -> None:
+    """Says over which nodes a way leads, and what of it other vehicles hold."""
+    if len(walk) <= LONGEST:
+        nodes = ' '.join([start, *(node for _, node in walk)])
+        look.say('drive.way', edges=len(walk), nodes=nodes)
+    things = [('node', start)]
+    for edge, node in walk:
+        things += [('edge', edge), ('node', node)]
+    held = [(scene.holder(*thing), *thing) for thing in dict.fromkeys(things)]
+    held = [row for row in held if row[0] not in (None, name)]
+    for by, kind, thing in held[:HELD]:
+        look.say('drive.held', by=by, kind=kind, thing=thing)
+    if len(held) > HELD:
+        look.say('more', count=len(held) - HELD)
 
 
 def _check_free(
@@ -141,7 +203,7 @@ def _check_free(
     for kind, thing in things:
         by = scene.holder(kind, thing)
         if by is not None and by != name:
-            look.warn(True, f'{by} holds {kind} {thing}.')
+            look.warn(True, 'holds', by=by, kind=kind, thing=thing)
             return
 
 

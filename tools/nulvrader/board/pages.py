@@ -5,11 +5,16 @@ import functools
 import json
 import os
 import re
+import sqlite3
 import urllib.parse
 from dataclasses import dataclass
 from typing import Any
 
 from ..common.text import shown
+from . import entries
+from .answers import JSON, Answer, refused, told
+from .api.routes import Api
+from .api.streams import Stream
 from .poller import Asker, now
 from .commands import Commands, NoCommand, NotSent
 from .guard import Guard
@@ -19,25 +24,17 @@ from .page_state import Shown
 from .workers import Busy, Workers
 
 FOLDER = os.path.join(os.path.dirname(__file__), 'page')
-JSON = 'application/json'
+CSV = 'text/csv; charset=utf-8'
 TYPES = {
     '.html': 'text/html; charset=utf-8',
     '.css': 'text/css; charset=utf-8',
     '.js': 'text/javascript; charset=utf-8',
+    '.json': JSON,
     '.svg': 'image/svg+xml',
 }
 MOVES = 50  # of a load, that a page is told
 USER = 64  # characters of the name of a user
-LOOKS, COMMANDS = 2, 8  # threads
-
-
-@dataclass(frozen=True)
-class Answer:
-    """The status, the type of what is told, and its bytes."""
-
-    status: int
-    kind: str
-    data: bytes
+LOOKS, COMMANDS, SEARCHES = 2, 8, 2  # threads
 
 
 @dataclass(frozen=True)
@@ -51,16 +48,7 @@ class Board:
     guard: Guard
     commands: Commands | None
     user_header: str | None
-
-
-def told(what: Any, status: int = 200) -> Answer:
-    """An answer of JSON."""
-    return Answer(status, JSON, json.dumps(what, separators=(',', ':')).encode())
-
-
-def refused(status: int, words: str) -> Answer:
-    """A refusal, with a sentence."""
-    return told({'fault': words}, status)
+    api: Api
 
 
 class Pages:
@@ -70,6 +58,7 @@ class Pages:
     def __init__(self, board: Board):
         self.board = board
         self.looks, self.commands = Workers(LOOKS), Workers(COMMANDS)
+        self.searches = Workers(SEARCHES)  # which may last, and keep no look waiting
         names = sorted(name for name in os.listdir(FOLDER) if os.path.splitext(name)[1] in TYPES)
         self.files = {f'/{name}': self._file(name) for name in names}
         page = self.files.pop('/index.html')
@@ -102,10 +91,12 @@ class Pages:
             return refused(403, 'The proxy names no user who may give commands.')
         return None
 
-    async def answer(self, head: Head, body: bytes) -> Answer:
+    async def answer(self, head: Head, body: bytes) -> Answer | Stream:
         """What a request is answered, which was not refused."""
         path, _, query = head.target.partition('?')
         try:
+            if self.board.api.has(path):
+                return await self.board.api.answer(head)
             if head.method == 'POST':
                 return await self._command(path, head, body)
             asked = dict(urllib.parse.parse_qsl(query))
@@ -113,6 +104,8 @@ class Pages:
                 return self.fronts[self._may_command(head)]
             if path == '/history':
                 return await self.looks.run(functools.partial(self._history, asked.get('load', '')))
+            if path in ('/record', '/record.csv'):
+                return await self.searches.run(functools.partial(self._entries, path, asked))
             return self._page(path, asked)
         except Busy:
             return refused(503, 'The board is busy: nothing was done. Ask again in a moment.')
@@ -140,10 +133,21 @@ class Pages:
         place, since = rows[0] if rows else (None, None)
         return told({'moves': moves, 'place': place, 'since': since})
 
+    def _entries(self, path: str, asked: dict[str, str]) -> Answer:
+        """The entries that are asked for: a page of them, or a file."""
+        try:
+            if path == '/record':
+                return told(entries.page_of(self.board.record.path, asked))
+            return Answer(200, CSV, entries.csv_of(self.board.record.path, asked))
+        except entries.BadQuestion as wrong:
+            return refused(400, str(wrong))
+        except sqlite3.Error as fault:
+            return refused(503, f'board.db can not be read: {fault}.')
+
     async def _command(self, path: str, head: Head, body: bytes) -> Answer:
         commands = self.board.commands
         said = object_of(body)
-        if commands is None or path not in ('/may', '/look', '/do'):
+        if commands is None or path not in ('/may', '/look', '/do', '/take'):
             return refused(404, f'There is nothing at {path[:80]}.')
         if said is None:
             return refused(400, 'A command is a JSON object.')
@@ -152,9 +156,8 @@ class Pages:
                 return told({})
             if path == '/look':
                 return told(await self.looks.run(functools.partial(commands.look, said)))
-            return told(
-                await self.commands.run(functools.partial(commands.do, said, self._user(head)))
-            )
+            do = commands.take if path == '/take' else commands.do
+            return told(await self.commands.run(functools.partial(do, said, self._user(head))))
         except NoCommand as wrong:
             return refused(200, str(wrong))  # no error: the page has asked, and is told
         except NotSent as fault:

@@ -17,6 +17,8 @@ from ..common.names import VehicleKey
 from ..desk.exports import read_loads
 from ..desk.reports import read_holds, read_stock
 from ..common.text import shown as printable
+from .alarms import Alarms
+from .events import BOARD
 from .fleet import Fleet
 from .floor import Floor
 from .journal import log
@@ -24,6 +26,8 @@ from .news import News
 from .same_desk import OtherDesk, Same
 from .stock import Stores
 from .progress import way_of
+from .words_keeper import Keeper
+from .words_socket import Heard
 
 SLOT = 0.05  # seconds from one request to the next, at least: at most 20 a second
 OFTEN, SOMETIMES, RARELY = 0.5, 1.0, 10.0  # seconds from one question of a kind to the next
@@ -65,11 +69,14 @@ class Turn:
 
 @dataclass
 class Followers:
-    """Those that take the answers, and what tells whether these are of the same desk."""
+    """Those that take the answers, and what tells whether these are of the same desk; `keeper`
+    takes what vehicles say, where that is heard, and `alarms` looks for what needs a person."""
 
     stores: Stores
     fleet: Fleet
     same: Same
+    keeper: Keeper | None = None
+    alarms: Alarms | None = None
 
 
 class Ended(Exception):
@@ -81,10 +88,17 @@ class Asker(threading.Thread):
     and `days` is how long the record keeps changes."""
 
     def __init__(
-        self, desk: Desk, news: News, floor: Floor, follow: Callable[[], Followers], days: int
+        self,
+        desk: Desk,
+        news: News,
+        floor: Floor,
+        follow: Callable[[], Followers],
+        days: int,
+        heard: Heard | None = None,
     ):
         super().__init__(name='asker', daemon=True)
         self.desk, self.news, self.floor, self.follow, self.days = desk, news, floor, follow, days
+        self.heard = heard
         self._take_up()
         # Jobs come before the stock report, by which it is known how one has ended.
         self.turns = (
@@ -108,6 +122,7 @@ class Asker(threading.Thread):
         self.floor.show()
         followers = self.follow()
         self.stores, self.fleet, self.same = followers.stores, followers.fleet, followers.same
+        self.keeper, self.alarms = followers.keeper, followers.alarms
 
     def hurry(self) -> None:
         """A command was carried out: all that may have changed is asked for at once."""
@@ -131,13 +146,33 @@ class Asker(threading.Thread):
 
     def _ask_on(self) -> None:
         while not self.over.is_set():
+            self.hear()
+            if self.alarms is not None:
+                self.look_for_alarms(self.alarms)
             begun = time.monotonic()
             rest = self.turn(begun)
             if self._woken.wait(max(0.0, begun + rest - time.monotonic())):
                 self._woken.clear()
                 self._all_are_due()
                 self.over.wait(SLOT)
-        self.news.record.commit()
+        self.news.commit()
+
+    def hear(self) -> None:
+        """Takes what was heard of vehicles, also while no desk answers; not while another one
+        does."""
+        if self.heard is None or self.keeper is None:
+            return
+        heard = self.heard.take()
+        known = tuple(self.fleet.seen) or tuple(self.keeper.said)
+        self.heard.known = frozenset(known) if known else None
+        if heard and not self.other:
+            self.keeper.take(heard, known, now())
+            self.news.commit()
+
+    def look_for_alarms(self, alarms: Alarms) -> None:
+        """Looks for what needs a person, where that is due."""
+        if alarms.turn(self.stores, self.fleet, self.keeper, self.floor.layout):
+            self.news.commit()
 
     def _wait_for_the_record(self, fault: str) -> None:
         """The record can't be written: pages are told so, until it can."""
@@ -145,7 +180,7 @@ class Asker(threading.Thread):
         words = f'board.db can not be written: {fault}. {old}'
         log(words)
         while True:
-            self.news.record.roll_back()
+            self.news.roll_back()
             self.news.shown.put('fault', 'record', words)
             if self.over.wait(WRITE_AGAIN):
                 return
@@ -160,7 +195,7 @@ class Asker(threading.Thread):
 
     def _begin_anew(self) -> None:
         """Follows the desk by what the record has, as after a start."""
-        self.news.record.roll_back()
+        self.news.roll_back()
         self.news.shown.clear()
         self._take_up()
         self._all_are_due()
@@ -179,10 +214,10 @@ class Asker(threading.Thread):
         self.asking, self.asked = now(), 0
         try:
             question()
-            self.news.record.commit()
+            self.news.commit()
             return SLOT * self.asked
         except (NoAnswer, Refused, OtherDesk) as fault:
-            self.news.record.roll_back()
+            self.news.roll_back()
             self._is_unanswered(question, fault)
         except (Ended, sqlite3.Error):
             raise
@@ -197,7 +232,7 @@ class Asker(threading.Thread):
         if question != self.ask_first:
             self.failed = question
         self._fails(fault)
-        self.news.record.commit()
+        self.news.commit()
 
     def next_question(self, at: float) -> Question | None:
         """What to ask next, or None where nothing is due."""
@@ -230,7 +265,9 @@ class Asker(threading.Thread):
         if self.up is not False or self.other != other:
             self.news.at = self.since = now()
             front = 'Another desk answers' if other else 'The desk does not answer'
-            self.news.event('desk', f'{front}: {words}')
+            self.news.event(
+                f'desk.{"other" if other else "down"}', BOARD, {}, more={'fault': words}
+            )
             self.news.record.desk(self.since, words)
             if other or isinstance(fault, NotADesk):
                 log(f'{front}: {words} {ASIDE}' if other else words)
@@ -248,12 +285,12 @@ class Asker(threading.Thread):
         self.same.check(stock, self.stores.places)
         self.same.check_holds(read_holds(self._told(self.desk.hold_report)))
         self.ask_layout()
-        self.news.record.commit()
+        self.news.commit()
         if self.failed is not None:
             self.failed()
             self.failed = None
         if self.up is False:
-            self.news.event('desk', 'The desk answers again')
+            self.news.event('desk.up', BOARD, {})
         self.since = self.news.at
         self.news.record.desk(self.since, None)
         self._show_desk(True, None)

@@ -8,9 +8,21 @@ from typing import Any
 
 from ..common.names import natural, new_reference
 from .scene import Scene
-from .sentences import ACTIONS, place_words
+from .messages import say
 
 Values = dict[str, str]
+
+
+@dataclass(frozen=True)
+class Line:
+    """A sentence of the table of messages, with its values, which the page says in its language."""
+
+    name: str
+    values: Mapping[str, object]
+
+    def words(self) -> str:
+        """It in English."""
+        return say(self.name, self.values)
 
 
 @dataclass
@@ -19,20 +31,24 @@ class Look:
     look has added."""
 
     values: Values
-    says: list[str] = field(default_factory=list)
-    warns: list[str] = field(default_factory=list)
+    says: list[Line] = field(default_factory=list)
+    warns: list[Line] = field(default_factory=list)
 
-    def warn(self, against: bool, words: str) -> None:
+    def say(self, name: str, **values: object) -> None:
+        """Adds a sentence, of the row `look.` and this name."""
+        self.says.append(Line(f'look.{name}', values))
+
+    def warn(self, against: bool, name: str, **values: object) -> None:
         """Adds a warning where something is against it."""
-        if against and words not in self.warns:
-            self.warns.append(words)
+        line = Line(f'look.{name}', values)
+        if against and line not in self.warns:
+            self.warns.append(line)
 
 
 def register_load(scene: Scene, said: Mapping[str, str]) -> Look:
     look, load, station = Look(dict(said)), said['load'], said.get('station', '')
-    where = f'at station {station}' if station else 'at the checking place'
-    look.says.append(f'{load} is a new load, and stands {where}.')
-    look.warn(scene.load(load) is not None, f'There is a load {load} already.')
+    look.say('register', load=load, place=place_of(station))
+    look.warn(scene.load(load) is not None, 'exists', load=load)
     _check_room(scene, look, station)
     return look
 
@@ -40,14 +56,13 @@ def register_load(scene: Scene, said: Mapping[str, str]) -> Look:
 def correct_load(scene: Scene, said: Mapping[str, str]) -> Look:
     look, load, station = Look(_with_reference(said)), said['load'], said.get('station', '')
     known = _load_here(scene, look, load)
-    before = place_words(known['place']) if known else 'unknown'
-    after = f'at station {station}' if station else 'at the checking place'
-    look.says.append(f'The desk will record that {load} stands {after}. Recorded now: {before}.')
-    look.says.append('No vehicle moves for it.')
+    before = known['place'] if known else ''
+    look.say('correct', load=load, place=place_of(station), before=before)
+    look.say('correct.still')
     there = known is not None and known['place'] == (
         f'station {station}' if station else 'checking'
     )
-    look.warn(there, f'{load} is recorded there already.')
+    look.warn(there, 'there', load=load)
     _check_no_job(scene, look, load)
     if not there:
         _check_room(scene, look, station)
@@ -57,10 +72,9 @@ def correct_load(scene: Scene, said: Mapping[str, str]) -> Look:
 def leave_load(scene: Scene, said: Mapping[str, str]) -> Look:
     look, load = Look(_with_reference(said)), said['load']
     known = _load_here(scene, look, load)
-    look.says.append(f'{load} leaves the warehouse for good. Its name stays used.')
-    look.warn(
-        known is not None and known['place'].startswith('vehicle '), f'{load} is on a vehicle.'
-    )
+    look.say('leave', load=load)
+    is_aboard = known is not None and known['place'].startswith('vehicle ')
+    look.warn(is_aboard, 'aboard', load=load)
     _check_no_job(scene, look, load)
     return look
 
@@ -70,16 +84,17 @@ def add_job(scene: Scene, said: Mapping[str, str]) -> Look:
     known = _load_here(scene, look, load)
     place = known['place'] if known else ''
     origin = place.removeprefix('station ') if place.startswith('station ') else None
-    look.says.append(f'Job {job} is to take {load} from {origin or "where it stands"} to {to}.')
-    look.says.append(f'It waits until an order takes it, and keeps a place at {to}.')
-    look.warn(
-        known is not None and origin is None,
-        f'{load} stands at no station: it is {place_words(place)}.',
-    )
-    look.warn(origin == to, f'{load} stands at {to} already.')
+    if origin:
+        look.say('job', job=job, load=load, origin=origin, to=to)
+    else:
+        look.say('job.somewhere', job=job, load=load, to=to)
+    look.say('job.waits', to=to)
+    is_elsewhere = known is not None and origin is None
+    look.warn(is_elsewhere, 'elsewhere', load=load, place=place)
+    look.warn(origin == to, 'stands', load=load, to=to)
     if origin and to in scene.layout.stations:
         start, end = scene.layout.stations[origin].node, scene.layout.stations[to].node
-        look.warn(scene.layout.hops(start, end) is None, f'No way leads from {origin} to {to}.')
+        look.warn(scene.layout.hops(start, end) is None, 'no.way', start=origin, end=to)
     _check_no_job(scene, look, load)
     _check_room(scene, look, to)
     return look
@@ -89,15 +104,13 @@ def stop_job(scene: Scene, said: Mapping[str, str]) -> Look:
     look, job = Look(dict(said)), said['job']
     known = scene.job(job)
     if known is None:
-        look.says.append(f'Job {job} is stopped, if it waits.')
-        look.warn(True, f'No live job {job} is known.')
+        look.say('stop.if', job=job)
+        look.warn(True, 'no.job', job=job)
         return look
-    look.says.append(f'Job {job} is stopped: {known["load"]} stays where it is.')
+    look.say('stop', job=job, load=known['load'])
     if known['target']:
-        look.says.append(f'The place at {known["target"]} that it keeps is free again.')
-    look.warn(
-        known['phase'] == 'riding', f'It rides on {known["vehicle"]}: cancel that order instead.'
-    )
+        look.say('stop.place', to=known['target'])
+    look.warn(known['phase'] == 'riding', 'rides.on', vehicle=known['vehicle'])
     return look
 
 
@@ -105,37 +118,56 @@ def cancel(scene: Scene, said: Mapping[str, str]) -> Look:
     look, name = Look(dict(said)), said['vehicle']
     vehicle, way = vehicle_here(scene, look, name), scene.way(name)
     order = vehicle['order_name'] if vehicle else None
-    look.says.append(
-        '%s is told to cancel its order%s, and stops as soon as it can.'
-        % (name, f' {order}' if order else '')
-    )
-    if way:
+    look.say('cancel', vehicle=name, order=f' {order}' if order else '')
+    if way and way['acts']:
         loads = sorted({act['load'] for act in way['acts']}, key=natural)
-        look.says.append(f'Its jobs that are not done are stopped: those of {", ".join(loads)}.')
-    look.says.append(
-        'Where it stops before the last released node, a person has to look where it stands and'
-        ' place it.'
-    )
-    look.warn(vehicle is not None and order is None, 'It has no open order.')
+        look.say('cancel.jobs', loads=loads)
+    look.say('cancel.place')
+    look.warn(vehicle is not None and order is None, 'no.order')
     _check_not_pending(look, vehicle)
     return look
 
 
 def pause(scene: Scene, said: Mapping[str, str]) -> Look:
-    words = 'to pause. It keeps its order and all that it holds.'
-    return _instant(scene, said, words, True, 'It has paused already.')
+    return _instant(scene, said, 'pause', True)
 
 
 def resume(scene: Scene, said: Mapping[str, str]) -> Look:
-    return _instant(scene, said, 'to go on.', False, 'It has not paused.')
+    return _instant(scene, said, 'resume', False)
 
 
-def _instant(scene: Scene, said: Mapping[str, str], words: str, paused: bool, warning: str) -> Look:
+def pause_all(scene: Scene, said: Mapping[str, str]) -> Look:
+    return _instant_all(scene, said, 'pause', False)
+
+
+def resume_all(scene: Scene, said: Mapping[str, str]) -> Look:
+    return _instant_all(scene, said, 'resume', True)
+
+
+def _instant_all(scene: Scene, said: Mapping[str, str], what: str, paused: bool) -> Look:
+    """What all vehicles are told that are so, and which of them can't be told now."""
+    vehicles = scene.shown.all('vehicle')
+    names = [
+        name for name in sorted(vehicles, key=natural) if bool(vehicles[name]['paused']) == paused
+    ]
+    pending = [name for name in names if vehicles[name]['pending']]
+    told = [name for name in names if name not in pending]
+    look = Look({**said, 'vehicles': said.get('vehicles') or ' '.join(told)})
+    look.say(f'{what}.all', vehicles=told or '-')
+    rest = len(vehicles) - len(names)
+    if rest:
+        look.say(f'{what}.rest', count=rest)
+    look.warn(bool(pending), 'pending.all', vehicles=pending)
+    look.warn(not told, 'nobody')
+    return look
+
+
+def _instant(scene: Scene, said: Mapping[str, str], what: str, paused: bool) -> Look:
     """What a vehicle is told to do, and a warning where it has paused, or has not."""
     look, name = Look(dict(said)), said['vehicle']
     vehicle = vehicle_here(scene, look, name)
-    look.says.append(f'{name} is told {words}')
-    look.warn(vehicle is not None and bool(vehicle['paused']) == paused, warning)
+    look.say(what, vehicle=name)
+    look.warn(vehicle is not None and bool(vehicle['paused']) == paused, f'{what}.already')
     _check_not_pending(look, vehicle)
     return look
 
@@ -143,42 +175,32 @@ def _instant(scene: Scene, said: Mapping[str, str], words: str, paused: bool, wa
 def place(scene: Scene, said: Mapping[str, str]) -> Look:
     look, name, node = Look(_with_reference(said)), said['vehicle'], said['node']
     vehicle = vehicle_here(scene, look, name)
-    look.says.append(
-        f'The desk will record that {name} stands at node {node}, and holds only this node.'
-    )
+    look.say('place', vehicle=name, node=node)
     if vehicle and vehicle['order_name']:
-        look.says.append(
-            f'Its order {vehicle["order_name"]} ends, and its jobs that are not done are stopped.'
-        )
-    look.warn(
-        True,
-        (
-            'The vehicle gets no message, and all track that it held is free to others. Make sure'
-            ' that it stands there, and that the order on it is cleared.'
-        ),
-    )
+        look.say('place.order', order=vehicle['order_name'])
+    look.warn(True, 'place.sure')
     by = scene.holder('node', node)
-    look.warn(by is not None and by != name, f'{by} holds node {node}.')
+    look.warn(by is not None and by != name, 'holds', by=by, kind='node', thing=node)
     return look
 
 
 def resync(scene: Scene, said: Mapping[str, str]) -> Look:
     look, name = Look(dict(said)), said['vehicle']
     vehicle_here(scene, look, name)
-    look.says.append(
-        f'The desk forgets the number of the last state of {name}, and takes its next one, whatever'
-        ' its number.'
-    )
-    look.says.append(
-        'This is for a vehicle that was restarted and counts its headers from the start again.'
-    )
+    look.say('resync', vehicle=name)
+    look.say('resync.for')
     return look
+
+
+def place_of(station: str) -> str:
+    """A station as a place; without a name it is the checking place."""
+    return f'station {station}' if station else 'checking'
 
 
 def vehicle_here(scene: Scene, look: Look, name: str) -> dict[str, Any] | None:
     """A vehicle of the desk; where there is none of that name, None and a warning."""
     vehicle = scene.vehicle(name)
-    look.warn(vehicle is None, f'No vehicle {name} is registered.')
+    look.warn(vehicle is None, 'no.vehicle', vehicle=name)
     return vehicle
 
 
@@ -188,22 +210,21 @@ def _with_reference(said: Mapping[str, str]) -> Values:
 
 def _check_room(scene: Scene, look: Look, station: str) -> None:
     if station and station in scene.layout.stations:
-        look.warn(scene.room(station) == 0, f'Station {scene.station_words(station)} is full.')
+        look.warn(scene.room(station) == 0, 'full', **scene.room_of(station))
 
 
 def _load_here(scene: Scene, look: Look, load: str) -> dict[str, Any] | None:
     """A load that is in the warehouse; where none of that name is, None and a warning."""
     known = scene.load(load)
-    look.warn(known is None, f'No load {load} is in the warehouse.')
+    look.warn(known is None, 'no.load', load=load)
     return known
 
 
 def _check_no_job(scene: Scene, look: Look, load: str) -> None:
     job = scene.job_of(load)
-    look.warn(job is not None, f'{load} has the live job {job}.')
+    look.warn(job is not None, 'in.job', load=load, job=job)
 
 
 def _check_not_pending(look: Look, vehicle: Mapping[str, object] | None) -> None:
     pending = str(vehicle['pending']) if vehicle and vehicle['pending'] else None
-    words = ACTIONS.get(pending or '', pending)
-    look.warn(pending is not None, f'Another instant action, to {words}, is not over yet.')
+    look.warn(pending is not None, 'pending', action=pending)

@@ -8,15 +8,17 @@ from __future__ import annotations
 
 import contextlib
 import datetime
+import json
 import sqlite3
 import threading
 import time
 from collections.abc import Mapping, Sequence
-from typing import Any
+from typing import Any, Protocol
 
 from ..common.text import shown
+from .events import ABOUT, Event
 
-VERSION = 2
+VERSION = 3
 SCHEMA = """
 CREATE TABLE IF NOT EXISTS meta (name TEXT NOT NULL PRIMARY KEY, value TEXT NOT NULL) STRICT;
 CREATE TABLE IF NOT EXISTS stations (station TEXT NOT NULL PRIMARY KEY, node TEXT NOT NULL,
@@ -34,7 +36,8 @@ CREATE TABLE IF NOT EXISTS holds (kind TEXT NOT NULL, name TEXT NOT NULL, vehicl
   PRIMARY KEY (kind, name)) STRICT;
 CREATE TABLE IF NOT EXISTS jobs (job TEXT NOT NULL PRIMARY KEY, load TEXT NOT NULL, origin TEXT,
   target TEXT, phase TEXT
-  NOT NULL, order_name TEXT, vehicle TEXT, added TEXT, began TEXT, ended TEXT) STRICT;
+  NOT NULL, order_name TEXT, vehicle TEXT, added TEXT, began TEXT, ended TEXT, picked TEXT,
+  dropped TEXT, outcome TEXT, cause TEXT, who TEXT, action TEXT) STRICT;
 CREATE TABLE IF NOT EXISTS load_moves (n INTEGER PRIMARY KEY, at TEXT NOT NULL,
   load TEXT NOT NULL, from_place TEXT,
   to_place TEXT NOT NULL) STRICT;
@@ -55,9 +58,19 @@ CREATE TABLE IF NOT EXISTS desk_times (n INTEGER PRIMARY KEY, at TEXT NOT NULL,
 CREATE TABLE IF NOT EXISTS commands (n INTEGER PRIMARY KEY, at TEXT NOT NULL, who TEXT NOT NULL,
   command TEXT NOT NULL,
   said TEXT NOT NULL, done INT, answer TEXT) STRICT;
-CREATE TABLE IF NOT EXISTS events (n INTEGER PRIMARY KEY, at TEXT NOT NULL, kind TEXT NOT NULL,
-  words TEXT NOT NULL,
-  vehicle TEXT, load TEXT) STRICT;
+CREATE TABLE IF NOT EXISTS events (n INTEGER PRIMARY KEY AUTOINCREMENT, at TEXT NOT NULL,
+  kind TEXT NOT NULL, what TEXT NOT NULL, words TEXT NOT NULL, cause TEXT NOT NULL, who TEXT,
+  call TEXT, command INT, vehicle TEXT, load TEXT, job TEXT, order_name TEXT, station TEXT,
+  node TEXT, before TEXT, after TEXT, more TEXT) STRICT;
+CREATE TABLE IF NOT EXISTS vehicle_words (vehicle TEXT NOT NULL PRIMARY KEY, at TEXT NOT NULL,
+  mode TEXT, stop TEXT, field INT, battery REAL, charging INT, x REAL, y REAL, map TEXT,
+  connection TEXT, errors TEXT NOT NULL, failed TEXT NOT NULL, since TEXT NOT NULL) STRICT;
+CREATE TABLE IF NOT EXISTS vehicle_batteries (n INTEGER PRIMARY KEY, at TEXT NOT NULL,
+  vehicle TEXT NOT NULL, charge REAL, charging INT) STRICT;
+CREATE TABLE IF NOT EXISTS alarms (n INTEGER PRIMARY KEY AUTOINCREMENT, key TEXT NOT NULL,
+  kind TEXT NOT NULL, level TEXT NOT NULL, vehicle TEXT, load TEXT, job TEXT, station TEXT,
+  words TEXT NOT NULL, todo TEXT NOT NULL, more TEXT NOT NULL, began TEXT NOT NULL, ended TEXT,
+  taken_by TEXT, taken_at TEXT) STRICT;
 CREATE TABLE IF NOT EXISTS drawing (node TEXT NOT NULL PRIMARY KEY, x REAL NOT NULL,
   y REAL NOT NULL) STRICT;
 CREATE INDEX IF NOT EXISTS load_moves_load ON load_moves (load, at);
@@ -66,19 +79,44 @@ CREATE INDEX IF NOT EXISTS vehicle_states_vehicle ON vehicle_states (vehicle, at
 CREATE INDEX IF NOT EXISTS vehicle_states_at ON vehicle_states (at);
 CREATE INDEX IF NOT EXISTS hold_changes_at ON hold_changes (at);
 CREATE INDEX IF NOT EXISTS events_at ON events (at);
+CREATE INDEX IF NOT EXISTS events_vehicle ON events (vehicle, n);
+CREATE INDEX IF NOT EXISTS events_load ON events (load, n);
+CREATE INDEX IF NOT EXISTS events_job ON events (job, n);
+CREATE INDEX IF NOT EXISTS vehicle_batteries_vehicle ON vehicle_batteries (vehicle, at);
+CREATE INDEX IF NOT EXISTS vehicle_batteries_at ON vehicle_batteries (at);
+CREATE INDEX IF NOT EXISTS alarms_ended ON alarms (ended);
 CREATE INDEX IF NOT EXISTS waits_began ON waits (began);
 CREATE INDEX IF NOT EXISTS jobs_ended ON jobs (ended);
 """
-# Moves a file of version 1, where a command stood once it was answered.
-MOVE = """
+# By version what moves a file of the one before: to 2, as a command stood once it was answered;
+# to 3, as an entry had no cause, and a job no outcome.
+MOVES = {
+    '2': """
 ALTER TABLE commands RENAME TO commands_1;
 CREATE TABLE commands (n INTEGER PRIMARY KEY, at TEXT NOT NULL, who TEXT NOT NULL,
   command TEXT NOT NULL, said TEXT NOT
   NULL, done INT, answer TEXT) STRICT;
 INSERT INTO commands SELECT n, at, who, command, said, done, answer FROM commands_1;
 DROP TABLE commands_1;
-UPDATE meta SET value = '2' WHERE name = 'version';
-"""
+UPDATE meta SET value = '2' WHERE name = 'version'""",
+    '3': """
+ALTER TABLE events RENAME TO events_2;
+DROP INDEX IF EXISTS events_at;
+CREATE TABLE events (n INTEGER PRIMARY KEY AUTOINCREMENT, at TEXT NOT NULL,
+  kind TEXT NOT NULL, what TEXT NOT NULL, words TEXT NOT NULL, cause TEXT NOT NULL, who TEXT,
+  call TEXT, command INT, vehicle TEXT, load TEXT, job TEXT, order_name TEXT, station TEXT,
+  node TEXT, before TEXT, after TEXT, more TEXT) STRICT;
+INSERT INTO events (n, at, kind, what, words, cause, vehicle, load)
+  SELECT n, at, kind, 'earlier', words, 'unknown', vehicle, load FROM events_2;
+DROP TABLE events_2;
+ALTER TABLE jobs ADD COLUMN picked TEXT;
+ALTER TABLE jobs ADD COLUMN dropped TEXT;
+ALTER TABLE jobs ADD COLUMN outcome TEXT;
+ALTER TABLE jobs ADD COLUMN cause TEXT;
+ALTER TABLE jobs ADD COLUMN who TEXT;
+ALTER TABLE jobs ADD COLUMN action TEXT;
+UPDATE meta SET value = '3' WHERE name = 'version'""",
+}
 # What is removed once it is older than so many days: of each table which rows.
 OLD = {
     'load_moves': 'at < ?',
@@ -88,8 +126,23 @@ OLD = {
     'desk_times': 'at < ?',
     'commands': 'at < ?',
     'events': 'at < ?',
+    'vehicle_batteries': 'at < ?',
+    'alarms': 'ended < ?',
     'jobs': 'ended < ?',
 }
+
+
+# The columns of an entry, without its number, and with it.
+COLUMNS = (
+    *('at', 'kind', 'what', 'words', 'cause', 'who', 'call', 'command'),
+    *ABOUT,
+    *('before', 'after', 'more'),
+)
+EVENT = ('n', *COLUMNS)
+INSERT_EVENT = f'INSERT INTO events ({", ".join(COLUMNS)}) VALUES ({", ".join("?" * len(COLUMNS))})'
+
+
+ENTRIES = 5_000_000  # the most entries of events that are kept
 
 
 class NoRecord(Exception):
@@ -110,10 +163,57 @@ def moment_of(text: str) -> int:
     return round(moment.timestamp() * 1000)
 
 
+def event_row(at: int, event: Event) -> list[Any]:
+    """The values of an entry by `COLUMNS`."""
+    cause = event.cause
+    row: list[Any] = [text_of(at), event.kind, event.what, event.words()]
+    row += [cause.of, cause.who, cause.call, cause.command]
+    row += [event.about.get(name) for name in ABOUT]
+    return [*row, event.before, event.after, json.dumps(dict(event.more)) if event.more else None]
+
+
+def entry_of(row: Sequence[Any]) -> dict[str, Any]:
+    """An entry as the page has it, of a row by `EVENT`."""
+    found = dict(zip(EVENT, row))
+    found['at'], found['text'] = moment_of(found['at']), found.pop('words')
+    if found['more'] is not None:
+        found['more'] = json.loads(found['more'])
+    return {name: value for name, value in found.items() if value is not None}
+
+
 def opened(path: str, wait: float = 10.0) -> sqlite3.Connection:
     """A connection to the file, for several threads, one at a time. `wait` is for how many seconds
     it waits for another program that writes."""
     return sqlite3.connect(path, timeout=wait, isolation_level=None, check_same_thread=False)
+
+
+class Told(Protocol):
+    """An alarm, as the record takes it."""
+
+    @property
+    def key(self) -> str:
+        """Its name, as long as it lasts."""
+
+    @property
+    def kind(self) -> str:
+        """What it is."""
+
+    @property
+    def level(self) -> str:
+        """How grave it is."""
+
+    @property
+    def values(self) -> Mapping[str, Any]:
+        """What its sentences are made of."""
+
+    def about(self) -> Mapping[str, str | None]:
+        """The things that it is about."""
+
+    def words(self) -> str:
+        """What is so."""
+
+    def todo(self) -> str:
+        """What to do."""
 
 
 class Record:
@@ -127,17 +227,7 @@ class Record:
             self._base = opened(path)
             self._base.execute('PRAGMA journal_mode = WAL')
             self._base.execute('PRAGMA synchronous = NORMAL')
-            self._base.execute('BEGIN IMMEDIATE')
-            for statement in SCHEMA.split(';\n'):
-                self._base.execute(statement)
-            self._base.execute(
-                'INSERT OR IGNORE INTO meta VALUES (?, ?)', ('version', str(VERSION))
-            )
-            if self.meta('version') == '1':
-                for statement in MOVE.split(';\n'):
-                    self._base.execute(statement)
-            version = self.meta('version')
-            self._base.execute('COMMIT')
+            version = self._made()
         except sqlite3.Error as fault:
             raise NoRecord(f'{shown(path)}: {fault}') from fault
         if version != str(VERSION):
@@ -145,6 +235,24 @@ class Record:
                 f'it has tables of version {shown(str(version))}, and this board writes {VERSION}'
             )
             raise NoRecord(f'{shown(path)}: {words}')
+
+    def _made(self) -> str | None:
+        """Makes the tables, or moves those of an earlier version. The version that the file has."""
+        base = self._base
+        base.execute('BEGIN IMMEDIATE')
+        first, *rest = SCHEMA.split(';\n')
+        base.execute(first)
+        for target, move in MOVES.items():
+            if self.meta('version') == str(int(target) - 1):
+                for statement in move.split(';\n'):
+                    base.execute(statement)
+        version = self.meta('version')
+        if version in (None, str(VERSION)):
+            for statement in rest:
+                base.execute(statement)
+            base.execute('INSERT OR IGNORE INTO meta VALUES (?, ?)', ('version', str(VERSION)))
+        base.execute('COMMIT')
+        return self.meta('version')
 
     def close(self) -> None:
         """Closes the file. What was put and not committed is not in it."""
@@ -281,21 +389,46 @@ class Record:
         """The desk answers from now on, or where there is a fault it doesn't."""
         self._row('desk_times', {'at': text_of(at), 'answers': int(fault is None), 'fault': fault})
 
-    def event(self, at: int, kind: str, words: str, about: Mapping[str, str]) -> None:
-        """Something happened: a line of it, and the `vehicle` or `load` that it is about."""
-        self._row('events', {'at': text_of(at), 'kind': kind, 'words': words, **about})
+    def event(self, at: int, event: Event) -> int:
+        """Something happened. The number of its entry, which no other entry ever has."""
+        with self._lock:
+            self._put(INSERT_EVENT, event_row(at, event))
+            return int(self.rows('SELECT last_insert_rowid()')[0][0])
 
     def last_events(self, count: int) -> list[dict[str, Any]]:
-        """The last lines of what happened, the newest last, as the page has them."""
-        found = []
-        for at, kind, words, *about in self.rows(
-            'SELECT at, kind, words, vehicle, load FROM events ORDER BY n DESC LIMIT ?', (count,)
-        ):
-            names = {
-                name: value for name, value in zip(('vehicle', 'load'), about) if value is not None
-            }
-            found.append({'at': moment_of(at), 'kind': kind, 'text': words, **names})
-        return found[::-1]
+        """The last entries, the newest last, as the page has them."""
+        question = f'SELECT {", ".join(EVENT)} FROM events ORDER BY n DESC LIMIT ?'
+        return [entry_of(row) for row in self.rows(question, (count,))][::-1]
+
+    def words(self, at: int, vehicle: str, values: Mapping[str, Any]) -> None:
+        """What a vehicle says of itself, by the columns of `vehicle_words`."""
+        self._row('vehicle_words', {'vehicle': vehicle, 'at': text_of(at), **values})
+
+    def battery(self, at: int, vehicle: str, charge: float | None, charging: bool | None) -> None:
+        """The battery of a vehicle has come to be so."""
+        row = {'at': text_of(at), 'vehicle': vehicle, 'charge': charge}
+        self._row(
+            'vehicle_batteries', {**row, 'charging': None if charging is None else int(charging)}
+        )
+
+    def alarm(self, found: Told, began: int) -> int:
+        """Something needs a person, since a moment. The number of its row."""
+        about = {name: found.about().get(name) for name in ('vehicle', 'load', 'job', 'station')}
+        row: dict[str, Any] = {'key': found.key, 'kind': found.kind, 'level': found.level, **about}
+        row |= {'words': found.words(), 'todo': found.todo(), 'began': text_of(began)}
+        with self._lock:
+            self._row('alarms', {**row, 'more': json.dumps(dict(found.values))})
+            return int(self.rows('SELECT last_insert_rowid()')[0][0])
+
+    def change_alarm(self, number: int, found: Told) -> None:
+        """An alarm says something else now."""
+        row = found.kind, found.level, found.words(), found.todo(), json.dumps(dict(found.values))
+        names = 'kind = ?, level = ?, words = ?, todo = ?, more = ?'
+        self._put(f'UPDATE alarms SET {names} WHERE n = ?', (*row, number))
+
+    def end_alarm(self, number: int, at: int) -> None:
+        """An alarm is over."""
+        self._put('UPDATE alarms SET ended = ? WHERE n = ?', (text_of(at), number))
 
     def layout(self) -> tuple[str, dict[str, tuple[float, float]]] | None:
         """The layout as a file, and where its nodes are drawn; None where none is kept."""
@@ -311,8 +444,10 @@ class Record:
         self.set_meta('layout', layout)
 
     def remove_old(self, before: int) -> None:
-        """Removes what is older than a moment."""
+        """Removes what is older than a moment, and of the entries all but the last."""
         with self._lock:
+            most = '(SELECT coalesce(max(n), 0) FROM events) - ?'
+            self._put(f'DELETE FROM events WHERE n <= {most}', (ENTRIES,))
             for table, rows in OLD.items():
                 self._put(f'DELETE FROM {table} WHERE {rows}', (text_of(before),))
             self.commit()

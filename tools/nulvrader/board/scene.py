@@ -54,10 +54,8 @@ class Scene:
         row = self.shown.get('station', station) or {'taken': 0, 'reserved': 0}
         return max(0, found.capacity - int(row['taken']) - int(row['reserved']))
 
-    def station_words(self, station: str) -> str:
-        """How full a station is, in words."""
+    def room_of(self, station: str) -> dict[str, Any]:
+        """How full a station is."""
         row = self.shown.get('station', station) or {'taken': 0, 'reserved': 0}
-        return (
-            f'{station} ({row["taken"]} of {self.layout.stations[station].capacity} taken,'
-            f' {row["reserved"]} reserved)'
-        )
+        capacity = self.layout.stations[station].capacity
+        return {'station': station, 'capacity': capacity, **row}

@@ -13,7 +13,9 @@ import threading
 
 from .guard import HEADERS
 from .journal import log
-from .pages import Answer, Pages, refused
+from .answers import Answer, refused
+from .api.streams import Stream
+from .pages import Pages
 from .request import HEAD, BadRequest, Head, read_head
 
 MOST = 200  # connections at a time
@@ -96,7 +98,8 @@ class Connection:
 
     async def serve(self, pages: Pages, pace: Pace) -> None:
         """Reads the request, and answers it."""
-        method, answer = 'GET', None
+        method = 'GET'
+        answer: Answer | Stream | None = None
         try:
             async with asyncio.timeout(REQUEST):
                 head = await read_head(self.source)
@@ -111,9 +114,12 @@ class Connection:
             self.may_end = method != 'POST'
             answer = await self._answer(pages, head, body)
             self.may_end = True
-        await pace.wait(len(answer.data))
-        async with asyncio.timeout(ANSWER):
-            await self._write(answer, method == 'HEAD')
+        if isinstance(answer, Stream):
+            await self._stream(answer, method == 'HEAD', pace)
+        else:
+            await pace.wait(len(answer.data))
+            async with asyncio.timeout(ANSWER):
+                await self._write(answer, method == 'HEAD')
         await self._close()
 
     def end(self) -> None:
@@ -123,20 +129,29 @@ class Connection:
         self.target.transport.abort()
 
     @staticmethod
-    async def _answer(pages: Pages, head: Head, body: bytes) -> Answer:
+    async def _answer(pages: Pages, head: Head, body: bytes) -> Answer | Stream:
         try:
             return await pages.answer(head, body)
         except Exception as fault:  # of the board itself: the others are still answered
             log(f'a request failed: {fault!r}')
             return refused(500, 'The board has failed at this; its log says why.')
 
-    async def _write(self, answer: Answer, is_head: bool) -> None:
-        lines = [f'HTTP/1.1 {answer.status} {NAMES[answer.status]}', 'Connection: close']
-        lines += [f'{name}: {value}' for name, value in HEADERS.items()]
-        lines += [f'Content-Type: {answer.kind}', f'Content-Length: {len(answer.data)}']
-        lines += ['Allow: GET, HEAD, POST'] if answer.status == 405 else []
+    def _write_head(self, status: int, *lines: str) -> None:
+        head = [f'HTTP/1.1 {status} {NAMES[status]}', 'Connection: close']
+        head += [f'{name}: {value}' for name, value in HEADERS.items()]
         self.target.transport.set_write_buffer_limits(0)  # what is written is waited for
-        self.target.write('\r\n'.join([*lines, '', '']).encode('ascii'))
+        self.target.write('\r\n'.join([*head, *lines, '', '']).encode('ascii'))
+
+    async def _stream(self, stream: Stream, is_head: bool, pace: Pace) -> None:
+        """Answers by events as they come. nginx passes them on at once where it is told so."""
+        self._write_head(200, f'Content-Type: {stream.kind}', 'X-Accel-Buffering: no')
+        if not is_head:
+            await stream.serve(self.source, self.target, pace.wait)
+
+    async def _write(self, answer: Answer, is_head: bool) -> None:
+        lines = [f'Content-Type: {answer.kind}', f'Content-Length: {len(answer.data)}']
+        lines += ['Allow: GET, HEAD, POST'] if answer.status == 405 else []
+        self._write_head(answer.status, *lines)
         data = memoryview(b'' if is_head else answer.data)
         for begin in range(0, len(data), PIECE):
             self.target.write(data[begin : begin + PIECE])

@@ -7,9 +7,13 @@ from collections.abc import Mapping
 from ..desk.client import Job
 from ..desk.reports import Stock
 from . import sentences
+from .events import UNSEEN, VEHICLE, Cause
 from .live_jobs import Jobs, LiveJob
 from .news import News
 from .record import moment_of, text_of
+
+HANDS = ('correct', 'stocktake')  # the calls that move a load in the records
+STOPPED = {'cancelled': 'cancelled', 'placed': 'placed', 'broken': 'cancelled', 'ended': 'failed'}
 
 
 class Stores:
@@ -33,7 +37,8 @@ class Stores:
             self.news.shown.put('load', name, {'place': place, 'since': self.since[name]})
         self.left = record.rows("SELECT count(*) FROM loads WHERE place = 'left'")[0][0]
         self.first = not self.places and not self.left
-        columns = 'job, load, origin, target, phase, order_name, vehicle, added, began, ended'
+        times = 'added, began, ended, picked, dropped'
+        columns = f'job, load, origin, target, phase, order_name, vehicle, {times}'
         rows = record.rows(f"SELECT {columns} FROM jobs WHERE phase IN ('waiting', 'riding')")
         moments = ([None if at is None else moment_of(at) for at in row[7:]] for row in rows)
         self.jobs.restore(LiveJob(*row[:7], *times) for row, times in zip(rows, moments))
@@ -42,12 +47,12 @@ class Stores:
 
     def take_stock(self, stock: Stock) -> None:
         """The stock report."""
-        places = stock.places()
+        places, is_unseen = stock.places(), self.news.look('stock')
         for load in self.places.keys() - places.keys():
-            self._move(load, 'left')
+            self._move(load, 'left', is_unseen)
         for load, place in places.items():
             if self.places.get(load) != place:
-                self._move(load, place)
+                self._move(load, place, is_unseen)
         self.first = False
         for station in stock.stations.values():
             taken, row = len(station.loads), (station.name, station.node, station.capacity)
@@ -57,15 +62,15 @@ class Stores:
         counts = {'loads': len(places), 'checking': len(stock.checking), 'left': stock.left}
         self.news.shown.put('counts', '', {**counts, 'jobs': stock.live_jobs()})
         self.needs_export = self.needs_export or stock.left != self.left
-        self.jobs.take_places(places)
+        self.jobs.take_places(places, self.news.looked('vehicles'))
 
-    def _move(self, load: str, place: str) -> None:
+    def _move(self, load: str, place: str, is_unseen: bool) -> None:
         before = self.places.get(load)
         since = None if self.first else self.news.at
         self.news.record.load(load, place, since)
         if not self.first:
             self.news.record.load_move(self.news.at, load, before, place)
-            self.news.event('load', sentences.move(load, before, place), load=load)
+            self._tell_move(load, before, place, is_unseen)
         if place == 'left':
             del self.places[load], self.since[load]
             self.left += 1
@@ -73,6 +78,58 @@ class Stores:
         else:
             self.places[load], self.since[load] = place, since
             self.news.shown.put('load', load, {'place': place, 'since': since})
+
+    def _tell_move(self, load: str, before: str | None, after: str, is_unseen: bool) -> None:
+        """Tells of a move by what may have caused it: a load with a live job is moved by its
+        vehicle alone, and one without a job by calls alone; calls put none onto a vehicle."""
+        job = self.jobs.of(load)
+        kinds = (before or '').partition(' ')[0], after.partition(' ')[0]
+        about: dict[str, str | None] = {'load': load}
+        is_riding = job is not None and job.vehicle is not None
+        if before is None and is_unseen:
+            what, cause = 'found', UNSEEN
+        elif before is None:
+            what, cause = 'registered', self._by(('register',), load)
+        elif after == 'left':
+            what, cause = 'left', self._by(('leave',), load)
+        elif kinds[1] == 'vehicle' and kinds[0] != 'vehicle':
+            what, cause, about['vehicle'] = 'picked', VEHICLE, after.partition(' ')[2]
+        elif is_unseen:
+            what, cause = 'unseen', UNSEEN
+        elif job is not None and is_riding and after == f'station {job.target}':
+            what = 'dropped' if kinds[0] == 'vehicle' else 'carried'
+            cause, about['vehicle'] = VEHICLE, job.vehicle
+        else:
+            what, cause = self._by_hand(load, after, kinds[0] == 'vehicle')
+        if job is not None and cause is VEHICLE:
+            about |= {'job': job.name, 'order_name': job.order}
+            self.jobs.has_moved(job.name, self.news.at, is_pick=what == 'picked')
+        place = before if what == 'picked' else after
+        if place and place.startswith('station '):
+            about['station'] = place.partition(' ')[2]
+        self.news.event(f'load.{what}', cause, about, before=before, after=after)
+
+    def _by(self, calls: tuple[str, ...], load: str) -> Cause:
+        return self.news.cause(*calls, of=lambda values: values.get('load') == load)
+
+    def _by_hand(self, load: str, after: str, is_aboard: bool) -> tuple[str, Cause]:
+        """By which call a load is recorded elsewhere: a stocktake moves none that is on a
+        vehicle."""
+        station = after.removeprefix('station ') if after != 'checking' else ''
+
+        def is_of(values: Mapping[str, str]) -> bool:
+            return values.get('load') == load and (values.get('station') or '') == station
+
+        def counts(values: Mapping[str, str]) -> bool:
+            return 'file' in values
+
+        cause = self.news.calls.find(('correct',), is_of, self.news.at)
+        if cause is not None:
+            return 'corrected', cause
+        if is_aboard:
+            return 'corrected', Cause('client', call='correct')
+        cause = self.news.calls.find(('stocktake',), counts, self.news.at)
+        return ('counted', cause) if cause else ('moved', Cause('client', call=' or '.join(HANDS)))
 
     def take_export(self, loads: Mapping[str, str]) -> None:
         """All loads with their places. Those that came and left unseen are known by it alone."""
@@ -86,17 +143,75 @@ class Stores:
 
     def take_jobs(self, jobs: Mapping[str, Job]) -> None:
         """The export of jobs."""
-        self.jobs.take(jobs, self.news.at, self.first)
+        is_unseen = self.news.look('jobs')
+        self.jobs.take(jobs, self.news.at, self.first, is_unseen)
 
     def _job(self, job: LiveJob) -> None:
         before = self.news.shown.get('job', job.name)
         is_live = job.ended is None
+        is_new = before is None and job.added is not None
+        told: tuple[str, Cause] | None = None
+        if is_new or (before is not None and before['phase'] != job.phase):
+            told = self._tell_job(job, is_new)
         self.news.shown.put('job', job.name, sentences.job(job) if is_live else None)
         row = {'job': job.name, 'load': job.load, 'origin': job.origin, 'target': job.target}
         times = {'added': job.added, 'began': job.began, 'ended': job.ended}
-        told = {name: None if at is None else text_of(at) for name, at in times.items()}
+        times |= {'picked': job.picked, 'dropped': job.dropped}
+        moments = {name: None if at is None else text_of(at) for name, at in times.items()}
         about = {'phase': job.phase, 'order_name': job.order, 'vehicle': job.vehicle}
-        self.news.record.job({**row, **about, **told})
-        is_new = before is None and job.added is not None
-        if is_new or (before is not None and before['phase'] != job.phase):
-            self.news.event('job', sentences.job_change(job), load=job.load)
+        outcome, cause = told if told is not None and not is_live else (None, None)
+        end = {'outcome': outcome, 'cause': cause and cause.of, 'who': cause and cause.who}
+        failure = self._failure(job) if outcome == 'failed' else {}
+        end['action'] = failure.get('action')
+        self.news.record.job({**row, **about, **moments, **end})
+
+    def _tell_job(self, job: LiveJob, is_new: bool) -> tuple[str, Cause]:
+        """Tells of a job that came to be so, and says of one that has ended how and by whom."""
+        if is_new and job.phase == 'riding':
+            self._tell(job, 'added', self._cause_of(job, 'job'))
+        what, cause = self._change_of(job)
+        self._tell(job, what, cause, self._failure(job) if what == 'failed' else {})
+        return what, cause
+
+    def _failure(self, job: LiveJob) -> dict[str, str]:
+        """Which action of a job has failed, where its vehicle has said so."""
+        end = self.news.ends.get(job.order or '')
+        for number, kind, load in end.acts if end else ():
+            result = self.news.failures.get(f'{job.order}.{number}')
+            if load == job.load and result is not None:
+                return {'action': kind, 'result': f' ({result})' if result else ''}
+        return {}
+
+    def _tell(
+        self, job: LiveJob, what: str, cause: Cause, failure: Mapping[str, str] | None = None
+    ) -> None:
+        about: dict[str, str | None] = {'job': job.name, 'load': job.load, 'vehicle': job.vehicle}
+        about |= {'order_name': job.order, 'station': job.target}
+        name = f'job.{what}.action' if failure else f'job.{what}'
+        ends = {'before': job.origin, 'after': job.target}
+        self.news.event(name, cause, about, **ends, more=failure)
+
+    def _cause_of(self, job: LiveJob, call: str) -> Cause:
+        def is_of(values: Mapping[str, str]) -> bool:
+            if call != 'order':
+                return values.get('job') == job.name
+            return values.get('vehicle') == job.vehicle and values.get('order') == job.order
+
+        return UNSEEN if job.is_unseen else self.news.cause(call, of=is_of)
+
+    def _change_of(self, job: LiveJob) -> tuple[str, Cause]:
+        """What has become of a job, and by what."""
+        if job.phase == 'waiting':
+            return 'added', self._cause_of(job, 'job')
+        if job.phase == 'riding':
+            return 'given', self._cause_of(job, 'order')
+        if job.phase == 'done':
+            return 'done', UNSEEN if job.is_unseen else VEHICLE
+        if job.is_unseen:
+            return 'unseen', UNSEEN
+        if job.order is None:
+            return 'stopped', self._cause_of(job, 'stop')
+        end = self.news.ends.get(job.order)
+        if end is None or end.how not in STOPPED:
+            return 'unseen', UNSEEN
+        return STOPPED[end.how], end.cause

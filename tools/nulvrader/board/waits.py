@@ -4,6 +4,8 @@ from __future__ import annotations
 from collections.abc import Mapping
 from dataclasses import dataclass
 
+from ..desk import waits as waits_of_desk
+from ..desk.waits import first_held
 from .progress import Thing, Way
 
 
@@ -23,26 +25,10 @@ def wait_of(
 ) -> Wait | None:
     """What a vehicle on a way waits for: of the edge behind what is released and the node at its
     end the first that another vehicle holds; None where none does."""
-    for thing in way.behind(released):
-        by = holders.get(thing)
-        if by is not None and by != vehicle:
-            return Wait(vehicle, thing, by, seen == released)
-    return None
+    found = first_held(vehicle, way.behind(released), holders)
+    return None if found is None else Wait(vehicle, *found, seen == released)
 
 
 def circles_of(waits: Mapping[str, Wait]) -> list[list[str]]:
-    """The circles of vehicles of which each waits for the next and the last for the first. Each
-    begins with its least name, and they are in the order of these."""
-    found, over = [], set()
-    for start in sorted(waits):
-        row: list[str] = []
-        at = start
-        while at in waits and at not in over and at not in row:
-            row.append(at)
-            at = waits[at].by
-        if at in row:
-            circle = row[row.index(at) :]
-            least = circle.index(min(circle))
-            found.append(circle[least:] + circle[:least])
-        over.update(row)
-    return sorted(found)
+    """The circles of vehicles of which each waits for the next and the last for the first."""
+    return waits_of_desk.circles_of({name: wait.by for name, wait in waits.items()})

@@ -1,6 +1,13 @@
 // Commands: what each needs is asked, what it will do is shown, and then it is done.
 
 import { button, el } from './dom.js';
+import { has, say } from './messages.js';
+import { Stops } from './stops.js';
+
+const WAYS = ['free', 'all']; // in place of a number of edges
+
+/** The title of a command, in the language of the page. */
+const titleOf = ({ command, title }) => (has(`command.${command}`) ? say(`command.${command}`) : title);
 
 export class Commands {
   /** `ask(path, body)` asks the board; `options(kind)` names what a field may be filled with. */
@@ -45,8 +52,8 @@ export class Commands {
 
   /** Says why there is no command. */
   fail(words) {
-    const close = button('Close', () => this.dialog.close(), { class: 'main' });
-    this.frame('Command',
+    const close = button(say('dialog.close'), () => this.dialog.close(), { class: 'main' });
+    this.frame(say('dialog.command'),
       el('p', { class: 'answer failed', role: 'alert' }, words),
       el('div', { class: 'buttons' }, close));
     this.focus(close);
@@ -54,7 +61,7 @@ export class Commands {
   }
 
   frame(title, ...children) {
-    const close = button('×', () => this.dialog.close(), { class: 'close', 'aria-label': 'Close' });
+    const close = button('×', () => this.dialog.close(), { class: 'close', 'aria-label': say('dialog.close') });
     this.dialog.replaceChildren(el('h2', { id: 'command-title' }, title), close, ...children.filter(Boolean));
   }
 
@@ -74,9 +81,9 @@ export class Commands {
     const form = el('form', { onsubmit: submit, novalidate: true }, ...fields,
       fault ? el('p', { class: 'answer failed', role: 'alert' }, fault) : null,
       el('div', { class: 'buttons' },
-        button('Close', () => this.dialog.close()),
-        el('button', { type: 'submit', class: 'main' }, 'What will it do?')));
-    this.frame(command.title, form);
+        button(say('dialog.close'), () => this.dialog.close()),
+        el('button', { type: 'submit', class: 'main' }, say('dialog.look'))));
+    this.frame(titleOf(command), form);
     const first = [...form.querySelectorAll('input')].find((input) => !input.value) ?? form.querySelector('input');
     this.focus(first);
   }
@@ -84,15 +91,21 @@ export class Commands {
   field(field, value) {
     const id = `field-${field.name}`;
     const common = { id, name: field.name, autocomplete: 'off', spellcheck: 'false' };
-    const label = el('label', { for: id }, field.label);
+    const name = `field.${field.name}${field.kind === 'station' && field.optional ? '.checking' : ''}`;
+    const label = el('label', { for: id }, has(name) ? say(name) : field.label);
     if (field.kind === 'file') {
       return el('p', {}, label, el('input', { ...common, type: 'file', accept: '.csv,text/csv,text/plain' }));
     }
-    const list = this.options(field.kind);
+    const list = field.kind === 'release' ? WAYS : this.options(field.kind);
     const number = { type: 'number', min: 0, max: 200, inputmode: 'numeric' };
     const kind = field.kind === 'number' ? number : { type: 'text' };
-    return el('p', {}, label,
-      el('input', { ...common, ...kind, value, list: list.length ? `${id}-list` : null }),
+    const input = el('input', { ...common, ...kind, value, list: list.length ? `${id}-list` : null });
+    const fill = (way) => button(say(`release.${way}`), () => {
+      input.value = way;
+    });
+    const stops = field.kind === 'stops' ? new Stops(input, this.options('waiting')).root : null;
+    return el('div', { class: 'field' }, label, input, stops,
+      field.kind === 'release' ? el('span', { class: 'actions' }, ...WAYS.map(fill)) : null,
       list.length ? el('datalist', { id: `${id}-list` }, ...list.map((name) => el('option', { value: name }))) : null);
   }
 
@@ -112,24 +125,24 @@ export class Commands {
       this.form(command, values, told.fault);
       return;
     }
-    const run = button('Do it', async () => {
+    const run = button(say('dialog.do'), async () => {
       run.disabled = true;
       this.answered(command, told.values, await this.ask('do', { command: command.command, values: told.values }));
     }, { class: 'main' });
-    const items = (lines) => lines.map((words) => el('li', {}, words));
-    const warns = el('div', { class: 'warns' }, el('h3', {}, 'Look at this first'), el('ul', {}, ...items(told.warns)));
-    this.frame(told.title,
-      el('ul', { class: 'says' }, ...items(told.says)),
+    const items = (lines) => lines.map(([name, values]) => el('li', {}, say(name, values)));
+    const warns = el('div', { class: 'warns' }, el('h3', {}, say('dialog.first')), el('ul', {}, ...items(told.lines.warns)));
+    this.frame(titleOf(command),
+      el('ul', { class: 'says' }, ...items(told.lines.says)),
       told.warns.length ? warns : null,
-      el('div', { class: 'buttons' }, button('Back', () => this.form(command, values)), run));
+      el('div', { class: 'buttons' }, button(say('dialog.back'), () => this.form(command, values)), run));
     this.focus(run);
   }
 
   answered(command, values, told) {
     const failed = told.fault || !told.done;
-    const close = button('Close', () => this.dialog.close(), { class: 'main' });
-    const back = failed ? button('Back', () => this.form(command, values)) : null;
-    this.frame(command.title,
+    const close = button(say('dialog.close'), () => this.dialog.close(), { class: 'main' });
+    const back = failed ? button(say('dialog.back'), () => this.form(command, values)) : null;
+    this.frame(titleOf(command),
       el('p', { class: failed ? 'answer failed' : 'answer done', role: 'alert' }, told.fault ?? told.text),
       told.advice ? el('p', { class: 'advice' }, told.advice) : null,
       el('div', { class: 'buttons' }, back, close));

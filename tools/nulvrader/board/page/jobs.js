@@ -2,14 +2,15 @@
 
 import { button, el, keyed, part, set, show, text } from './dom.js';
 import { colourOf } from './looks.js';
+import { say } from './messages.js';
 import { ordered, span } from './words.js';
 
 export class Jobs {
   constructor(root, view) {
     this.view = view;
-    this.actions = el('div', { class: 'actions find' }, button('Add a job', () => view.command('job', {})));
+    this.actions = el('div', { class: 'actions find' }, button(say('do.job'), () => view.command('job', {})));
     this.list = el('ul', { class: 'cards' });
-    this.none = el('p', { class: 'none' }, 'No job waits or rides.');
+    this.none = el('p', { class: 'none' }, say('jobs.none'));
     root.append(this.actions, this.list, this.none);
   }
 
@@ -29,8 +30,8 @@ export class Jobs {
         el('span', { class: 'badges' }, el('span'))),
       part('p', 'acts'),
       el('div', { class: 'actions' },
-        button('Start an order', () => this.view.command('order', { stops: key })),
-        button('Stop', () => this.view.command('stop', { job: key }))));
+        button(say('do.order'), () => this.view.command('order', { stops: key })),
+        button(say('do.stop'), () => this.view.command('stop', { job: key }))));
   }
 
   change(card, { key, job, store }) {
@@ -40,12 +41,11 @@ export class Jobs {
     show(card.querySelector('.chip'), number >= 0);
     text(card.querySelector('.where'), job.load);
     const since = riding ? job.began : job.added;
-    const long = since ? span(store.now() - since) : 'since before the board began to look';
+    const long = since ? span(store.now() - since) : say('since.before');
     const badge = card.querySelector('.badges').firstChild;
     set(badge, 'class', `badge ${riding ? 'busy' : 'warn'}`);
-    text(badge, `${riding ? 'Rides' : 'Waits'} ${long}`);
-    const on = riding ? `, on ${job.vehicle} by order ${job.order}` : '';
-    text(card.querySelector('.acts'), `From ${job.origin} to ${job.target}${on}`);
+    text(badge, say(riding ? 'jobs.rides' : 'jobs.waits', { span: long }));
+    text(card.querySelector('.acts'), say(riding ? 'jobs.riding' : 'jobs.waiting', job));
     show(card.querySelector('.actions'), this.view.mayCommand && !riding);
   }
 }

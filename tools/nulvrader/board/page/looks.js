@@ -1,6 +1,7 @@
 // How vehicles look: their colours, and what is to be said of how they are.
 
-import { span } from './words.js';
+import { say } from './messages.js';
+import { clock, span } from './words.js';
 
 const COLOURS = 6;
 const LINES = 4;
@@ -10,18 +11,12 @@ export function colourOf(number) {
   return `c${number % COLOURS} d${Math.floor(number / COLOURS) % LINES}`;
 }
 
-const ACTIONS = {
-  startPause: 'Told to pause',
-  stopPause: 'Told to go on',
-  cancelOrder: 'Told to cancel its order',
-};
-
 /** What a vehicle does that goes on with its order: what there is to do where it stands, or whether it may drive on. */
 function doing(vehicle, way) {
   const { seen, base, edges, loads } = vehicle;
   const act = way?.acts.find(({ kind, load, at }) => at === seen && loads.includes(load) === (kind === 'drop'));
-  if (act) return act.kind === 'pick' ? 'Picks up' : 'Drops';
-  return seen !== null && seen === base && base < edges ? 'Waits for a release' : 'On its way';
+  if (act) return act.kind === 'pick' ? say('badge.picks') : say('badge.drops');
+  return seen !== null && seen === base && base < edges ? say('badge.release') : say('badge.drives');
 }
 
 /**
@@ -32,38 +27,58 @@ export function statesOf(name, vehicle, store) {
   const now = store.now();
   const found = [];
   const add = (level, words, sign) => found.push({ level, words, sign });
-  if (store.inCircle(name)) add('bad', 'Waits in a circle', '⟳');
-  if (vehicle.astray) add('bad', 'Has to be placed', '✕');
-  if (vehicle.silent) add('bad', `No state for ${span(now - vehicle.silent)}`, '?');
-  if (!vehicle.heard) add('warn', 'No state yet', '?');
-  else if (!vehicle.ready) add('bad', 'Not ready', '!');
-  if (vehicle.paused) add('warn', 'Paused', '‖');
-  if (vehicle.pending) add('warn', ACTIONS[vehicle.pending] ?? vehicle.pending, '…');
+  if (store.inCircle(name)) add('bad', say('badge.circle'), '⟳');
+  if (vehicle.astray) add('bad', say('badge.astray'), '✕');
+  if (vehicle.silent) add('bad', say('badge.silent', { span: span(now - vehicle.silent) }), '?');
+  if (!vehicle.heard) add('warn', say('badge.unheard'), '?');
+  else if (!vehicle.ready) add('bad', say('badge.unready'), '!');
+  const loads = vehicle.order_name ? [] : vehicle.loads.filter((load) => !store.jobOf(load));
+  if (loads.length) add('bad', say('badge.aboard', { loads }), '▣');
+  if (vehicle.paused) add('warn', say('badge.paused'), '‖');
+  if (vehicle.pending) add('warn', say(`told.${vehicle.pending}`), '…');
   const wait = store.get('wait', name);
-  if (wait && wait.stands) add('warn', `Waits for ${wait.by}`, '…');
-  if (vehicle.order_name && vehicle.confirmed !== vehicle.sent) add('busy', 'Not confirmed yet', '');
+  if (wait && wait.stands) add('warn', say('badge.waits', wait), '…');
+  if (vehicle.order_name && vehicle.confirmed !== vehicle.sent) add('busy', say('badge.unconfirmed'), '');
   const behind = store.behind(name);
-  if (!vehicle.order_name && behind.length) add('warn', `In the way of ${behind.join(', ')}`, '');
+  if (!vehicle.order_name && behind.length) add('warn', say('badge.behind', { vehicles: behind }), '');
   if (!found.length && vehicle.order_name) add('busy', doing(vehicle, store.get('way', name)), '');
-  if (!found.length) add('good', 'Ready', '');
+  if (!found.length) add('good', say('badge.ready'), '');
   return found;
 }
 
-/** Whether a vehicle, an order or a station needs a person: the sentences, each with what it is about. */
-export function alarmsOf(store) {
+/** Since when something is so: the time of day and how long. */
+const since = (moment, now) => (moment ? say('since', { clock: clock(moment), span: span(now - moment) }) : '');
+
+const OLD = 30_000; // milliseconds, from which on a vehicle's words are old
+
+/**
+ * What a vehicle says that a person wants to know, the gravest first: each with `level`, `words` and since when.
+ * `said` is what a gateway has told of it, if any has.
+ */
+export function wordsOf(vehicle, said, now) {
   const found = [];
-  const desk = store.get('desk', '');
-  for (const fault of store.kind('fault').values()) found.push({ key: `fault ${fault}`, words: fault });
-  if (desk && !desk.up) return found;
-  for (const circle of store.get('circles', '') ?? []) {
-    found.push({ key: `circle ${circle}`, words: `Wait for one another: ${circle.join(', ')}`, vehicle: circle[0] });
+  const add = (level, words, moment) => found.push({ level, words, since: since(moment, now) });
+  const unready = Boolean(vehicle.heard) && !vehicle.ready;
+  if (!said) return unready ? [{ level: 'bad', words: say('reason.unknown'), since: since(vehicle.unready, now) }] : found;
+  if (said.stop && said.stop !== 'NONE') add('bad', say('reason.stop', said), said.since.stop);
+  for (const error of said.errors) {
+    const values = { ...error, refers: error.refers.join(', ') };
+    add(error.level === 'FATAL' ? 'bad' : 'warn', say('reason.error', values).replace(/\s+/g, ' ').trim(), error.since);
   }
-  for (const name of store.vehicles()) {
-    const vehicle = store.get('vehicle', name);
-    const about = { key: `vehicle ${name}`, vehicle: name };
-    if (vehicle.astray) found.push({ ...about, words: `${name} left its order on the way: place it` });
-    else if (vehicle.silent) found.push({ ...about, words: `${name} sends no state` });
-    else if (vehicle.heard && !vehicle.ready) found.push({ ...about, words: `${name} is not ready` });
-  }
+  if (said.mode && !['AUTOMATIC', 'SEMIAUTOMATIC'].includes(said.mode)) add('bad', say('reason.mode', said), said.since.mode);
+  if (unready && !found.some((one) => one.level === 'bad')) add('bad', say('reason.other'), vehicle.unready);
+  if (said.field) add('warn', say('reason.field'), said.since.field);
+  if (said.low) add('warn', say('reason.battery', { battery: said.battery }), null);
+  if (said.connection && said.connection !== 'ONLINE') add('warn', say('reason.connection', said), null);
+  if (now - said.at > OLD) add('', say('reason.old', { span: span(now - said.at) }), null);
   return found;
+}
+
+/** The battery of a vehicle and where it is, as it says. */
+export function measuresOf(said) {
+  if (!said) return '';
+  const found = [];
+  if (said.battery !== null) found.push(say(said.charging ? 'said.charging' : 'said.battery', said));
+  if (said.position) found.push(say('said.position', { x: said.position[0], y: said.position[1], map: said.map ?? '' }).trim());
+  return found.join(' · ');
 }

@@ -1,11 +1,12 @@
 // The page: asks the board for what is newer than it has, and brings all that is seen up to date.
 
+import { Alarms } from './alarms.js';
 import { Commands } from './commands.js';
-import { button, el, keyed, set, show, text } from './dom.js';
+import { el, keyed, set, show, text } from './dom.js';
 import { Events } from './events.js';
 import { Jobs } from './jobs.js';
-import { alarmsOf } from './looks.js';
 import { Plan } from './map.js';
+import { number, say, translate } from './messages.js';
 import { Stock } from './stock.js';
 import { Store } from './store.js';
 import { Vehicles } from './vehicles.js';
@@ -49,7 +50,7 @@ const view = {
     try {
       await commands.open(name, values, await answerOf('commands'));
     } catch {
-      commands.fail('The board does not answer: nothing was done.');
+      commands.fail(say('board.nothing'));
     }
   },
 
@@ -68,15 +69,26 @@ const lists = {
   vehicles: new Vehicles(byId('vehicles'), view),
   stock: new Stock(byId('stock'), view),
   jobs: new Jobs(byId('jobs'), view),
-  events: new Events(byId('events'), view),
+  events: new Events(byId('events'), view, entries),
 };
 const commands = new Commands(byId('command'), post, optionsOf);
+const alarms = new Alarms(byId('alarms'), view, post);
 let plan = null;
 
 async function answerOf(path) {
   const answer = await fetch(path, { headers: { Accept: 'application/json' } });
   if (!answer.ok) throw new Error(`${path}: ${answer.status}`);
   return answer.json();
+}
+
+/** Entries of the record. Where none can be had, the answer has a `fault`. */
+async function entries(query) {
+  try {
+    const answer = await fetch(`record?${query}`, { headers: { Accept: 'application/json' } });
+    return await answer.json();
+  } catch {
+    return { fault: say('record.silent') };
+  }
 }
 
 /** Asks the board for a look or a command. Where nothing can be had, the answer has a `fault`. */
@@ -89,11 +101,11 @@ async function post(path, body) {
     });
     if (answer.status === 401 || answer.status === 403) {
       const told = await answer.json().catch(() => ({}));
-      return { fault: told.fault ?? 'You may look, but not give commands.' };
+      return { fault: told.fault ?? say('board.mayNot') };
     }
     return await answer.json();
   } catch {
-    return { fault: 'The board does not answer. Check whether the command was carried out before you send it again.' };
+    return { fault: say('board.check') };
   }
 }
 
@@ -103,6 +115,7 @@ function optionsOf(kind) {
   if (kind === 'station') return (view.layout?.stations ?? []).map(([name]) => name);
   if (kind === 'node') return (view.layout?.nodes ?? []).map(([name]) => name);
   if (kind === 'load') return store.loads();
+  if (kind === 'waiting') return optionsOf('job').map((name) => [name, store.get('job', name)]);
   if (kind !== 'job' && kind !== 'stops') return [];
   return ordered([...store.kind('job')].filter(([, job]) => job.phase === 'waiting').map(([name]) => name));
 }
@@ -135,23 +148,23 @@ function drawHeader() {
   const silent = Date.now() - store.told > 4000;
   const waiting = silent ? 0 : store.waiting();
   const words = silent
-    ? 'The board does not answer'
+    ? say('desk.silent')
     : !desk
-      ? 'Asking the desk'
+      ? say('desk.asking')
       : waiting
-        ? `Waiting for the desk for ${span(waiting)}`
+        ? say('desk.waiting', { span: span(waiting) })
         : desk.up
-          ? 'The desk answers'
+          ? say('desk.up')
           : desk.other
-            ? 'Another desk answers'
-            : `The desk has not answered for ${span(store.now() - desk.since)}`;
+            ? say('desk.other')
+            : say('desk.down', { span: span(store.now() - desk.since) });
   set(byId('desk'), 'class', `desk ${silent || (desk && !desk.up) ? 'bad' : desk && !waiting ? 'good' : 'warn'}`);
   text(byId('desk').querySelector('.words'), words);
-  set(byId('desk'), 'title', desk ? `${desk.up ? '' : `${desk.fault}; `}since ${day(desk.since)}` : '');
+  set(byId('desk'), 'title', desk ? `${desk.up ? '' : `${desk.fault}; `}${say('stock.since', { day: day(desk.since) })}` : '');
   document.body.classList.toggle('stale', silent || waiting > 0 || Boolean(desk && !desk.up));
   text(byId('clock'), clock(store.now()));
   drawCounts();
-  drawAlarms(silent, desk);
+  drawAlarms(silent);
 }
 
 function drawCounts() {
@@ -159,37 +172,33 @@ function drawCounts() {
   const vehicles = store.vehicles();
   const orders = vehicles.filter((name) => store.get('vehicle', name).order_name !== null).length;
   const rows = [
-    { key: 'Vehicles', number: vehicles.length },
-    { key: 'Orders', number: orders },
-    { key: 'Live jobs', number: counts.jobs },
-    { key: 'Loads', number: counts.loads },
-    { key: 'To check', number: counts.checking },
+    { key: 'vehicles', count: vehicles.length },
+    { key: 'orders', count: orders },
+    { key: 'jobs', count: counts.jobs },
+    { key: 'loads', count: counts.loads },
+    { key: 'checking', count: counts.checking },
   ];
-  const made = (row) => el('div', {}, el('dt', {}, row.key), el('dd'));
+  const made = (row) => el('div', {}, el('dt', {}, say(`count.${row.key}`)), el('dd'));
   keyed(byId('counts'), rows, made, (item, row) => {
-    text(item.lastChild, row.number.toLocaleString('en'));
-    set(item, 'class', row.key === 'To check' && row.number ? 'look' : '');
+    text(item.lastChild, number(row.count));
+    set(item, 'class', row.key === 'checking' && row.count ? 'look' : '');
   });
   text(byId('tab-vehicles').lastChild, String(vehicles.length));
-  text(byId('tab-stock').lastChild, counts.loads.toLocaleString('en'));
+  text(byId('tab-stock').lastChild, number(counts.loads));
   text(byId('tab-jobs').lastChild, String(counts.jobs));
 }
 
-function drawAlarms(silent, desk) {
+/** The alarms of the board, and what the page itself has found: the board is silent, or can't record. */
+function drawAlarms(silent) {
   const rows = [];
-  const old = 'what is seen here is old';
   if (silent) {
-    rows.push({ key: 'board', words: `The board has not answered for ${span(Date.now() - store.told)}: ${old}` });
-  } else if (desk?.other) {
-    const aside = 'If this is right, move board.db away and start the board again.';
-    const words = `Another desk answers since ${day(desk.since)}: nothing is recorded, and ${old}. ${desk.fault} ${aside}`;
-    rows.push({ key: 'desk', words });
-  } else if (desk && !desk.up) {
-    rows.push({ key: 'desk', words: `The desk has not answered since ${day(desk.since)}: ${old}. ${desk.fault}` });
+    const words = say('alarms.board', { span: span(Date.now() - store.told) });
+    rows.push({ key: 'board', level: 'bad', words, since: store.told });
   }
-  if (!silent) rows.push(...alarmsOf(store));
-  const made = (row) => button('', () => row.vehicle && view.pick('vehicle', row.vehicle));
-  keyed(byId('alarms'), rows, made, (alarm, row) => text(alarm, row.words));
+  for (const fault of store.kind('fault').values()) {
+    rows.push({ key: `fault ${fault}`, level: 'bad', words: fault, since: 0 });
+  }
+  alarms.update(store, rows);
 }
 
 /** Whether commands may be given, and the token for them: another one once the board was started again. */
@@ -251,7 +260,9 @@ function listen() {
   document.addEventListener('visibilitychange', () => view.redraw());
 }
 
+translate(document);
 openTab('vehicles');
 listen();
+byId('sound').append(alarms.soundButton());
 setInterval(() => view.redraw(new Set(['time'])), 1000);
 turn();

@@ -4,6 +4,7 @@
 import { Camera } from './camera.js';
 import { keyed, set, svg, text } from './dom.js';
 import { colourOf, statesOf } from './looks.js';
+import { say } from './messages.js';
 import { MOST_SLOTS, RADIUS, SLOT, areFew, boundsOf, edgesOf, growthOf, namesOf, stationsOf } from './places.js';
 import { shortName } from './words.js';
 
@@ -39,7 +40,7 @@ export class Plan {
     this.edges = new Map();
     for (const [name] of this.layout.edges) {
       const line = svg('path', { class: 'edge', d: this.line(name), 'marker-end': 'url(#head)' },
-        svg('title', {}, `Edge ${name}`));
+        svg('title', {}, say('map.edge', { name })));
       this.edges.set(name, line);
       this.parts.edges.append(line);
     }
@@ -57,7 +58,7 @@ export class Plan {
 
   drawnNode(name, x, y) {
     const group = svg('g', { class: 'node', transform: `translate(${x} ${y})` },
-      svg('title', {}, `Node ${name}`),
+      svg('title', {}, say('map.node', { name })),
       svg('circle', { r: RADIUS }),
       svg('text', { y: this.below.get(name) ?? -RADIUS - 4, class: 'name' }, name));
     this.nodes.set(name, group);
@@ -75,7 +76,7 @@ export class Plan {
       slots.append(svg('rect', { class: 'slot', x: k * each, width: each - (isBar ? 0 : 2), height: 8, rx: 1.5 }));
     }
     const number = svg('text', { class: 'number', x: width - 6, y: 14 });
-    const title = svg('title', {}, `Station ${name} at ${node}`);
+    const title = svg('title', {}, say('map.station', { name, node }));
     const onclick = () => this.click('station', name);
     const body = svg('g', { class: 'body' },
       svg('rect', { class: 'box', width, height: bottom - top, rx: 5 }),
@@ -126,12 +127,12 @@ export class Plan {
     }
     keyed(this.parts.held, rows, (row) => svg('path', { d: this.line(row.key) }, svg('title')), (path, row) => {
       set(path, 'class', `hold ${row.colour}`);
-      text(path.firstChild, `Edge ${row.key}, held by ${row.vehicle}`);
+      text(path.firstChild, say('map.edge.held', { name: row.key, vehicle: row.vehicle }));
     });
     for (const [name, group] of this.nodes) {
       const vehicle = nodes.get(name);
       set(group, 'class', vehicle ? `node held ${colours.get(vehicle) ?? ''}` : 'node');
-      text(group.firstChild, vehicle ? `Node ${name}, held by ${vehicle}` : `Node ${name}`);
+      text(group.firstChild, say(vehicle ? 'map.node.held' : 'map.node', { name, vehicle }));
     }
   }
 
@@ -159,8 +160,8 @@ export class Plan {
       const at = picked && picked.kind === 'station' && picked.name === name ? ' picked' : '';
       set(station.group, 'class', `station${full ? ' full' : ''}${at}`);
       text(station.number, `${taken}/${station.capacity}`);
-      const more = reserved ? `, ${reserved} reserved` : '';
-      text(station.title, `Station ${name} at ${station.node}: ${taken} of ${station.capacity} taken${more}`);
+      const room = { name, node: station.node, taken, capacity: station.capacity, reserved };
+      text(station.title, say(reserved ? 'map.station.reserved' : 'map.station.taken', room));
       const part = station.slots.length / station.capacity;
       station.slots.forEach((slot, k) => {
         const state = k < taken * part ? 'taken' : k < (taken + reserved) * part ? 'reserved' : 'free';
@@ -188,7 +189,7 @@ export class Plan {
     const place = `translate(${x}px, ${y}px)`;
     if (group.style.transform !== place) group.style.transform = place;
     const [title, body] = group.children;
-    text(title, `${key} at ${vehicle.node}: ${states.map((state) => state.words).join(', ')}`);
+    text(title, say('map.vehicle', { vehicle: key, node: vehicle.node, states: states.map((state) => state.words) }));
     const sign = states.find((state) => state.sign)?.sign ?? '';
     text(body.querySelector('.sign text'), sign);
     set(body.querySelector('.sign'), 'class', sign ? 'sign' : 'sign none');

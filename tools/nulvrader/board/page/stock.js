@@ -1,7 +1,8 @@
 // Loads and stations: found by their names, where each load is and since when, and how full the stations are.
 
 import { button, el, keyed, part, set, show, text } from './dom.js';
-import { day, many, placeWords, span } from './words.js';
+import { number, place, say } from './messages.js';
+import { day, placeWords, span } from './words.js';
 
 const MOST = 60; // rows that are shown at once
 
@@ -13,8 +14,8 @@ export class Stock {
     this.search = el('input', {
       type: 'search',
       id: 'search',
-      placeholder: 'Load or station (press /)',
-      'aria-label': 'Name of a load or a station',
+      placeholder: say('stock.find'),
+      'aria-label': say('stock.name'),
       autocomplete: 'off',
       spellcheck: 'false',
       oninput: () => view.redraw(),
@@ -22,14 +23,14 @@ export class Stock {
         if (event.key === 'Enter' && this.found) view.pick(...this.found);
       },
     });
-    this.chips = el('div', { class: 'chips', role: 'group', 'aria-label': 'Stations' });
-    for (const [name, title] of [['all', 'All stations'], ['full', 'Full'], ['checking', 'Checking place']]) {
-      this.chips.append(button(title, () => this.choose(name), { 'data-filter': name }));
+    this.chips = el('div', { class: 'chips', role: 'group', 'aria-label': say('stock.stations') });
+    for (const name of ['all', 'full', 'checking']) {
+      this.chips.append(button(say(`stock.${name}`), () => this.choose(name), { 'data-filter': name }));
     }
     this.actions = el('div', { class: 'actions' },
-      button('Register a load', () => view.command('register', {})),
-      button('Stocktake from a file', () => view.command('stocktake', {})));
-    this.detail = el('section', { class: 'block detail', 'aria-label': 'The load' });
+      button(say('command.register'), () => view.command('register', {})),
+      button(say('stock.count'), () => view.command('stocktake', {})));
+    this.detail = el('section', { class: 'block detail', 'aria-label': say('stock.load') });
     this.stations = el('ul', { class: 'rows' });
     this.loads = el('ul', { class: 'rows' });
     this.titles = [el('h2'), el('h2')];
@@ -58,11 +59,11 @@ export class Stock {
     const station = picked && picked.kind === 'station' ? picked.name : null;
     const stations = this.updateStations(store, words, has);
     const at = (place) => byPlace.get(place) ?? [];
-    let [names, title] = [store.loads(), 'Loads'];
+    let [names, title] = [store.loads(), say('tab.stock')];
     if (words && !(station && has(station))) names = names.filter(has);
-    else if (this.filter === 'checking' && !words) [names, title] = [at('checking'), 'Loads at the checking place'];
-    else if (station) [names, title] = [at(`station ${station}`), `Loads at ${station}`];
-    text(this.titles[1], `${title} ${names.length.toLocaleString('en')}`);
+    else if (this.filter === 'checking' && !words) [names, title] = [at('checking'), say('stock.at', { place: place('checking') })];
+    else if (station) [names, title] = [at(`station ${station}`), say('stock.at', { place: place(`station ${station}`) })];
+    text(this.titles[1], `${title} ${number(names.length)}`);
     const rows = names.slice(0, MOST).map((name) => ({ key: name, load: store.get('load', name) }));
     keyed(this.loads, rows, (row) => this.madeLoad(row), (item, row) => {
       text(item.querySelector('.where'), placeWords(row.load.place));
@@ -70,9 +71,9 @@ export class Stock {
       set(item.firstChild, 'aria-pressed', String(this.view.isPicked('load', row.key)));
     });
     const left = names.length - rows.length;
-    text(this.more, left > 0 ? `And ${many(left, 'load')} more: type a part of a name.` : names.length ? '' : 'None.');
+    text(this.more, left > 0 ? say('stock.more', { loads: left }) : names.length ? '' : say('stock.none'));
     show(this.past, Boolean(words) && names.length === 0);
-    text(this.past, `Where was ${this.search.value.trim()}?`);
+    text(this.past, say('stock.past', { load: this.search.value.trim() }));
     this.found = words ? this.firstOf(words, names, stations) : null;
     this.updateDetail(store, picked);
   }
@@ -93,12 +94,11 @@ export class Stock {
         rows.push({ key: name, node, capacity, taken, reserved, full });
       }
     }
-    const title = this.filter === 'full' && !words ? 'Full stations' : 'Stations';
+    const title = say(this.filter === 'full' && !words ? 'stock.fulls' : 'stock.stations');
     text(this.titles[0], `${title} ${rows.length}`);
     show(this.titles[0], words ? rows.length > 0 : this.filter !== 'checking');
     keyed(this.stations, rows.slice(0, MOST), (row) => this.madeStation(row), (item, row) => {
-      const more = row.reserved ? `, ${row.reserved} reserved` : '';
-      text(item.querySelector('.number'), `${row.taken} of ${row.capacity}${more}`);
+      text(item.querySelector('.number'), say(row.reserved ? 'stock.room.reserved' : 'stock.room', row));
       show(item.querySelector('.badge'), row.full);
       const [taken, reserved] = item.querySelectorAll('.fill i');
       taken.style.width = `${(100 * row.taken) / row.capacity}%`;
@@ -111,8 +111,8 @@ export class Stock {
   madeStation(row) {
     const onclick = () => this.view.toggle('station', row.key);
     return el('li', { class: 'row' }, el('button', { type: 'button', class: 'rowhead', onclick },
-      part('span', 'title', row.key), part('span', 'where', `at ${row.node}`),
-      part('span', 'badge warn', 'Full'), part('span', 'number'),
+      part('span', 'title', row.key), part('span', 'where', say('where.station', { name: row.node })),
+      part('span', 'badge warn', say('stock.full')), part('span', 'number'),
       el('span', { class: 'fill' }, part('i', 'taken'), part('i', 'reserved'))));
   }
 
@@ -136,7 +136,7 @@ export class Stock {
     const told = JSON.stringify([name, load, job, row]);
     if (this.shown === told) return;
     this.shown = told;
-    const since = !load ? '' : load.since ? `since ${day(load.since)}` : 'since before the board began to look';
+    const since = !load ? '' : load.since ? say('stock.since', { day: day(load.since) }) : say('since.before');
     const moves = el('ol', { class: 'moves' });
     const actions = el('div', { class: 'actions' });
     const act = (command, title) => {
@@ -144,19 +144,19 @@ export class Stock {
       actions.append(button(title, onclick, { 'data-command': command }));
     };
     if (load && this.view.mayCommand) {
-      if (!job && load.place.startsWith('station ')) act('job', 'Add a job');
-      act('correct', 'Correct its place');
-      act('leave', 'It leaves');
+      if (!job && load.place.startsWith('station ')) act('job', say('do.job'));
+      act('correct', say('stock.correct'));
+      act('leave', say('stock.leave'));
     }
-    const place = load ? placeWords(load.place) : '';
-    const words = load ? `${place[0].toUpperCase()}${place.slice(1)}, ${since}.` : 'Not in the warehouse.';
-    const live = job ? ` Its job ${job} ${row.vehicle ? `rides on ${row.vehicle}` : 'waits'}, to ${row.target}.` : '';
-    const close = button('×', () => this.view.pick('load', null), { class: 'close', 'aria-label': 'Close' });
+    const at = load ? placeWords(load.place) : '';
+    const words = load ? `${at[0].toUpperCase()}${at.slice(1)}, ${since}.` : say('stock.gone');
+    const live = job ? ` ${say(row.vehicle ? 'stock.rides' : 'stock.waits', { job, ...row })}` : '';
+    const close = button('×', () => this.view.pick('load', null), { class: 'close', 'aria-label': say('dialog.close') });
     this.detail.replaceChildren(el('h2', {}, name), el('p', {}, words, live), moves, actions, close);
     this.view.history(name).then((history) => {
       if (this.shown !== told) return;
       for (const [at, before, after] of history.moves.slice(0, 8)) {
-        const way = ` ${before ? placeWords(before) : 'new'} → ${placeWords(after)}`;
+        const way = ` ${before ? placeWords(before) : say('stock.new')} → ${placeWords(after)}`;
         moves.append(el('li', {}, el('time', {}, day(Date.parse(at))), way));
       }
     });

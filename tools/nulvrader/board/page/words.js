@@ -1,5 +1,7 @@
 // Times and numbers in words, and the order of names.
 
+import { number, say } from './messages.js';
+
 /** Names in the order in which people look for them: the numbers in them by their values, so that L2 is before L10. */
 export function ordered(names) {
   const partsOf = (name) => name.split(/([0-9]+)/).map((part, turn) => (turn % 2 ? BigInt(part) : part));
@@ -18,12 +20,13 @@ export function span(milliseconds) {
 
 function spanOf(milliseconds) {
   const seconds = Math.max(0, Math.round(milliseconds / 1000));
-  if (seconds < 60) return `${seconds} s`;
+  if (seconds < 60) return say('unit.s', { count: seconds });
   const minutes = Math.floor(seconds / 60);
-  if (minutes < 10) return `${minutes} min ${seconds % 60} s`;
-  if (minutes < 60) return `${minutes} min`;
+  if (minutes < 10) return say('unit.min.s', { count: minutes, more: seconds % 60 });
+  if (minutes < 60) return say('unit.min', { count: minutes });
   const hours = Math.floor(minutes / 60);
-  return hours < 48 ? `${hours} h ${minutes % 60} min` : `${Math.floor(hours / 24)} d ${hours % 24} h`;
+  if (hours < 48) return say('unit.h', { count: hours, more: minutes % 60 });
+  return say('unit.d', { count: Math.floor(hours / 24), more: hours % 24 });
 }
 
 const two = (number) => String(number).padStart(2, '0');
@@ -42,14 +45,13 @@ export function day(moment) {
 
 /** So many things: `1 load`, `2 loads`. */
 export function many(count, thing) {
-  return `${count.toLocaleString('en')} ${thing}${count === 1 ? '' : 's'}`;
+  return say(`many.${thing}.${count === 1 ? '1' : 'n'}`, { count: number(count) });
 }
 
 /** A place in words: `station A`, `on KIT/0001`, `checking place`. */
 export function placeWords(place) {
-  if (place.startsWith('vehicle ')) return `on ${place.slice(8)}`;
-  if (place === 'checking') return 'at the checking place';
-  return place === 'left' ? 'has left' : `at ${place.slice(8)}`;
+  const at = place.indexOf(' ');
+  return say(`where.${at < 0 ? place : place.slice(0, at)}`, { name: at < 0 ? '' : place.slice(at + 1) });
 }
 
 /** A shorter name for a vehicle: its serial number, where no other vehicle has that. */
@@ -57,3 +59,6 @@ export function shortName(name, all) {
   const serial = name.split('/')[1];
   return [...all].filter((other) => other.split('/')[1] === serial).length > 1 ? name : serial;
 }
+
+/** A node or an edge in words. */
+export const thingOf = (kind, name) => say(`thing.${kind}`, { name });

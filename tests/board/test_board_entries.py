@@ -1,0 +1,210 @@
+"""The record is searched, filtered and read page by page, on the page and as a file; what is asked
+in hostile ways finds nothing else, and makes nobody wait."""
+
+from __future__ import annotations
+
+import csv
+import json
+import os
+import tempfile
+import time
+import unittest
+from typing import Any
+from unittest import mock
+
+from tests.support import browser
+from tests.support.board_page import Page
+from tests.support.board_run import Watching
+from nulvrader.board import entries
+from nulvrader.board.entries import PAGE, BadQuestion, csv_of, page_of
+from nulvrader.board.events import BOARD, VEHICLE, Cause, Event
+from nulvrader.board.record import Record
+
+BEGUN = 1_796_000_000_000  # 2026-11-30T00:53:20Z
+LACKING = browser.missing()
+
+
+class Finds(unittest.TestCase):
+    def setUp(self) -> None:
+        folder = tempfile.TemporaryDirectory()
+        self.addCleanup(folder.cleanup)
+        self.path = os.path.join(folder.name, 'board.db')
+        self.record = Record(self.path)
+        self.addCleanup(self.record.close)
+        self.add('load', 'load.picked', VEHICLE, before='station A', load='L1', vehicle='KIT/0001')
+        self.add(
+            'load', 'load.left', Cause('person', 'anna', 'leave', 1), before='station B', load='L2'
+        )
+        self.add('job', 'job.added', Cause('client', call='job'), after='B', job='J1', load='L1')
+        more = {'vehicles': ['KIT/0001', 'KIT/0002']}
+        self.add('wait', 'wait.circle', BOARD, vehicle='KIT/0001', more=more)
+        self.record.commit()
+
+    def add(
+        self, kind: str, what: str, cause: Cause, before: str | None = None,
+        after: str | None = None, more: dict[str, Any] | None = None, **about: str | None,
+    ) -> None:  # fmt: skip
+        """An entry, a minute after the last."""
+        count = self.record.rows('SELECT count(*) FROM events')[0][0]
+        event = Event(kind, what, cause, about, before, after, more or {})
+        self.record.event(BEGUN + 60_000 * count, event)
+
+    def found(self, **asked: str) -> list[int]:
+        """The numbers of what is found."""
+        return [event['n'] for event in page_of(self.path, asked)['events']]
+
+    def test_each_filter(self) -> None:
+        cases: tuple[tuple[dict[str, str], list[int]], ...] = (
+            ({}, [4, 3, 2, 1]),
+            ({'vehicle': 'KIT/0001'}, [4, 1]),
+            ({'load': 'L1'}, [3, 1]),
+            ({'job': 'J1'}, [3]),
+            ({'who': 'anna'}, [2]),
+            ({'kind': 'load'}, [2, 1]),
+            ({'cause': 'client'}, [3]),
+            ({'thing': 'L1'}, [3, 1]),
+            ({'thing': 'B'}, [3, 2]),
+            ({'thing': 'KIT/0001', 'kind': 'wait'}, [4]),
+            ({'text': 'PICKED l1'}, [1]),
+            ({'from': '2026-11-30T00:55:20Z'}, [4, 3]),
+            ({'to': '2026-11-30T00:55:20Z'}, [2, 1]),
+            ({'from': str(BEGUN + 60_000), 'to': str(BEGUN + 120_000)}, [2]),
+            ({'from': '2026-11-30', 'to': '2026-12-01'}, [4, 3, 2, 1]),
+            ({'before': '3'}, [2, 1]),
+            ({'text': 'no such'}, []),
+        )
+        for asked, numbers in cases:
+            self.assertEqual(self.found(**asked), numbers, asked)
+
+    def test_page_by_page(self) -> None:
+        """All that is kept, each once."""
+        for number in range(2 * PAGE):
+            self.add('load', 'load.left', BOARD, before='checking', load=f'X{number}')
+        self.record.commit()
+        seen: list[int] = []
+        asked: dict[str, str] = {}
+        for is_older in (True, True, False):
+            told = page_of(self.path, asked)
+            self.assertEqual(told['older'], is_older)
+            seen += [event['n'] for event in told['events']]
+            asked = {'before': str(seen[-1])}
+        self.assertEqual(seen, list(range(2 * PAGE + 4, 0, -1)))
+
+    def test_a_file(self) -> None:
+        """Each column and each row; what a table of numbers would compute is a text."""
+        self.add('load', 'load.left', Cause('person', '=1+1', 'leave'), load='-1+L')
+        self.add('said', 'said.error', VEHICLE, after='@SUM(A1)\n"x",y', more={'refers': ''})
+        self.record.commit()
+        rows = list(csv.DictReader(csv_of(self.path, {}).decode().splitlines(keepends=True)))
+        self.assertEqual([row['n'] for row in rows], ['6', '5', '4', '3', '2', '1'])
+        self.assertEqual((rows[1]['who'], rows[1]['load']), ("'=1+1", "'-1+L"))
+        self.assertEqual(rows[0]['after'], '\'@SUM(A1)\n"x",y')
+        self.assertEqual(rows[5]['words'], 'KIT/0001 picked L1 up at A')
+        self.assertEqual(rows[5]['at'], '2026-11-30T00:53:20.000Z')
+        only = list(csv.DictReader(csv_of(self.path, {'who': 'anna'}).decode().splitlines()))
+        self.assertEqual([row['n'] for row in only], ['2'])
+
+    def test_hostile_questions(self) -> None:
+        """None is taken for SQL, and none changes anything."""
+        for nasty in ("' OR 1=1 --", '"; DROP TABLE events; --', '%', '_', '\x00', 'x' * 100_000):
+            for name in (
+                'vehicle',
+                'load',
+                'job',
+                'station',
+                'kind',
+                'cause',
+                'who',
+                'thing',
+                'text',
+            ):
+                self.assertEqual(self.found(**{name: nasty}), [], (name, nasty[:20]))
+            for name in ('from', 'to', 'before'):
+                with self.assertRaises(BadQuestion):
+                    self.found(**{name: nasty})
+        self.assertEqual(self.found(other='x'), [4, 3, 2, 1])
+
+    def test_a_question_that_takes_too_long(self) -> None:
+        """It is ended, and others may write meanwhile."""
+        rows = [(f'{"x" * 50} {number}',) for number in range(50_000)]
+        base = self.record._base
+        base.execute('BEGIN')
+        at = '2026-11-30T00:00:00.000Z'
+        line = f"INSERT INTO events (at, kind, what, words, cause) VALUES ('{at}', '', '', ?, '')"
+        base.executemany(line, rows)
+        base.execute('COMMIT')
+        begun = time.monotonic()
+        with mock.patch.object(entries, 'SECONDS', -1.0), mock.patch.object(entries, 'STEPS', 100):
+            with self.assertRaises(BadQuestion) as failed:
+                self.found(text='no such word')
+        self.assertIn('too long', str(failed.exception))
+        self.assertLess(time.monotonic() - begun, 30)
+        self.assertEqual(self.found(text='x 49999'), [4 + 50_000])
+
+
+class Asked(Watching):
+    def test_by_the_board(self) -> None:
+        """A page of entries, a file, and a refusal; other sites are refused as with all."""
+        self.desk.correct_load('L2', 'R1', 'B')
+        self.said('L2 was corrected or counted: it is at B, it was at A')
+        status, _, told = self.board.ask('GET', '/record?load=L2')
+        self.assertEqual(status, 200)
+        (event,) = json.loads(told)['events']
+        self.assertEqual(
+            (event['what'], event['before'], event['after']),
+            ('load.moved', 'station A', 'station B'),
+        )
+        status, headers, told = self.board.ask('GET', '/record.csv?load=L2')
+        self.assertEqual((status, headers['Content-Type']), (200, 'text/csv; charset=utf-8'))
+        self.assertEqual(len(told.decode().splitlines()), 2)
+        self.assertEqual(self.board.ask('GET', '/record?before=x')[0], 400)
+        for headers in ({'Host': 'evil.example'}, {'Sec-Fetch-Site': 'cross-site'}):
+            for path in ('/record', '/record.csv'):
+                self.assertIn(self.board.ask('GET', path, None, headers)[0], (403, 421))
+
+
+@unittest.skipIf(LACKING is not None, LACKING or '')
+class OnThePage(Page):
+    def test_it_is_found(self) -> None:
+        """By a word and by a thing; with its cause; and what comes meanwhile is found too."""
+        self.desk.correct_load('L2', 'R1', 'B')
+        self.browser.click('#tab-events')
+        moved = 'L2 was corrected or counted: it is at B, it was at A'
+        self.sees('#events', moved, 'by another client of the desk, call: correct or stocktake')
+        self.desk.register_load('L7', 'A')
+        self.sees('#events', 'L7 is registered at A')
+        self.browser.write('#find-thing', 'L2')
+        self.misses('#events .events', 'L7')
+        self.sees('#events', moved)
+        self.assertIn('thing=L2', self.browser.value('#events .file', 'href') or '')
+        self.desk.leave_load('L2', 'R2')
+        self.sees('#events .events', 'L2 has left, it was at B')
+        self.browser.write('#find-text', 'no such thing')
+        self.sees('#events', 'Nothing was found.')
+
+    def test_older_entries(self) -> None:
+        """The page has the last; older ones come page by page."""
+        for number in range(260):
+            self.desk.register_load(f'X{number:03d}')
+        self.sees('#tab-stock', '262')
+        self.browser.click('#tab-events')
+        self.sees('#events .events', 'X259 is registered')
+        self.misses('#events .events', 'X002 is registered')
+        self.browser.press('Older entries', '#events')
+        self.sees('#events .events', 'X002 is registered', 'X259 is registered')
+        count = 'return document.querySelectorAll("#events .event").length'
+        self.assertEqual(self.browser.run(count), 260)
+
+
+def load_tests(
+    loader: unittest.TestLoader, _: unittest.TestSuite, __: str | None
+) -> unittest.TestSuite:
+    """`Watching` and `Page` have no tests of their own."""
+    suite = unittest.TestSuite()
+    for case in (Finds, Asked, OnThePage):
+        suite.addTests(loader.loadTestsFromTestCase(case))
+    return suite
+
+
+if __name__ == '__main__':
+    unittest.main()

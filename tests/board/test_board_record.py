@@ -1,0 +1,330 @@
+"""What the record says of each kind of change, compared with what was done: the followers of the
+board take the answers of a desk that is made up, and each entry names the things, the cause and its
+call, old and new."""
+
+from __future__ import annotations
+
+import unittest
+from dataclasses import replace
+from typing import Any
+
+from tests.support.board_follow import BEGUN, ORDER, UNSEEN, VEHICLE, Followed, vehicle
+from nulvrader.board.causes import Calls
+from nulvrader.board.command_log import Command
+from nulvrader.board.commands import COMMANDS, event_of
+from nulvrader.board.events import Cause
+from nulvrader.board.news import GAP
+from nulvrader.desk.client import Job
+from nulvrader.desk.refusals import BY_NAME
+
+
+class Loads(Followed):
+    def test_calls_of_others(self) -> None:
+        """A load is registered, corrected or counted, and leaves."""
+        self.look(L2='checking')
+        words = 'L2 is registered at the checking place'
+        self.told(('load.registered', words, ('client', 'register')))
+        self.look(L2='station B')
+        words = 'L2 was corrected or counted: it is at B, it was at the checking place'
+        self.told(('load.moved', words, ('client', 'correct or stocktake')))
+        self.look(L2='left')
+        self.told(('load.left', 'L2 has left, it was at B', ('client', 'leave')))
+
+    def test_commands_of_this_board(self) -> None:
+        """Each names its call, and the row of the command has who gave it."""
+        number = self.person('register', load='L2', station='B')
+        self.look(L2='station B')
+        (entry,) = self.entries()
+        self.assertEqual((entry['who'], entry['command']), ('anna', number))
+        self.told(('load.registered', 'L2 is registered at B', ('person', 'register')))
+        self.person('correct', load='L2', station='C', ref='R1')
+        self.look(L2='station C')
+        words = 'L2 was corrected by hand: it is at C, it was at B'
+        self.told(('load.corrected', words, ('person', 'correct')))
+        self.person('stocktake', ref='R2', file='station,load\nB,L2\n')
+        self.look(L2='station B')
+        words = 'L2 was counted: it is at B, it was at C'
+        self.told(('load.counted', words, ('person', 'stocktake')))
+        self.person('leave', load='L2', ref='R3')
+        self.look(L2='left')
+        self.told(('load.left', 'L2 has left, it was at B', ('person', 'leave')))
+
+    def test_a_command_that_was_refused_has_caused_nothing(self) -> None:
+        self.news.calls.sent(7, 'anna', 'correct', {'load': 'L1', 'station': 'C'}, self.news.at)
+        self.news.calls.ended(7, False, self.news.at)
+        self.look(L1='station C')
+        words = 'L1 was corrected or counted: it is at C, it was at A'
+        self.told(('load.moved', words, ('client', 'correct or stocktake')))
+
+    def test_a_correction_from_a_vehicle(self) -> None:
+        """After a cancel a load that is aboard is taken off by hand, even to where its job led: no
+        vehicle has dropped it."""
+        self.begin_order()
+        self.row = vehicle(**{**ORDER, 'seen': 0}, header=2)
+        self.look(L1='vehicle KIT/0001')
+        self.row = replace(self.row, pending='cancelOrder', header=3)
+        self.look()
+        self.row = vehicle(header=4)
+        self.jobs = {}
+        self.look()
+        self.record._put('DELETE FROM events')
+        self.look(L1='station B')
+        words = 'L1 was corrected by hand: it is at B, it was on KIT/0001'
+        self.told(('load.corrected', words, ('client', 'correct')))
+
+    def test_while_the_board_did_not_look(self) -> None:
+        self.row = vehicle(header=2, node='N2')
+        self.look(GAP + 5000, L1='station C', L2='checking')
+        words = 'L1 is at C, it was at A: it moved while the board did not look'
+        found = 'L2 is new, at the checking place: it came while the board did not look'
+        moved = 'KIT/0001 stands at node N2, it was at N1: it was placed, or carried an order out'
+        self.told(
+            ('load.unseen', words, UNSEEN),
+            ('load.found', found, UNSEEN),
+            ('vehicle.moved', f'{moved} between two looks', ('unseen', None)),
+        )
+
+    def test_an_order_between_two_looks(self) -> None:
+        """What may be either is not said to be one; a command of this board says which."""
+        self.row = vehicle(header=5, node='N2')
+        self.look()
+        moved = 'KIT/0001 stands at node N2, it was at N1: it was placed, or carried an order out'
+        self.told(('vehicle.moved', f'{moved} between two looks', ('client', 'place or order')))
+        self.person('place', vehicle='KIT/0001', node='N1', ref='R1')
+        self.row = vehicle(header=6, node='N1')
+        self.look()
+        placed = 'KIT/0001 was placed at node N1, it was at N2'
+        self.told(('vehicle.placed', placed, ('person', 'place')))
+
+
+class Jobs(Followed):
+    def setUp(self) -> None:
+        super().setUp()
+        self.jobs = {'J1': Job('J1', 'L1', 'A', 'B')}
+        self.look()
+
+    def begin_order(self) -> None:
+        super().begin_order()
+        self.record._put('DELETE FROM events')
+
+    def test_calls_of_others(self) -> None:
+        words = 'Job J1 waits: L1 from A to B'
+        self.told(('job.added', words, ('client', 'job')))
+        self.jobs = {}
+        self.look()
+        words = 'Job J1 is stopped while it waits: L1 to B'
+        self.told(('job.stopped', words, ('client', 'stop')))
+
+    def test_commands_of_this_board(self) -> None:
+        self.entries()
+        self.record._put('DELETE FROM events')
+        self.person('stop', job='J1')
+        self.jobs = {}
+        self.look()
+        words = 'Job J1 is stopped while it waits: L1 to B'
+        self.told(('job.stopped', words, ('person', 'stop')))
+        row = self.record.rows('SELECT outcome, cause, who FROM jobs')
+        self.assertEqual(row, [('stopped', 'person', 'anna')])
+
+    def test_a_transport(self) -> None:
+        self.told(('job.added', 'Job J1 waits: L1 from A to B', ('client', 'job')))
+        self.person('order', vehicle='KIT/0001', order='O1', stops='J1', edges='1')
+        super().begin_order()
+        begins = 'Order O1 of KIT/0001, 2 edges: pick L1 at A, drop L1 at B'
+        given = 'Job J1 rides on KIT/0001 by order O1: L1 to B'
+        self.told(
+            ('order.started', begins, ('person', 'order')),
+            ('job.given', given, ('person', 'order')),
+        )
+        self.row = replace(self.row, header=2)
+        self.look(L1='vehicle KIT/0001')
+        self.told(('load.picked', 'KIT/0001 picked L1 up at A', VEHICLE))
+        self.row = vehicle(node='N3', header=5)
+        self.jobs = {}
+        self.look(L1='station B')
+        self.told(
+            ('load.dropped', 'KIT/0001 dropped L1 at B', VEHICLE),
+            ('order.ended', 'Order O1 of KIT/0001 is over', VEHICLE),
+            ('job.done', 'Job J1 is done: L1 to B', VEHICLE),
+        )
+        times = 'added < began AND began < picked AND picked < dropped AND dropped <= ended'
+        rows = self.record.rows(f'SELECT outcome, cause, {times} FROM jobs')
+        self.assertEqual(rows, [('done', 'vehicle', 1)])
+
+    def test_a_cancel(self) -> None:
+        self.begin_order()
+        self.row = replace(self.row, pending='cancelOrder')
+        self.look()
+        told = 'KIT/0001 is told to cancel its order'
+        self.told(('vehicle.told', told, ('client', 'cancel')))
+        self.row, self.jobs = vehicle(header=2, astray=True, node='N2'), {}
+        self.look()
+        left = 'KIT/0001 left its order on the way, near N2: look where it stands, and place it'
+        done = 'KIT/0001 has done what it was told: to cancel its order'
+        stopped = 'Job J1 is stopped, as order O1 of KIT/0001 was cancelled: L1 to B'
+        self.told(
+            ('order.cancelled', 'Order O1 of KIT/0001 was cancelled', ('client', 'cancel')),
+            ('vehicle.astray', left, VEHICLE),
+            ('vehicle.obeyed', done, VEHICLE),
+            ('job.cancelled', stopped, ('client', 'cancel')),
+        )
+        self.person('place', vehicle='KIT/0001', node='N2', ref='R1')
+        self.row = vehicle(header=2, node='N2')
+        self.look()
+        placed = 'KIT/0001 was placed at node N2, it was at N2'
+        self.told(('vehicle.placed', placed, ('person', 'place')))
+
+    def test_a_place_ends_an_order(self) -> None:
+        """No state has come, so it was no vehicle that has ended it."""
+        self.begin_order()
+        self.row, self.jobs = vehicle(node='N2'), {}
+        self.look()
+        stopped = 'Job J1 is stopped, as KIT/0001 was placed by hand: L1 to B'
+        over = 'Order O1 of KIT/0001 ended, as it was placed by hand'
+        placed = 'KIT/0001 was placed at node N2, it was at N1'
+        self.told(
+            ('job.placed', stopped, ('client', 'place')),
+            ('order.placed', over, ('client', 'place')),
+            ('vehicle.placed', placed, ('client', 'place')),
+        )
+
+    def test_a_place_ends_one_order(self) -> None:
+        """An order that begins and ends soon after it has ended by itself."""
+        self.begin_order()
+        self.person('place', vehicle='KIT/0001', node='N1', ref='R1')
+        self.row, self.jobs = vehicle(), {}
+        self.look()
+        self.record._put('DELETE FROM events')
+        self.row = vehicle(**{**ORDER, 'order': 'O2'}, header=2)
+        self.look()
+        self.row = vehicle(node='N3', header=3)
+        self.look()
+        self.assertEqual(self.news.ends['O2'].how, 'ended')
+
+    def test_an_action_that_fails(self) -> None:
+        """The order has come to its end, and the load is still where it was."""
+        self.begin_order()
+        self.row, self.jobs = vehicle(node='N3', header=9), {}
+        self.look()
+        failed = 'Job J1 has failed on KIT/0001, whose order O1 is over: L1 to B'
+        self.told(
+            ('job.failed', failed, VEHICLE),
+            ('order.ended', 'Order O1 of KIT/0001 is over', VEHICLE),
+        )
+        self.assertEqual(self.record.rows('SELECT outcome FROM jobs'), [('failed',)])
+
+    def test_while_the_board_did_not_look(self) -> None:
+        self.begin_order()
+        self.row, self.jobs = vehicle(node='N3', header=9), {}
+        self.look(GAP + 5000)
+        words = 'Job J1 is stopped, while the board did not look: L1 to B'
+        over = 'Order O1 of KIT/0001 is over: it ended while the board did not look'
+        self.told(('job.unseen', words, UNSEEN), ('order.unseen', over, UNSEEN))
+
+
+class Vehicles(Followed):
+    def changed(self, *wanted: tuple[str, str, tuple[str, str | None]], **values: Any) -> None:
+        """The vehicle comes to be so, which is told so."""
+        self.row = replace(self.row, **values)
+        self.look()
+        self.told(*wanted)
+
+    def test_what_a_state_changes(self) -> None:
+        ready = ('vehicle.ready', 'KIT/0001 is ready', VEHICLE)
+        self.changed(
+            ('vehicle.unready', 'KIT/0001 is not ready any more', VEHICLE), ready=False, header=2
+        )
+        self.changed(ready, ready=True, header=3)
+        self.changed(('vehicle.paused', 'KIT/0001 has paused', VEHICLE), paused=True, header=4)
+        self.changed(('vehicle.resumed', 'KIT/0001 goes on', VEHICLE), paused=False, header=5)
+
+    def test_what_it_is_told_and_does(self) -> None:
+        """The end of an instant action is told by what the vehicle then is."""
+        self.person('pause', vehicle='KIT/0001')
+        told = ('vehicle.told', 'KIT/0001 is told to pause', ('person', 'pause'))
+        self.changed(told, pending='startPause')
+        paused = ('vehicle.paused', 'KIT/0001 has paused', VEHICLE)
+        done = ('vehicle.obeyed', 'KIT/0001 has done what it was told: to pause', VEHICLE)
+        self.changed(paused, done, pending=None, paused=True, header=2)
+        told = ('vehicle.told', 'KIT/0001 is told to go on', ('client', 'resume'))
+        self.changed(told, pending='stopPause')
+        words = 'KIT/0001 has not done what it was told: to go on'
+        self.changed(('vehicle.disobeyed', words, VEHICLE), pending=None, header=3)
+
+    def test_calls(self) -> None:
+        placed = 'KIT/0001 was placed at node N4, it was at N1'
+        self.changed(('vehicle.placed', placed, ('client', 'place')), node='N4')
+        words = 'The states of KIT/0001 are accepted again, whatever their number'
+        self.changed(('vehicle.resynced', words, ('client', 'resync')), header=None)
+
+    def test_states_that_do_not_come(self) -> None:
+        for _ in range(12):
+            self.look()
+        words = 'No state of KIT/0001 comes any more'
+        self.told(('vehicle.silent', words, ('board', None)))
+        words = 'A state of KIT/0001 has come again'
+        self.changed(('vehicle.heard', words, VEHICLE), header=7)
+
+
+class Refusals(unittest.TestCase):
+    VALUES = {
+        'vehicle': 'KIT/0001',
+        'vehicles': 'KIT/0001 KIT/0002',
+        'load': 'L7',
+        'station': 'C',
+        'to': 'C',
+        'job': 'J7',
+        'node': 'N7',
+        'ref': 'R7',
+        'order': 'O7',
+        'update': '7',
+        'edges': '3',
+        'stops': 'pick J7, drop J7',
+        'file': 'station,load\nC,L7\n',
+    }
+
+    def test_each_refusal_of_each_command(self) -> None:
+        """Its entry says the refusal, and names each thing that the command names."""
+        for name, kind in COMMANDS.items():
+            fields = [field.name for field in (*kind.fields, *kind.adds)]
+            values = {field: self.VALUES[field] for field in fields}
+            for refusal in BY_NAME.values():
+                told = {'done': False, 'text': f'{refusal.says}.', 'refusal': refusal.name}
+                command, cause = Command(1, 'anna', name, values), Cause('person', 'anna', name, 1)
+                words = event_of(command, 'refused', cause, told).words()
+                self.assertIn(f'{refusal.name}: {refusal.says}.', words)
+                for field in fields:
+                    if field not in ('file', 'update') and (field != 'ref' or 'file' in fields):
+                        self.assertIn(values[field].removeprefix('KIT/'), words, (name, field))
+
+    def test_a_load_without_a_station(self) -> None:
+        """It is at the checking place."""
+        values = {'load': 'L7', 'ref': 'R7'}
+        told = {'done': True, 'text': 'The place of L7 is corrected.'}
+        event = event_of(Command(1, '', 'correct', values), 'command', Cause('person'), told)
+        words = 'Record L7 at the checking place: The place of L7 is corrected.'
+        self.assertEqual(event.words(), words)
+
+
+class Causes(unittest.TestCase):
+    def test_for_how_long_a_command_is_a_cause(self) -> None:
+        """Half a minute from its answer, and while none has come; one that was refused never."""
+        calls = Calls()
+        calls.sent(1, 'anna', 'leave', {'load': 'L1'}, BEGUN)
+
+        def who(at: int) -> str | None:
+            return calls.cause(('leave',), lambda values: values['load'] == 'L1', at).who
+
+        self.assertEqual(who(BEGUN + 600_000), 'anna')
+        calls.ended(1, True, BEGUN + 1000)
+        self.assertEqual(who(BEGUN + 31_000), 'anna')
+        self.assertIsNone(who(BEGUN + 31_001))
+        calls.sent(2, 'bob', 'leave', {'load': 'L1'}, BEGUN)
+        calls.ended(2, False, BEGUN)
+        self.assertEqual(who(BEGUN + 1000), 'anna')
+        other = calls.cause(('leave',), lambda values: values['load'] == 'L2', BEGUN)
+        self.assertEqual(other, Cause('client', call='leave'))
+
+
+if __name__ == '__main__':
+    unittest.main()

@@ -1,0 +1,273 @@
+"""What needs a person: found anew each second from what the followers know, kept in the record with
+since when it is so and who has taken it on, and shown first on the page."""
+from __future__ import annotations
+
+import json
+import os
+import time
+from collections.abc import Iterator, Mapping
+from dataclasses import dataclass, field
+from typing import Any
+
+from ..common.layouts import Layout
+from .events import ABOUT, BOARD
+from .fleet import Fleet, Seen
+from .messages import say
+from .news import News
+from .record import moment_of
+from .stock import Stores
+from .words_keeper import Keeper
+
+EVERY = 1.0  # seconds from one look to the next
+SETTLE = (
+    2_500  # milliseconds, for which something is so that the desk's answers may show in between
+)
+SETTLES = ('aboard', 'action')  # the kinds of which that holds
+IN_THE_WAY = 60_000  # milliseconds that a vehicle waits for one that has no order
+BLOCKED = 300_000  # and for any other
+JUMP = 5.0  # seconds by which a clock is set that is an alarm
+JUMPED = 600_000  # milliseconds that it lasts
+FREE, PART = 200_000_000, 0.02  # bytes of the disk that are free, and the part of it, at least
+NAMES = 10  # that one alarm says
+
+
+@dataclass(frozen=True)
+class Found:
+    """Something that needs a person. `level` is `bad`, or `warn` where it is to be looked at; its
+    sentences are `alarm.KIND` and `alarm.KIND.do` of the table, with these values. `since` is the
+    moment from which on it is so, where that is known."""
+
+    key: str
+    kind: str
+    level: str
+    values: Mapping[str, Any] = field(default_factory=dict)
+    since: int | None = None
+
+    def about(self) -> dict[str, str | None]:
+        """The things that it is about."""
+        return {name: self.values.get(name) for name in ABOUT}
+
+    def words(self) -> str:
+        """What is so."""
+        return say(f'alarm.{self.kind}', self.values)
+
+    def todo(self) -> str:
+        """What to do."""
+        return say(f'alarm.{self.kind}.do', self.values)
+
+
+@dataclass
+class Alarm:
+    """An alarm that is in the record: the number of its row, what was found, since when, and who
+    has taken it on."""
+
+    number: int
+    found: Found
+    began: int
+    taken: tuple[str, int] | None = None
+
+
+class Alarms:
+    """The alarms that are open. `late` is how long a job may wait, in milliseconds."""
+
+    def __init__(self, news: News, late: int):
+        self.news, self.late = news, late
+        self.open: dict[str, Alarm] = {}
+        self.due = 0.0
+        self.begun = 0
+        self._first: dict[str, int] = {}  # when something was found that has to settle
+        self._offset: float | None = None
+        self._jump: tuple[int, int] | None = None  # when the clock was set, and by how many seconds
+        rows = news.record.rows(
+            'SELECT n, key, kind, level, more, began, taken_by, taken_at FROM alarms'
+            ' WHERE ended IS NULL'
+        )
+        for number, key, kind, level, more, began, who, at in rows:
+            found = Found(key, kind, level, json.loads(more), moment_of(began))
+            taken = None if who is None else (str(who), moment_of(at))
+            self.open[key] = Alarm(number, found, moment_of(began), taken)
+            self._show(self.open[key])
+
+    def turn(self, stores: Stores, fleet: Fleet, keeper: Keeper | None, layout: Layout) -> bool:
+        """Looks for what needs a person, where that is due. Whether it has looked."""
+        if time.monotonic() < self.due:
+            return False
+        self.due = time.monotonic() + EVERY
+        at = time.time_ns() // 1_000_000
+        self.begun = self.begun or at
+        found = {one.key: one for one in self._of_the_machine(at)}
+        desk = self.news.shown.get('desk', '')
+        has_looked = all(self.news.looked(kind) for kind in ('vehicles', 'jobs', 'stock'))
+        if desk is None or not desk['up'] or not has_looked:
+            kept = {key: one.found for key, one in self.open.items() if key not in MACHINE}
+            found = {**kept, **found}
+        else:
+            for one in self._of_the_plant(stores, fleet, keeper, layout, at):
+                found[one.key] = one
+        self._take(self._settled(found, at), at)
+        return True
+
+    def _settled(self, found: Mapping[str, Found], at: int) -> dict[str, Found]:
+        """What is found, without what may be so only between two answers of the desk."""
+        self._first = {key: self._first.get(key, at) for key in found}
+        return {
+            key: one
+            for key, one in found.items()
+            if key in self.open or one.kind not in SETTLES or at - self._first[key] >= SETTLE
+        }
+
+    def _take(self, found: Mapping[str, Found], at: int) -> None:
+        before, self.news.at = self.news.at, at
+        for key in self.open.keys() - found.keys():
+            self._end(self.open.pop(key))
+        for key, one in found.items():
+            alarm = self.open.get(key)
+            if alarm is None:
+                self.open[key] = alarm = self._begin(one)
+            elif alarm.found != one:
+                alarm.found = one
+                self._change(alarm)
+        question = 'SELECT n, taken_by, taken_at FROM alarms WHERE ended IS NULL'
+        taken = {number: (who, at) for number, who, at in self.news.record.rows(question)}
+        for alarm in self.open.values():
+            who, moment = taken.get(alarm.number, (None, None))
+            alarm.taken = None if who is None else (str(who), moment_of(moment))
+            self._show(alarm)
+        self.news.at = before
+
+    def _begin(self, found: Found) -> Alarm:
+        began = found.since or self.news.at
+        number = self.news.record.alarm(found, began)
+        self._tell('raised', found)
+        return Alarm(number, found, began)
+
+    def _change(self, alarm: Alarm) -> None:
+        self.news.record.change_alarm(alarm.number, alarm.found)
+
+    def _end(self, alarm: Alarm) -> None:
+        self.news.record.end_alarm(alarm.number, self.news.at)
+        self.news.shown.put('alarm', alarm.found.key, None)
+        self._tell('over', alarm.found)
+
+    def _tell(self, what: str, found: Found) -> None:
+        more = {**found.values, 'alarm': found.kind, 'key': found.key, 'level': found.level}
+        self.news.event(f'alarm.{what}', BOARD, found.about(), more=more)
+
+    def _show(self, alarm: Alarm) -> None:
+        found = alarm.found
+        told = {
+            'n': alarm.number,
+            'kind': found.kind,
+            'level': found.level,
+            'values': dict(found.values),
+            'words': found.words(),
+            'todo': found.todo(),
+            'since': alarm.began,
+            'taken': alarm.taken and {'who': alarm.taken[0], 'at': alarm.taken[1]},
+        }
+        self.news.shown.put('alarm', found.key, told)
+
+    def _of_the_machine(self, at: int) -> Iterator[Found]:
+        """The desk, the clock and the disk."""
+        desk = self.news.shown.get('desk', '')
+        if desk is not None and not desk['up']:
+            kind, values = 'other' if desk['other'] else 'desk', {'fault': desk['fault']}
+            yield Found('desk', kind, 'bad', values, desk['since'])
+        offset = time.time() - time.monotonic()
+        if self._offset is not None and abs(offset - self._offset) > JUMP:
+            self._jump = at, round(offset - self._offset)
+        self._offset = offset
+        if self._jump is not None and at < self._jump[0] + JUMPED:
+            yield Found('clock', 'clock', 'bad', {'seconds': self._jump[1]}, self._jump[0])
+        free = free_of(self.news.record.path)
+        if free is not None:
+            yield Found('disk', 'disk', 'bad', {'free': free})
+
+    def _of_the_plant(
+        self, stores: Stores, fleet: Fleet, keeper: Keeper | None, layout: Layout, at: int
+    ) -> Iterator[Found]:
+        for name, seen in fleet.seen.items():
+            yield from self._of_a_vehicle(name, seen)
+            loads = [load for load in fleet.loads.get(name, ()) if stores.jobs.of(load) is None]
+            if loads:
+                values = {'vehicle': name, 'load': loads[0], 'loads': loads, 'node': seen.row.node}
+                level = 'bad' if seen.row.order is None else 'warn'
+                yield Found(f'aboard {name}', 'aboard', level, values)
+        yield from self._of_words(fleet, keeper)
+        for circle in fleet.circles:
+            values = {'vehicle': circle[0], 'vehicles': circle}
+            yield Found(f'circle {" ".join(circle)}', 'circle', 'bad', values)
+        yield from self._of_waits(fleet, at)
+        yield from self._of_jobs(stores, at)
+        yield from self._of_stations(layout)
+
+    def _of_a_vehicle(self, name: str, seen: Seen) -> Iterator[Found]:
+        row, values = seen.row, {'vehicle': name, 'node': seen.row.node}
+        if row.astray:
+            yield Found(f'astray {name}', 'astray', 'bad', values)
+        elif seen.silent is not None:
+            yield Found(f'silent {name}', 'silent', 'bad', values, seen.silent)
+        elif row.header is not None and not row.ready:
+            why = self.news.reasons.get(name) or []
+            kind = 'unready' if why else 'unready.unknown'
+            yield Found(
+                f'unready {name}', kind, 'bad', {**values, 'why': ', '.join(why)}, seen.unready
+            )
+
+    def _of_words(self, fleet: Fleet, keeper: Keeper | None) -> Iterator[Found]:
+        """Actions that have failed, and batteries that are low."""
+        for name, said in keeper.said.items() if keeper is not None else ():
+            seen = fleet.seen.get(name)
+            if seen is None:
+                continue
+            for one in said.words.failed or ():
+                if one.action in self.news.failures:
+                    values = {'vehicle': name, 'action': one.action, 'type': one.type}
+                    values |= {'result': one.result, 'node': seen.row.node}
+                    yield Found(f'action {name} {one.action}', 'action', 'bad', values)
+            if said.is_low and not said.words.charging:
+                values = {'vehicle': name, 'node': seen.row.node}
+                yield Found(f'battery {name}', 'battery', 'warn', values)
+
+    def _of_waits(self, fleet: Fleet, at: int) -> Iterator[Found]:
+        """Vehicles that have waited for long for another one, which may have no order."""
+        for name, wait in fleet.waits.items():
+            since, holder = fleet.waits_since[name], fleet.seen.get(wait.by)
+            is_shut = holder is not None and holder.row.order is None
+            if not wait.stands or at - since < (IN_THE_WAY if is_shut else BLOCKED):
+                continue
+            values = {'vehicle': name, 'by': wait.by, 'thing': ' '.join(wait.thing)}
+            kind, level = ('shut', 'bad') if is_shut else ('blocked', 'warn')
+            yield Found(f'wait {name}', kind, level, values, since)
+
+    def _of_jobs(self, stores: Stores, at: int) -> Iterator[Found]:
+        for job in stores.jobs.live.values():
+            since = job.added or self.begun
+            if job.phase == 'waiting' and at - since >= self.late:
+                values = {'job': job.name, 'load': job.load, 'station': job.target}
+                yield Found(f'late {job.name}', 'late', 'warn', values, since)
+
+    def _of_stations(self, layout: Layout) -> Iterator[Found]:
+        """The stations in which no place is free, all in one alarm."""
+        full = []
+        for name, station in layout.stations.items():
+            row = self.news.shown.get('station', name)
+            if row is not None and row['taken'] >= station.capacity:
+                full.append(name)
+        if full:
+            more = f' (+{len(full) - NAMES})' if len(full) > NAMES else ''
+            values = {'stations': ', '.join(full[:NAMES]) + more, 'count': len(full)}
+            yield Found('full', 'full', 'warn', {**values, 'station': full[0]})
+
+
+MACHINE = ('desk', 'clock', 'disk')  # the keys of what is of the machine
+
+
+def free_of(path: str) -> str | None:
+    """How much of a disk is free, where that is too little: `120 MB`."""
+    try:
+        told = os.statvfs(os.path.dirname(os.path.abspath(path)))
+    except OSError:
+        return None
+    free, whole = told.f_bavail * told.f_frsize, told.f_blocks * told.f_frsize
+    return f'{free // 1_000_000} MB' if free < min(FREE, whole * PART) else None

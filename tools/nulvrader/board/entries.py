@@ -1,0 +1,117 @@
+"""The entries of the record that a page or a file asks for: searched, filtered, page by page, over
+a connection of its own, so that nobody who writes waits for it."""
+from __future__ import annotations
+
+import contextlib
+import csv
+import io
+import re
+import sqlite3
+import time
+from collections.abc import Iterator, Mapping, Sequence
+from typing import Any
+
+from .record import EVENT, entry_of, opened, text_of
+
+PAGE, FILE = 200, 50_000  # rows of a page and of a file, at most
+SECONDS = 5.0  # for which one question may last
+STEPS = 10_000  # of SQLite from one look at the time to the next
+LONG = 100  # characters of what is looked for
+EQUAL = ('vehicle', 'load', 'job', 'station', 'kind', 'cause', 'who')
+THING = ('vehicle', 'load', 'job', 'order_name', 'station', 'node')
+TIME = re.compile(r'[0-9]{4}-[0-9]{2}-[0-9]{2}(T[0-9]{2}:[0-9]{2}(:[0-9]{2}(\.[0-9]{1,3})?)?Z?)?')
+FORMULA = re.compile('[=+@\t\r-]')  # how what a table of numbers would compute begins
+
+
+class BadQuestion(ValueError):
+    """What is asked for is none of the filters, or a value of one is wrong. Its `str()` is a
+    sentence."""
+
+
+def conditions(asked: Mapping[str, str]) -> tuple[list[str], list[Any]]:
+    """What the rows have to be, in SQL, and its values. `thing` is the name of anything that an
+    entry is about, `text` a part of its sentence, `from` and `to` are times in UTC, or milliseconds
+    since 1970, and `before` is the number of an entry."""
+    rows: list[str] = []
+    values: list[Any] = []
+    for name in EQUAL:
+        if asked.get(name):
+            rows.append(f'{name} = ?')
+            values.append(asked[name][:LONG])
+    if asked.get('thing'):
+        thing = asked['thing'][:LONG]
+        ends = [f'{name} = ?' for name in (*THING, 'before', 'after')]
+        rows.append(f'({" OR ".join(ends)} OR before = ? OR after = ?)')
+        values += [thing] * len(ends) + [f'station {thing}'] * 2
+    if asked.get('text'):
+        rows.append('instr(lower(words), lower(?)) > 0')
+        values.append(asked['text'][:LONG])
+    for name, sign in (('from', '>='), ('to', '<')):
+        if asked.get(name):
+            rows.append(f'at {sign} ?')
+            values.append(time_of(asked[name]))
+    if asked.get('before'):
+        if not re.fullmatch('[0-9]{1,18}', asked['before']):
+            raise BadQuestion('before is no number of an entry.')
+        rows.append('n < ?')
+        values.append(int(asked['before']))
+    return rows, values
+
+
+def time_of(text: str) -> str:
+    """A time as the record has it."""
+    if re.fullmatch('[0-9]{1,15}', text) and int(text) < 4_102_444_800_000:
+        return text_of(int(text))
+    if TIME.fullmatch(text):
+        return text.rstrip('Z')
+    raise BadQuestion('A time is written 2026-11-28T06:15:00Z.')
+
+
+@contextlib.contextmanager
+def reading(path: str) -> Iterator[sqlite3.Connection]:
+    """A connection that only reads, and on which no question lasts longer than it may."""
+    base = opened(path)
+    try:
+        base.execute('PRAGMA query_only = 1')
+        ends = time.monotonic() + SECONDS
+        base.set_progress_handler(lambda: int(time.monotonic() > ends), STEPS)
+        yield base
+    except sqlite3.OperationalError as fault:
+        if 'interrupted' in str(fault):
+            raise BadQuestion('This takes too long: ask for less, as by a time.') from None
+        raise
+    finally:
+        base.close()
+
+
+def found(path: str, asked: Mapping[str, str], most: int) -> list[tuple[Any, ...]]:
+    """The newest rows that are asked for, by `EVENT`, the newest first."""
+    rows, values = conditions(asked)
+    where = f' WHERE {" AND ".join(rows)}' if rows else ''
+    question = f'SELECT {", ".join(EVENT)} FROM events{where} ORDER BY n DESC LIMIT ?'
+    with reading(path) as base:
+        return base.execute(question, (*values, most)).fetchall()
+
+
+def page_of(path: str, asked: Mapping[str, str]) -> dict[str, Any]:
+    """A page of entries, the newest first; `older` says that there are more before them."""
+    rows = found(path, asked, PAGE + 1)
+    return {'events': [entry_of(row) for row in rows[:PAGE]], 'older': len(rows) > PAGE}
+
+
+def csv_of(path: str, asked: Mapping[str, str]) -> bytes:
+    """The entries as CSV, the newest first, at most `FILE`: those before them are asked for by
+    `before`. What another program would compute is a text there."""
+    file = io.StringIO()
+    writer = csv.writer(file)
+    writer.writerow(EVENT)
+    for row in found(path, asked, FILE):
+        writer.writerow(plain(row))
+    return file.getvalue().encode()
+
+
+def plain(row: Sequence[Any]) -> list[Any]:
+    """The values of a row; a text that begins as a formula has an apostrophe before it."""
+    return [
+        f"'{value}" if isinstance(value, str) and FORMULA.match(value) else value for value in row
+    ]

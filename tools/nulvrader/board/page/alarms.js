@@ -1,0 +1,139 @@
+// What needs a person, first of all on the page: since when, what to do, and who has taken it on.
+
+import { button, el, keyed, part, set, show, text } from './dom.js';
+import { say } from './messages.js';
+import { clock, day, span } from './words.js';
+
+const NAME = 'board.name'; // what is kept of who looks here, where no proxy names them
+const SOUND = 'board.sound';
+const TITLE = say('page.title');
+
+/** What the browser keeps of this page, or nothing where it keeps none. */
+function kept(name) {
+  try {
+    return localStorage.getItem(name) ?? '';
+  } catch {
+    return '';
+  }
+}
+
+function keep(name, value) {
+  try {
+    localStorage.setItem(name, value);
+  } catch {
+    // it is asked again next time
+  }
+}
+
+export class Alarms {
+  /** `view` picks things; `ask(path, body)` asks the board. */
+  constructor(root, view, ask) {
+    Object.assign(this, { root, view, ask });
+    this.list = el('ul', {});
+    this.name = el('input', {
+      id: 'my-name', type: 'text', maxlength: 64, autocomplete: 'name', value: kept(NAME),
+      oninput: () => keep(NAME, this.name.value.trim()),
+    });
+    this.who = el('p', { class: 'who', hidden: true }, el('label', { for: 'my-name' }, say('alarms.name')), this.name);
+    this.fault = part('p', 'answer failed');
+    this.fault.hidden = true;
+    this.spoken = el('p', { class: 'spoken', role: 'alert' }); // what is new, for those who hear the page
+    root.append(this.list, this.who, this.fault);
+    root.after(this.spoken);
+    this.known = null; // the alarms of the last time, until the first time
+    this.sound = null;
+  }
+
+  /** The button that switches the sound on and off. */
+  soundButton() {
+    const made = button('', () => {
+      this.isLoud = !this.isLoud;
+      keep(SOUND, this.isLoud ? 'on' : '');
+      this.drawSound(made);
+      if (this.isLoud) this.beep();
+    }, { class: 'sound' });
+    this.isLoud = kept(SOUND) === 'on';
+    this.drawSound(made);
+    return made;
+  }
+
+  drawSound(made) {
+    set(made, 'aria-pressed', String(this.isLoud));
+    text(made, say(this.isLoud ? 'alarms.loud' : 'alarms.quiet'));
+  }
+
+  beep() {
+    try {
+      this.sound ??= new AudioContext();
+      const tone = this.sound.createOscillator();
+      const loud = this.sound.createGain();
+      loud.gain.value = 0.1;
+      tone.frequency.value = 880;
+      tone.connect(loud).connect(this.sound.destination);
+      tone.start();
+      tone.stop(this.sound.currentTime + 0.3);
+    } catch {
+      // there is no sound here
+    }
+  }
+
+  /** Brings the list up to date. `own` are the alarms that the page itself has found. */
+  update(store, own) {
+    const rank = (row) => (row.level === 'bad' ? 0 : 1) + (row.taken ? 0.5 : 0);
+    const rows = [...own, ...[...store.kind('alarm')].map(([key, alarm]) => ({ key, ...alarm }))];
+    rows.sort((one, other) => rank(one) - rank(other) || one.since - other.since);
+    keyed(this.list, rows, (row) => this.made(row), (item, row) => this.change(item, row, store));
+    const bad = rows.filter((row) => row.level === 'bad');
+    const title = bad.length ? `▲ ${bad.length} · ${TITLE}` : TITLE;
+    if (document.title !== title) document.title = title;
+    set(document.querySelector('link[rel=icon]'), 'href', bad.length ? 'alarm.svg' : 'icon.svg');
+    const keys = new Set(bad.map((row) => row.key));
+    const fresh = bad.filter((row) => !this.known?.has(row.key));
+    if (fresh.length) text(this.spoken, fresh.map((row) => this.wordsOf(row)).join('. '));
+    if (this.known && this.isLoud && fresh.length) this.beep();
+    this.known = keys;
+  }
+
+  made(row) {
+    const take = () => this.take(this.rows.get(row.key));
+    return el('li', {},
+      button('', () => this.pick(this.rows.get(row.key)), { class: 'plain what' }),
+      part('span', 'since'), part('span', 'todo'), part('span', 'taken'),
+      button('', take, { class: 'take' }));
+  }
+
+  change(item, row, store) {
+    (this.rows ??= new Map()).set(row.key, row);
+    set(item, 'class', `${row.level}${row.taken ? ' taken' : ''}`);
+    const [what, since, todo, taken, take] = item.children;
+    text(what, this.wordsOf(row));
+    text(since, row.since ? say('since', { clock: clock(row.since), span: span(store.now() - row.since) }) : '');
+    set(since, 'title', row.since ? day(row.since) : null);
+    text(todo, row.n ? say(`alarm.${row.kind}.do`, row.values) : row.todo ?? '');
+    text(taken, row.taken ? say('alarms.taken', { who: row.taken.who, clock: clock(row.taken.at) }) : '');
+    text(take, say(row.taken ? 'alarms.leave' : 'alarms.take'));
+    show(take, Boolean(row.n) && this.view.mayCommand);
+  }
+
+  /** What is so. */
+  wordsOf(row) {
+    return row.n ? say(`alarm.${row.kind}`, row.values) : row.words;
+  }
+
+  pick(row) {
+    const { vehicle, load, station } = row.values ?? {};
+    if (vehicle) this.view.pick('vehicle', vehicle);
+    else if (load) this.view.pick('load', load);
+    else if (station) this.view.pick('station', station);
+  }
+
+  /** Takes an alarm on, or has it no more. Where no proxy says who it is the name is asked once. */
+  async take(row) {
+    const told = await this.ask('take', { alarm: row.n, take: !row.taken, name: this.name.value.trim() });
+    const unnamed = Boolean(told.fault) && !this.name.value.trim();
+    show(this.who, unnamed);
+    text(this.fault, told.fault ?? '');
+    show(this.fault, Boolean(told.fault));
+    if (unnamed) this.name.focus();
+  }
+}

@@ -1,0 +1,213 @@
+"""Follows what vehicles say of themselves: the last words of each are kept and shown, and each
+change of what matters is an entry of the record, within bounds."""
+from __future__ import annotations
+
+import json
+from collections.abc import Iterator, Mapping, Sequence
+from dataclasses import asdict, dataclass, field, replace
+from typing import Any
+
+from .events import BOARD, VEHICLE
+from .news import News
+from .record import moment_of
+from .vehicle_words import Error, Failed, Words
+
+KEEP = 10_000  # milliseconds from one writing of words that say nothing new to the next
+SPAN, MOST = 600_000, 60  # in so many milliseconds so many entries of a vehicle at most
+STEP = 5.0  # percent of a battery, from one row to the next
+LOW, ENOUGH = 20.0, 30.0  # percent: below it is low, and above it is not low any more
+COLUMNS = ('mode', 'stop', 'field', 'battery', 'charging', 'map', 'connection')
+TEXTS = ('type', 'level', 'text', 'hint')  # of an error
+NOTHING = Words(mode='AUTOMATIC', stop='NONE', field=False, errors=(), failed=())
+
+
+@dataclass
+class Said:
+    """What is known of a vehicle's words: the last ones, their moment, since when things are so, by
+    their names, when they were kept last, the battery of the last row, whether it is low, and how
+    many entries there were since a moment."""
+
+    words: Words = NOTHING
+    at: int = 0
+    since: dict[str, int] = field(default_factory=dict)
+    kept: int = 0
+    battery: float | None = None
+    is_low: bool = False
+    begun: int = 0
+    count: int = 0
+
+
+def name_of(error: Error) -> str:
+    """The name of an error among those of a vehicle."""
+    return ' '.join(('error', error.type, error.level, *error.refers))
+
+
+class Keeper:
+    """The last words of each vehicle, those of an earlier run too."""
+
+    def __init__(self, news: News):
+        self.news = news
+        self.said: dict[str, Said] = {}
+        names = ('vehicle', 'at', *COLUMNS, 'x', 'y', 'errors', 'failed', 'since')
+        for row in news.record.rows(f'SELECT {", ".join(names)} FROM vehicle_words'):
+            self._restore(dict(zip(names, row)))
+
+    def _restore(self, row: Mapping[str, Any]) -> None:
+        rows = json.loads(row['errors'])
+        errors = [replace(Error(*map(one.get, TEXTS)), refers=tuple(one['refers'])) for one in rows]
+        values = {name: row[name] for name in COLUMNS}
+        for name in ('field', 'charging'):
+            values[name] = None if values[name] is None else bool(values[name])
+        position = None if row['x'] is None or row['y'] is None else (row['x'], row['y'])
+        failed = tuple(Failed(**one) for one in json.loads(row['failed']))
+        words = Words(**values, position=position, errors=tuple(errors), failed=failed)
+        for one in failed:  # those that were told: their alarms are open
+            key = f'action {row["vehicle"]} {one.action}'
+            if self.news.record.rows(
+                'SELECT 1 FROM alarms WHERE ended IS NULL AND key = ?', (key,)
+            ):
+                self.news.fails_action(one.action, one.result)
+        at, since = moment_of(row['at']), json.loads(row['since'])
+        is_low = words.battery is not None and words.battery < LOW
+        self.said[row['vehicle']] = Said(words, at, since, at, words.battery, is_low)
+        self._show(row['vehicle'])
+
+    def take(self, heard: Mapping[str, Sequence[Words]], known: Sequence[str], at: int) -> None:
+        """What was heard of the vehicles of the desk, at a moment."""
+        before, self.news.at = self.news.at, at
+        for vehicle in known:
+            for words in heard.get(vehicle, ()):
+                self._take(vehicle, words)
+        self.news.at = before
+
+    def _take(self, vehicle: str, told: Words) -> None:
+        said, at = self.said.setdefault(vehicle, Said()), self.news.at
+        before, words = said.words, told.over(said.words)
+        changes = list(changes_of(before, words))
+        for what, old, new, more in changes:
+            self._tell(vehicle, said, what, (old, new), more)
+        self._note_since(said, words)
+        said.words, said.at = words, at
+        self._charge(vehicle, said)
+        is_more = before != words and (bool(changes) or before.position == words.position)
+        if is_more or at >= said.kept + KEEP:
+            said.kept = at
+            self.news.record.words(at, vehicle, row_of(said))
+            self._show(vehicle)
+
+    def _tell(
+        self, vehicle: str, said: Said, what: str, values: tuple[Any, Any], more: Mapping[str, Any]
+    ) -> None:
+        """An entry of a change, unless there were too many of this vehicle: then one says so."""
+        if what == 'action' and self._is_cancelled(more['id']):
+            return
+        if what == 'action':
+            self.news.fails_action(more['id'], more['result'])
+        at = self.news.at
+        if at >= said.begun + SPAN:
+            said.begun, said.count = at, 0
+        said.count += 1
+        about = {'vehicle': vehicle}
+        if said.count > MOST:
+            if said.count == MOST + 1:
+                self.news.event('said.many', BOARD, about, more={'minutes': SPAN // 60_000})
+            return
+        before, after = (None if value is None else str(value) for value in values)
+        self.news.event(f'said.{what}', VEHICLE, about, before=before, after=after, more=more)
+
+    def _is_cancelled(self, action: str) -> bool:
+        """Whether an action is of an order that was cancelled, whose actions all end as failed."""
+        order = action.rpartition('.')[0]
+        end = self.news.ends.get(order)
+        return order in self.news.cancelling or (end is not None and end.how != 'ended')
+
+    def _note_since(self, said: Said, words: Words) -> None:
+        """Notes since when things are as they are."""
+        now = {
+            'mode': words.mode != said.words.mode,
+            'stop': words.stop != said.words.stop,
+            'field': words.field != said.words.field,
+        }
+        for name, is_new in now.items():
+            if is_new or name not in said.since:
+                said.since[name] = self.news.at
+        errors = {name_of(error) for error in words.errors or ()}
+        for name in errors - said.since.keys():
+            said.since[name] = self.news.at
+        for name in said.since.keys() - errors - now.keys():
+            del said.since[name]
+
+    def _charge(self, vehicle: str, said: Said) -> None:
+        """The battery, in rows of five percent; an entry where it comes to be low, or is so no
+        more."""
+        charge, about = said.words.battery, {'vehicle': vehicle}
+        if charge is None:
+            return
+        if said.battery is None or abs(charge - said.battery) >= STEP:
+            said.battery = charge
+            self.news.record.battery(self.news.at, vehicle, charge, said.words.charging)
+        is_low = charge < (ENOUGH if said.is_low else LOW)
+        if is_low != said.is_low:
+            said.is_low = is_low
+            what = 'said.battery.low' if is_low else 'said.battery.enough'
+            self.news.event(what, VEHICLE, about, after=f'{charge:g}')
+
+    def _show(self, vehicle: str) -> None:
+        said = self.said[vehicle]
+        words, since = said.words, said.since
+        errors = [
+            {**asdict(error), 'since': since.get(name_of(error))} for error in words.errors or ()
+        ]
+        self.news.reasons[vehicle] = words.reasons()
+        told = {
+            **{name: getattr(words, name) for name in COLUMNS},
+            'position': words.position,
+            'errors': errors,
+            'failed': [asdict(one) for one in words.failed or ()],
+            'since': {name: since[name] for name in ('mode', 'stop', 'field') if name in since},
+            'low': said.is_low,
+            'at': said.at,
+        }
+        self.news.shown.put('said', vehicle, told)
+
+
+Change = tuple[str, Any, Any, Mapping[str, Any]]
+
+
+def changes_of(before: Words, words: Words) -> Iterator[Change]:
+    """What has changed that matters: its name, how it was, how it is, and what else there is to
+    say."""
+    for name in ('mode', 'stop', 'connection'):
+        old, new = getattr(before, name), getattr(words, name)
+        if old != new and (name != 'connection' or old is not None or new != 'ONLINE'):
+            yield name, old, new, {}
+    if before.field != words.field:
+        yield f'field.{"on" if words.field else "off"}', None, None, {}
+    old_errors = {name_of(error): error for error in before.errors or ()}
+    new_errors = {name_of(error): error for error in words.errors or ()}
+    for name, error in new_errors.items():
+        if name not in old_errors:
+            yield 'error', None, error.words(), asdict(error)
+    for name, error in old_errors.items():
+        if name not in new_errors:
+            yield 'cleared', error.words(), None, asdict(error)
+    known = {one.action for one in before.failed or ()}
+    for one in words.failed or ():
+        if one.action not in known:
+            yield 'action', None, None, {'id': one.action, 'type': one.type, 'result': one.result}
+
+
+def row_of(said: Said) -> dict[str, Any]:
+    """The values of `vehicle_words`."""
+    words = said.words
+    flags = {name: getattr(words, name) for name in ('field', 'charging')}
+    x, y = words.position or (None, None)
+    return {
+        **{name: getattr(words, name) for name in COLUMNS},
+        **{name: None if value is None else int(value) for name, value in flags.items()},
+        'x': x,
+        'y': y,
+        'errors': json.dumps([asdict(error) for error in words.errors or ()]),
+        'failed': json.dumps([asdict(one) for one in words.failed or ()]),
+        'since': json.dumps(said.since),
+    }
