@@ -7,7 +7,8 @@ import unittest
 
 from nulvrader.dispatch.lanes import Ground
 from nulvrader.dispatch.deadlock import Floor, after_release, along, finishing, look
-from nulvrader.dispatch.traffic import Judge, Traffic
+from nulvrader.dispatch.judge import Judge
+from nulvrader.dispatch.traffic import Traffic
 from nulvrader.dispatch.routes import Ways
 from simulation.floors import large
 from tests.support.ways import CASES, PLENTY, random_case

@@ -9,7 +9,8 @@ from nulvrader.desk.client import Desk
 from nulvrader.dispatch.dispatcher import Dispatcher
 from nulvrader.dispatch.memory import Memory
 from nulvrader.dispatch.shut_in import BY_ITSELF, Course, ShutIn, is_on_course
-from nulvrader.dispatch.traffic import Judge, Still, Traffic
+from nulvrader.dispatch.judge import Judge
+from nulvrader.dispatch.traffic import Still, Traffic
 from nulvrader.dispatch.routes import Ways
 from nulvrader.common.layouts import read_layout
 from nulvrader.common.names import VehicleKey
@@ -59,6 +60,8 @@ class Orders(OverADesk):
         self.assertRegex(self.turn()[0], '^KIT/0002: takes J3')
 
     def test_the_oldest_goes_first(self):
+        """Where an order takes no detour for another job."""
+        self.dispatcher.chooser.detour = 0
         self.turn()
         for key, node in ((ONE, 'ab'), (TWO, 'cb')):
             self.told(key, node, mode='MANUAL')
@@ -91,8 +94,9 @@ class Orders(OverADesk):
         self.assertEqual((self.place('L1'), self.place('L2')), ('station B', 'station B'))
 
     def test_a_drop_where_another_vehicle_stands(self):
-        """KIT/0001 stands at the pick, and KIT/0002 at the drop and has nothing to do: it is said
-        why the job waits. Once a job leads KIT/0002 away the first one begins too."""
+        """KIT/0001 stands at the pick, and KIT/0002 at the drop and is in manual mode: it is said
+        why the job waits. Once KIT/0002 is ready it is led away, and the job begins."""
+        self.told(TWO, 'cb', mode='MANUAL')
         self.turn()
         self.desk.add_job('J1', 'L1', 'C')
         self.assertEqual(self.turn(), [])
@@ -103,10 +107,9 @@ class Orders(OverADesk):
                 ' at cb'
             ],
         )
-        self.desk.add_job('J3', 'L3', 'D')
-        lines = self.turn()
-        self.assertRegex(lines[0], '^KIT/0002: takes J3')
-        self.assertRegex(lines[1], '^KIT/0001: takes J1')
+        self.told(TWO, 'cb')
+        self.assertRegex(self.turn()[0], r'^KIT/0002: drives to db, by order \S+$')
+        self.assertRegex(self.turn()[0], '^KIT/0001: takes J1')
 
     def test_a_restart(self):
         """A dispatcher that is started anew goes on with the orders that are open."""
@@ -147,7 +150,21 @@ class Orders(OverADesk):
         self.assertRegex(lines[1], r'^KIT/0002: takes J2 \(L3 from C to D\), 3 edges')
         self.assertEqual((self.held(ONE), self.held(TWO)), (['a', 'ab', 'b'], ['c', 'cb', 'd']))
 
-    def line(self, *more, judge=None):
+    def test_a_drive_of_a_person(self):
+        """It is released further as any order, and has ended at its last node."""
+        self.turn()
+        self.desk.start_drive('G1', ONE, 'bb', 0)
+        self.assertEqual(self.turn(), ['KIT/0001: has order G1, a drive to bb'])
+        self.told(ONE, 'ab')
+        self.assertEqual(self.turn(), [])
+        self.assertEqual(self.held(ONE), ['a', 'ab', 'b'])
+        self.told(ONE, 'b', 4)
+        self.assertEqual(self.turn(), [])
+        self.told(ONE, 'bb', 6)
+        self.assertEqual(self.turn(), ['KIT/0001: order G1 has ended at bb'])
+        self.assertEqual(self.held(ONE), ['bb'])
+
+    def line(self, *more, judge=None, parking=None):
         """A desk on whose line a, b, c, d one vehicle is at either end, where loads stand at A and
         D, with its dispatcher, its vehicles' states and its lines. `more` are further rows of the
         layout."""
@@ -173,7 +190,12 @@ class Orders(OverADesk):
         return (
             desk,
             Dispatcher(
-                desk, read_layout(layout), judge=judge, say=lines.append, clock=lambda: self.now
+                desk,
+                read_layout(layout),
+                judge=judge,
+                parking=parking,
+                say=lines.append,
+                clock=lambda: self.now,
             ),
             told,
             lines,
@@ -220,8 +242,10 @@ class Orders(OverADesk):
 
     def test_orders_that_it_should_not_have_given(self):
         """One that starts whatever it can says that it has shut vehicles in by itself. In the same
-        turn another vehicle is placed."""
-        desk, dispatcher, told, lines = self.line('node,p,,', 'node,q,,', judge=Careless())
+        turn another vehicle is placed. No place is given where it could lead one away."""
+        desk, dispatcher, told, lines = self.line(
+            'node,p,,', 'node,q,,', judge=Careless(), parking=()
+        )
         third = VehicleKey('KIT', '0003')
         desk.register_vehicle(third, 'p')
         told(third, 'p', mode='MANUAL')
@@ -245,6 +269,19 @@ class Orders(OverADesk):
     def test_an_order_of_a_person_that_shuts_two_in(self):
         """KIT/0001 is under way from a to d and stands at c when a person places KIT/0002 at d and
         gives it an order to a."""
+
+        def order(desk):
+            desk.add_job('J2', 'L2', 'A')
+            desk.start_order('person-1', TWO, job='J2', edges=0)
+
+        self.check_cancels(order, 'of J2')
+
+    def test_a_drive_of_a_person_that_shuts_two_in(self):
+        """The person has it drive to a."""
+        self.check_cancels(lambda desk: desk.start_drive('person-1', TWO, 'a', 0), 'a drive to a')
+
+    def check_cancels(self, send, told_of):
+        """The order that a person sends to KIT/0002 is cancelled."""
         desk, dispatcher, told, lines = self.line('node,q,,')
 
         def place(node):
@@ -258,8 +295,7 @@ class Orders(OverADesk):
         self.assertTrue(dispatcher.turn())
         told(ONE, 'c', 4, 'f')
         place('d')
-        desk.add_job('J2', 'L2', 'A')
-        desk.start_order('person-1', TWO, job='J2', edges=0)
+        send(desk)
         told(TWO, 'd')
         for _ in range(8):
             self.assertTrue(dispatcher.turn())
@@ -267,8 +303,8 @@ class Orders(OverADesk):
         self.assertEqual(
             cancels,
             [
-                'KIT/0002: cancels order person-1, of J2: it and others block one another, since'
-                ' KIT/0002 goes on to a'
+                f'KIT/0002: cancels order person-1, {told_of}: it and others block one another,'
+                ' since KIT/0002 goes on to a'
             ],
         )
 

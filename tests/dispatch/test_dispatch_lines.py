@@ -18,6 +18,8 @@ from tests.support.desks import Serving, over_sockets
 
 @over_sockets
 class Lines(OverADesk):
+    places = ()
+
     def test_a_failed_drop_is_told(self):
         self.turn()
         self.desk.add_job('J1', 'L1', 'B')
@@ -306,6 +308,18 @@ class Lines(OverADesk):
         self.assertRegex(lines[0], r'^\d\d:\d\d:\d\d gives orders at ')
         self.assertRegex(lines[1], r'^\d\d:\d\d:\d\d KIT/0001: takes J1 \(L1 from A to B\)')
         self.assertIsNotNone(self.desk.vehicle(ONE).order)
+
+    def test_parking_places_that_are_none(self):
+        """The program ends with 2, and says where the file is wrong."""
+        path = os.path.join(self.folder.name, 'parking.csv')
+        words = [sys.executable, os.path.join(TOOLS, 'dispatch'), '--desk', self.address]
+        for text, told in ((None, 'No such file'), ('node,behind\nab,\nx,\n', 'line 3: ')):
+            if text is not None:
+                with open(path, 'w', encoding='ascii') as file:
+                    file.write(text)
+            done = subprocess.run([*words, '--parking', path], capture_output=True, text=True)
+            self.assertEqual(done.returncode, 2)
+            self.assertIn(told, done.stderr)
 
     def test_the_program_and_faults(self):
         """Faults of the desk, at its start and later, do not end the program."""

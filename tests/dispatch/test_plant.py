@@ -223,7 +223,7 @@ class WhyShutIn(unittest.TestCase):
     def test_one_that_was_so_before_a_start(self):
         """A dispatcher that was started anew says what the one before has said, also where the desk
         does not answer its first turn."""
-        made = mock.Mock()
+        made = mock.Mock(**{'plans.return_value': ()})
         plant = Plant(SMALL, mock.Mock(address='127.0.0.1:1', wire=Wire(1)), lambda *_: made)
         for turn, why, wanted in (
             (True, WHY, WHY),
@@ -311,6 +311,25 @@ class TheBench(unittest.TestCase):
                     (found, said.count('the dispatcher: ' + line), said.count('nobody knows why')),
                     (status, 2, status),
                 )
+
+    def test_waves(self):
+        """A calm run and one in which all goes wrong for each seed and size, and no other. They end
+        with their time, and have the jobs at once."""
+        plans = []
+
+        def run(_, plan, kind, say):
+            plans.append((plan.trouble == CALM, plan.seed, plan.habits.wave, plan.habits.jobs))
+            return Day(plan.limit, done=9, stands=TIME_OVER)
+
+        program = module('day', 'bench')
+        with mock.patch.multiple(program, run=run, end_by_signal=lambda: None):
+            words = ('--waves', '60', '300', '--every', '240', '--seeds', '4', '--hours', '1')
+            status, said = within(program, '--program', sys.executable, *words)[:2]
+        self.assertEqual(status, 0, said)
+        self.assertEqual(
+            plans, [(calm, 4, wave, 240.0) for wave in (60, 300) for calm in (True, False)]
+        )
+        self.assertEqual(said.count('| calm, waves of 300, seed 4 | 9 |'), 2)
 
     def test_how_long_vehicles_were_shut_in(self):
         """For a while nobody knows whether the look was only too short."""

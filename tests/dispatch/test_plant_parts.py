@@ -10,7 +10,7 @@ import unittest
 
 from nulvrader.desk.client import NoAnswer, Refused, Stop
 from nulvrader.common.names import VehicleKey
-from nulvrader.desk.questions import Wait
+from nulvrader.desk.questions import BlockedOrder as Wait
 from nulvrader.desk.reports import read_stock
 from simulation.clock import Clock
 from simulation.day import Day

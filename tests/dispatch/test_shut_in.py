@@ -3,7 +3,8 @@ import unittest
 
 from nulvrader.dispatch.memory import Memory
 from nulvrader.dispatch.shut_in import BY_ITSELF, ShutIn
-from nulvrader.dispatch.traffic import Judge, Still, Traffic
+from nulvrader.dispatch.judge import Judge
+from nulvrader.dispatch.traffic import Still, Traffic
 
 OUT = {'s1': ('s0',), 's2': ('s1', 's0'), 's3': ('s2', 's1', 's0')}
 AHEAD, BEHIND, OTHER = ('s2', 's3', 'x'), ('s1', 's2', 's3', 'y'), ('z', 's3', 's2', 's1', 's0')

@@ -7,7 +7,8 @@ from dataclasses import dataclass
 from ..desk.client import Stop
 from .job_book import Waiting
 from .snapshot import Seen
-from .traffic import Judge, Traffic
+from .judge import Judge
+from .traffic import Traffic
 from .routes import Ways
 
 JOBS = 30
@@ -21,11 +22,12 @@ vehicle may be started: those whose last look was longest ago, and of these the 
 KEPT = 20_000
 """Of so many pairs it is kept when they had their last look."""
 
-MORE = 1000
+MORE = 300
 """So many jobs are tried as further ones of an order, from the oldest on."""
 
-AGE = 10.0
-"""So many seconds that a job has waited count as an edge less to it."""
+AGE = 120.0
+"""A job that has waited for so many seconds counts as an edge nearer, and for n times as many as
+n * n edges: among new ones the nearest goes first, and none waits for ever."""
 
 
 @dataclass(frozen=True)
@@ -51,20 +53,21 @@ Try = tuple[Waiting, Seen, tuple[str, ...]]
 
 
 class Chooser:
-    """Chooses over one layout. `detour` is how many edges an order may become longer by each
-    further job that it takes along."""
+    """Chooses over one layout. `detour` is how many edges an order may become longer at most by
+    each further job that it takes along; it takes none by which it becomes as much longer as that
+    job would be alone."""
 
     def __init__(self, ways: Ways, judge: Judge, detour: int = 0) -> None:
         self.ways, self.judge, self.detour = ways, judge, detour
-        self._turn, self._left = 0, LOOKS
+        self._turn, self._left, self._now = 0, LOOKS, 0.0
         self._looked: dict[
             tuple[str, ...], int
         ] = {}  # the turn of the last look, by where the vehicle stands and where the job leads
         self._put_off: set[str] = set()  # the jobs that were not looked at
 
-    def begin_turn(self) -> None:
-        """From here on so many looks may be made anew."""
-        self._turn, self._left = self._turn + 1, LOOKS
+    def begin_turn(self, now: float = 0.0) -> None:
+        """From here on so many looks may be made anew. It is so many seconds."""
+        self._turn, self._left, self._now = self._turn + 1, LOOKS, now
 
     def is_put_off(self, one: Waiting) -> bool:
         """Whether others come before this job: it is not one of the oldest, or a vehicle had no
@@ -130,12 +133,11 @@ class Chooser:
         pairs = []
         for number, one in enumerate(jobs):
             stops = [self.ways.node_of(name) for name in (one.origin, one.target)]
+            nearer = (max(0.0, self._now - one.since) / AGE) ** 2
             for seen in idle:
                 hops = self.ways.hops(seen.row.node, stops[0])
                 if hops is not None:
-                    pairs.append(
-                        (hops + one.since / AGE, number, seen.name, seen, (seen.row.node, *stops))
-                    )
+                    pairs.append((hops - nearer, number, seen.name, seen, (seen.row.node, *stops)))
         pairs.sort(key=lambda pair: pair[:3])
         tries = ((jobs[number], seen, self.ways.way(stops)) for _, number, _, seen, stops in pairs)
         return ((one, seen, way) for one, seen, way in tries if way is not None)
@@ -148,43 +150,59 @@ class Chooser:
         waiting: Sequence[Waiting],
         traffic: Traffic,
     ) -> Proposal:
-        """The order with further jobs that lie on its way, the oldest first, as far as the vehicle
-        can carry them."""
+        """The order with further jobs that it saves a way of their own, the one by which it saves
+        most first, as far as the vehicle can carry them."""
         stops = [
             At(first.stops[0], self.ways.node_of(one.origin)),
             At(first.stops[1], self.ways.node_of(one.target)),
         ]
         found = first
-        for other in waiting[:MORE]:
-            if len(found.jobs) >= seen.free():
-                break
-            if other in found.jobs:
-                continue
-            longer = self._inserted(seen.row.node, stops, other, found.way)
+        while len(found.jobs) < seen.free():
+            others = [other for other in waiting[:MORE] if other not in found.jobs]
+            longer = self._longer(seen, stops, others, found, traffic)
             if longer is None:
-                continue
+                break
+            found, stops = longer
+        return found
+
+    def _longer(
+        self,
+        seen: Seen,
+        stops: list[At],
+        others: Sequence[Waiting],
+        found: Proposal,
+        traffic: Traffic,
+    ) -> tuple[Proposal, list[At]] | None:
+        """The order with one more of these jobs, if one may be added, and its stops."""
+        tries = []
+        for number, other in enumerate(others):
+            inserted = self._inserted(seen.row.node, stops, other, found.way)
+            if inserted is not None:
+                tries.append((inserted[0], number, inserted[1]))
+        for _, number, longer in sorted(tries, key=lambda tried: tried[:2]):
             way = self.ways.way((seen.row.node, *(at.node for at in longer)))
             if way is not None and (
-                way == found.way or self._left and self._may_start((other, seen, way), traffic)
+                way == found.way
+                or self._left
+                and self._may_start((others[number], seen, way), traffic)
             ):
-                stops = longer
-                found = Proposal(
-                    seen.name, tuple(at.stop for at in stops), way, (*found.jobs, other)
-                )
-        return found
+                jobs = (*found.jobs, others[number])
+                return Proposal(seen.name, tuple(at.stop for at in longer), way, jobs), longer
+        return None
 
     def _inserted(
         self, start: str, stops: list[At], other: Waiting, way: Sequence[str]
-    ) -> list[At] | None:
-        """The stops with those of another job among them where the way is shortest, if it is longer
-        than this by the detour at most."""
+    ) -> tuple[int, list[At]] | None:
+        """The stops with those of another job among them where the way is shortest, and how many
+        edges more it is than the two ways apart, a number below 0. None where it is too long."""
         pick, drop = (
             At(stop, self.ways.node_of(name))
             for stop, name in zip(_stops(other), (other.origin, other.target))
         )
-        if not self.detour and (pick.node not in way or drop.node not in way):
+        alone = self.ways.hops(pick.node, drop.node)
+        if alone is None or not self.detour and (pick.node not in way or drop.node not in way):
             return None
-        most = len(way) + self.detour
+        most = min(len(way) + self.detour, len(way) + alone - 1)
         best: tuple[int, list[At]] | None = None
         for i in range(len(stops) + 1):
             for j in range(i, len(stops) + 1):
@@ -194,9 +212,9 @@ class Chooser:
                     for a, b in zip((start, *(at.node for at in tried)), (at.node for at in tried))
                 ]
                 length = 1 + sum(leg if leg is not None else most for leg in legs)
-                if length <= most and (best is None or length < best[0]):
-                    best = length, tried
-        return None if best is None else best[1]
+                if length <= most and (best is None or length - len(way) - alone < best[0]):
+                    best = length - len(way) - alone, tried
+        return best
 
 
 def _stops(one: Waiting) -> tuple[Stop, Stop]:

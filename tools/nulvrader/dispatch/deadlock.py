@@ -35,9 +35,7 @@ from collections.abc import Collection, Iterable, Iterator, Mapping, Sequence
 from dataclasses import dataclass
 
 from .lanes import Ground, Way
-
-Moves = Sequence[tuple[str, int]]
-"""Moves one after another: a vehicle, and how many nodes of its way are before it afterwards."""
+from .plan import Moves
 
 BUDGET = 300
 """So many states are looked at where a look does not say another number."""
@@ -68,15 +66,17 @@ class Floor:
     ) -> None:
         self.ground = ground = Ground() if ground is None else ground
         self.names = sorted(ways)
-        self.lanes = [ground.lane(ways[name]) for name in self.names]
+        on = [ground.lane_of(name, ways[name]) for name in self.names]
+        self.lanes = [lane for lane, _ in on]
+        self.starts = [at for _, at in on]
         self.walls = ground.bits(walls)
 
     def start(self) -> State:
-        """Each vehicle at the beginning of its way."""
+        """Each vehicle at the beginning of its way, which may be amid its lane."""
         taken = 0
-        for lane in self.lanes:
-            taken |= lane.bits[0]
-        return State([0] * len(self.lanes), taken, [])
+        for lane, at in zip(self.lanes, self.starts):
+            taken |= lane.bits[at]
+        return State(self.starts.copy(), taken, [])
 
     def move(self, state: State, vehicle: int, to: int) -> None:
         """Has a vehicle go ahead to the node of this index."""
@@ -344,14 +344,20 @@ class Found:
 
 
 def along(
-    ways: Mapping[str, Way], walls: Collection[str], moves: Moves, ground: Ground | None = None
+    ways: Mapping[str, Way],
+    walls: Collection[str],
+    moves: Moves,
+    ground: Ground | None = None,
+    *,
+    settle: bool = True,
 ) -> Found:
-    """Who finishes by those of these moves that can be made, and behind them by moves that take
-    nothing from anybody."""
+    """Who finishes by those of these moves that can be made, and behind them, if these are to be
+    made, by moves that take nothing from anybody."""
     floor = Floor(ways, walls, ground)
     state = floor.start()
     floor.follow(state, moves)
-    floor.settle(state)
+    if settle:
+        floor.settle(state)
     return floor.found(state)
 
 

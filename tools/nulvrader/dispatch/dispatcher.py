@@ -17,12 +17,18 @@ from .choose import Chooser, Proposal
 from .job_book import JobBook, Waiting
 from .lines import Lines
 from .memory import Memory
+from .parking import Drive, Parking
+from .plan import Plan
 from .shut_in import MOST_TIMES, ShutIn
 from .snapshot import Seen, Snapshot, check, take
-from .traffic import Judge, Still, Traffic
+from .judge import Judge
+from .traffic import Still, Traffic
 from .routes import Ways
 
 NONE_FREE = 'no vehicle is free'
+
+REST = 10.0
+"""A vehicle for which the desk has refused a drive is sent on none for so many seconds."""
 
 
 @dataclass(frozen=True)
@@ -32,7 +38,7 @@ class Settings:
     for so many seconds is not counted on. `told`: a wait is told after so many seconds."""
 
     ahead: int = 2
-    detour: int = 0
+    detour: int = 8
     silent: float = 30.0
     told: float = 15.0
 
@@ -40,7 +46,7 @@ class Settings:
 class Dispatcher:
     """A dispatcher over a desk and its layout. `say` takes its lines, `alarm` those which say that
     what answers is no desk, or one with another layout, and `clock` tells seconds that only grow.
-    """
+    `parking` has the nodes where vehicles without an order are to stand, if these are given."""
 
     def __init__(
         self,
@@ -49,6 +55,7 @@ class Dispatcher:
         settings: Settings = Settings(),
         *,
         judge: Judge | None = None,
+        parking: Sequence[str] | None = None,
         say: Callable[[str], None] = print,
         alarm: Callable[[str], None] | None = None,
         clock: Callable[[], float] = time.monotonic,
@@ -68,6 +75,11 @@ class Dispatcher:
         self.chooser = Chooser(self.ways, self.judge, settings.detour)
         self.book = JobBook()
         self._waits: Mapping[str, str] = {}
+        self.parking = Parking(self.ways, self.judge, parking)
+        self._idle: dict[str, float] = {}  # since when vehicles without an order have none
+        self._drives = True  # whether the desk has drives, as far as is known
+        self._rests: dict[str, float] = {}  # until when no drive is asked for these vehicles
+        self._plans: Sequence[Plan] = ()
         self._last: Snapshot | None = None
         self._memory: dict[str, Memory] = {}
         self._shut_in = ShutIn(self.judge, self._memory)
@@ -96,12 +108,14 @@ class Dispatcher:
         """The vehicles that others shut in, as of the last turn: since when, and why."""
         return self._shut_in.told()
 
+    def plans(self) -> Sequence[Plan]:
+        """The moves by which vehicles finish, as of the last turn: where nobody that stands goes
+        away, where those that do not go on do so again, and where all others get out, too."""
+        return self._plans
+
     def _turn(self) -> None:
         now = self.clock()
-        with self.desk.kept():
-            seen = take(self.desk, self._last)
-            check(seen, self.layout)
-            self._last = seen
+        seen = self._last = self._look()
         self.book.look(seen.jobs, now)
         for vehicle in seen.vehicles.values():
             self._remember(vehicle, seen, now)
@@ -113,7 +127,7 @@ class Dispatcher:
         reasons: dict[str, str] = {}
         self.judge.begin_turn()
         self._shut_in.begin_turn(traffic)
-        self.chooser.begin_turn()
+        self.chooser.begin_turn(now)
         released, traffic = self._release(seen, traffic, held, reasons, now)
         idle = {
             name: one
@@ -121,10 +135,19 @@ class Dispatcher:
             if one.order is None and self._out_of_use(one, now) is None
         }
         started, traffic = self._start(idle, traffic, held, reasons)
-        self._look_deeper(seen, traffic, bool(released or started))
+        driven, traffic = self._park(idle, traffic, held, now)
+        self._look_deeper(seen, traffic, bool(released or started or driven))
         self._untangle(seen, traffic, now)
+        self._plans = self.judge.plans(traffic)
         self._tell_waits(reasons, now)
         self._tell_none_free(seen, idle, now)
+
+    def _look(self) -> Snapshot:
+        """What the desk tells now."""
+        with self.desk.kept():
+            seen = take(self.desk, self._last)
+        check(seen, self.layout)
+        return seen
 
     # What is remembered and told of the vehicles.
 
@@ -140,8 +163,7 @@ class Dispatcher:
             memory.begin(None)
             if seen.row.order is not None:
                 memory.begin(seen.row.order, _jobs_of(seen.row.order, all_seen))
-                told = ', '.join(one.job for one in memory.jobs) or 'jobs that are not known'
-                self.say(f'{seen.name}: has order {seen.row.order}, of {told}')
+                self.say(f'{seen.name}: has order {seen.row.order}, {_told_of(memory, seen)}')
         if seen.order is not None:
             memory.follow(seen, all_seen.places)
 
@@ -273,6 +295,8 @@ class Dispatcher:
                     f'{name} (with an order'
                     f' {"to " + way[-1] if name in finish else "at " + way[0]})'
                 )
+        if not found:
+            found = [f'{name}, which has to go on first' for name in traffic.still]
         return ' by ' + ', '.join(sorted(found, key=natural)) if found else ''
 
     def _advance(self, vehicle: Seen, edges: int, held: dict[str, str]) -> bool:
@@ -320,7 +344,7 @@ class Dispatcher:
             reasons['job ' + job] = self._why_job_waits(one, standing) if idle else NONE_FREE
         return count, traffic
 
-    def _first_edges(self, found: Proposal, traffic: Traffic, held: dict[str, str]) -> int:
+    def _first_edges(self, found: Proposal | Drive, traffic: Traffic, held: dict[str, str]) -> int:
         """How many edges are released with an order. An edge is free where both of its ends are."""
         after = traffic.started(found.vehicle, found.way)
         count = 0
@@ -377,6 +401,50 @@ class Dispatcher:
             return 'others are looked at first'
         return 'no free vehicle gets there without blocking others, or being blocked'
 
+    # Leading vehicles away.
+
+    def _park(
+        self, idle: dict[str, Seen], traffic: Traffic, held: dict[str, str], now: float
+    ) -> tuple[bool, Traffic]:
+        """Has a vehicle without an order drive where it is in nobody's way, one in a turn. Whether
+        one does, and the traffic then."""
+        self._idle = {name: self._idle.get(name, now) for name in idle}
+        if not self._drives:
+            return False, traffic
+        may = [one for name, one in idle.items() if now >= self._rests.get(name, now)]
+        waiting = self.book.waiting.values()
+        drops = {self.ways.node_of(one.target) for one in waiting}
+        picks = [self.ways.node_of(one.origin) for one in waiting]
+        found = self.parking.propose(may, self._idle, drops, picks, traffic, now)
+        if found is None:
+            return False, traffic
+        edges = self._first_edges(found, traffic, held)
+        if not self._give_drive(found, idle[found.vehicle], edges):
+            self._rests[found.vehicle] = now + REST
+            return False, traffic
+        del idle[found.vehicle]
+        held.update({'node ' + node: found.vehicle for node in found.way[: edges + 1]})
+        return True, traffic.started(found.vehicle, found.way).released(found.vehicle, edges)
+
+    def _give_drive(self, found: Drive, vehicle: Seen, edges: int) -> bool:
+        """Asks for a drive. A desk that has no such call is not asked again."""
+        order = new_reference()
+        memory = self._memory[vehicle.name]
+        memory.asked = order
+        try:
+            self.desk.start_drive(order, vehicle.row.key, found.to, edges)
+        except Refused as refusal:
+            if refusal.name == 'NoPath':
+                self._drives = False
+                self.say('the desk has no drives: a vehicle without an order stays where it is')
+            else:
+                self._tell_refusal(vehicle, f'it does not drive to {found.to}', refusal)
+            return False
+        self.lines.once('refusal ' + vehicle.name, None)
+        self.say(f'{vehicle.name}: drives to {found.to}, by order {order}')
+        memory.begin(order, (), len(found.way) - 1 - edges, found.to)
+        return True
+
     # When nothing moves.
 
     def _look_deeper(self, seen: Snapshot, traffic: Traffic, moved: bool) -> None:
@@ -412,11 +480,10 @@ class Dispatcher:
 
     def _cancel(self, vehicle: Seen) -> bool:
         """Cancels an order. The others may get free by it."""
-        told = ', '.join(one.job for one in self._memory[vehicle.name].jobs)
-        what = vehicle.row.order, told, self._memory[vehicle.name].shut_by
+        memory = self._memory[vehicle.name]
         self.say(
-            '%s: cancels order %s, of %s: it and others block one another, %s'
-            % (vehicle.name, *what)
+            f'{vehicle.name}: cancels order {vehicle.row.order}, {_told_of(memory, vehicle)}: it'
+            f' and others block one another, {memory.shut_by}'
         )
         try:
             self.desk.cancel(vehicle.row.key)
@@ -474,6 +541,13 @@ def _jobs_of(order: str, seen: Snapshot) -> tuple[Waiting, ...]:
     """The live jobs of an order that this dispatcher has not given."""
     jobs = (job for job in seen.jobs.values() if job.order == order)
     return tuple(Waiting(job.name, job.load, job.origin, job.target) for job in jobs)
+
+
+def _told_of(memory: Memory, seen: Seen) -> str:
+    """What an order is for: its jobs, or where its drive leads."""
+    if seen.order is not None and seen.order.is_drive():
+        return f'a drive to {seen.order.nodes[-1].name}'
+    return 'of ' + (', '.join(one.job for one in memory.jobs) or 'jobs that are not known')
 
 
 def _standing(traffic: Traffic) -> dict[str, list[str]]:

@@ -10,16 +10,20 @@ that it still has to pass."""
 KEPT = 5_000
 """So many ways are kept as bits."""
 
+PAIRS = 20_000
+"""Of so many pairs of ways it is kept where both vehicles finish: a hundred vehicles with an order
+have 9,900."""
+
 
 class Lane:
     """A way as bits: `bits` has that of each node, `rest` of each index those of the nodes behind
-    it, and `all` those of the whole way. `lefts` has of each node how many nodes are behind it on
-    the way, each number as a bit."""
+    it, and `all` those of the whole way, whose nodes are `way`. `lefts` has of each node how many
+    nodes are behind it on the way, each number as a bit."""
 
-    __slots__ = ('bits', 'rest', 'all', 'end', 'lefts')
+    __slots__ = ('way', 'bits', 'rest', 'all', 'end', 'lefts')
 
-    def __init__(self, bits: list[int]) -> None:
-        self.bits, self.end = bits, len(bits) - 1
+    def __init__(self, way: tuple[str, ...], bits: list[int]) -> None:
+        self.way, self.bits, self.end = way, bits, len(bits) - 1
         self.rest, self.lefts = [0] * len(bits), dict.fromkeys(bits, 0)
         for index in range(self.end, 0, -1):
             self.rest[index - 1] = self.rest[index] | bits[index]
@@ -48,6 +52,7 @@ class Ground:
     def __init__(self) -> None:
         self._bits: dict[str, int] = {}
         self._lanes: dict[Way, Lane] = {}
+        self._of: dict[tuple[str, str], Lane] = {}  # by vehicle and the end of its way
         self._passes: dict[tuple[Lane, Lane], list[int]] = {}
 
     def bit(self, node: str) -> int:
@@ -65,14 +70,26 @@ class Ground:
         if lane is None:
             if len(self._lanes) >= KEPT:
                 self._lanes.clear()
+                self._of.clear()
                 self._passes.clear()
-            lane = self._lanes[way] = Lane([self.bit(node) for node in way])
+            lane = self._lanes[way] = Lane(way, [self.bit(node) for node in way])
         return lane
+
+    def lane_of(self, vehicle: str, way: Way) -> tuple[Lane, int]:
+        """The lane of a vehicle, and where on it this way begins. A vehicle that has gone on keeps
+        its lane, and with it all that is kept of the pairs that it is in."""
+        way = tuple(way)
+        key = vehicle, way[-1]
+        lane = self._of.get(key)
+        if lane is None or lane.way[-len(way) :] != way:
+            lane = self.lane(way)
+            self._of[key] = lane
+        return lane, len(lane.way) - len(way)
 
     def passes(self, one: Lane, other: Lane) -> list[int]:
         found = self._passes.get((one, other))
         if found is None:
-            if len(self._passes) >= KEPT:
+            if len(self._passes) >= PAIRS:
                 self._passes.clear()
             found = self._passes[one, other] = one.passes(other)
         return found

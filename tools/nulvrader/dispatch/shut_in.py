@@ -6,7 +6,8 @@ from dataclasses import dataclass, replace
 
 from ..common.names import natural
 from .memory import Memory
-from .traffic import Judge, Traffic
+from .judge import Judge
+from .traffic import Traffic
 
 MOST_TIMES = 64
 """Where the look has so many times as many states, since nothing moves, who is shut in does not get

@@ -1,27 +1,19 @@
-"""What the vehicles hold and what they still have to pass, and which releases and new orders leave
-each of them able to finish. Pure, over the search of `deadlock.py`."""
+"""What the vehicles hold and what they still have to pass."""
 from __future__ import annotations
 
-from collections import deque
-from collections.abc import Collection, Mapping
+from collections.abc import Mapping
 from dataclasses import dataclass, field, replace
 from functools import cached_property
 
-from .deadlock import Found, Moves, after_release, along, look
-from .lanes import Ground, Way
+from .deadlock import after_release
+from .lanes import Way
 
-KEPT = 2_000
-"""So many answers of the look are kept."""
+View = tuple[Mapping[str, Way], frozenset[str]]
+"""Ways, and the nodes that stay taken."""
 
-QUICK, DEEP = 50, 300
-"""So many states are looked at."""
+Views = tuple[View, View, View]
 
-KNOWN = 8
-"""So many of the moves that were found last are tried first. The last ones may be behind what was
-allowed and then not done, since the desk has refused it or has not answered."""
-
-ANEW = 5
-"""After so many turns it is looked for more vehicles that finish, where some don't."""
+NOW, SOON, LATER = range(3)
 
 
 @dataclass(frozen=True)
@@ -62,6 +54,15 @@ class Traffic:
     def all_ways(self) -> dict[str, Way]:
         return {**self.ways, **{name: one.way for name, one in self.still.items()}}
 
+    def views(self) -> Views:
+        """What is looked at: the ways and the walls where nobody that stands goes away; where those
+        that do not go on do so again; and where those without an order get out, too."""
+        now = self.ways, self.walls
+        if not self.still:
+            return now, now, (self.ways_later(), frozenset())
+        walls = frozenset().union(*self.parked.values())
+        return now, (self.all_ways(), walls), (self.ways_later(), frozenset())
+
     def ways_later(self) -> dict[str, Way]:
         """All ways, each with that out of a dead end behind its end, and then a node of its own:
         that of the vehicle that has left the floor. Vehicles without an order are to get out,
@@ -93,200 +94,35 @@ class Traffic:
             name for name, way in ways.items() if name != vehicle and not held.isdisjoint(way[1:])
         )
 
+    def makes_room(self, vehicle: str, finish: frozenset[str]) -> bool:
+        """Whether a vehicle is in the way of one of these, or of one that is in the way of one of
+        these, and so on."""
+        seen, row = {vehicle}, [vehicle]
+        for name in row:
+            for other in self.in_the_way(name):
+                if other in finish:
+                    return True
+                if other in self.ways and other not in seen:
+                    seen.add(other)
+                    row.append(other)
+        return False
 
-@dataclass(frozen=True)
-class Outlook:
-    """Who finishes of a traffic. `now` is what is found where nobody that stands goes away: neither
-    those without an order, nor those that do not go on, nor those that have finished. `later` is
-    what is found where those that do not go on do so again, and all leave a dead end then, also
-    those without an order. `ways` are those of `later`. `ends` and `ends_later` have the node where
-    each vehicle stands behind the moves that were found."""
-
-    now: Found
-    later: Found
-    ways: Mapping[str, Way]
-    ends: Mapping[str, str]
-    ends_later: Mapping[str, str]
-
-    @cached_property
-    def ahead(self) -> frozenset[str]:
-        """The nodes that vehicles still have before them, later."""
-        return frozenset().union(*(way[1:] for way in self.ways.values()))
-
-
-def _ends(ways: Mapping[str, Way], found: Found) -> dict[str, str]:
-    return {name: ways[name][-1 - left] for name, left in found.left.items()}
-
-
-class Judge:
-    """Says what may be released and started. The moves that were found last are tried first; what
-    has to be looked for is kept.
-
-    What is asked of a traffic as it is gets `deep` states, and of one that would come about `quick`
-    ones. Where nothing moves the dispatcher asks for more. `looks` counts those that were made."""
-
-    def __init__(self, quick: int = QUICK, deep: int = DEEP) -> None:
-        self.quick, self.deep, self.times, self.looks = quick, deep, 1, 0
-        self._ground = Ground()
-        self._kept: dict[object, Found] = {}
-        self._moves: deque[tuple[Moves, Moves]] = deque(
-            [((), ())], KNOWN
-        )  # that were found last, now and later, the last ones first
-        self._turn = 0
-        nobody: frozenset[str] = frozenset()
-        self._found = [
-            (-ANEW, 0, nobody),
-            (-ANEW, 0, nobody),
-        ]  # in which turn it was looked last, now and later, how far, and who was found
-        self._granted: tuple[
-            Traffic, Found, Found
-        ] | None = None  # what was allowed last, and who finishes then
-        self._last: tuple[Traffic, int, Outlook] | None = None
-
-    def find(
-        self,
-        ways: Mapping[str, Way],
-        walls: Collection[str],
-        budget: int,
-        hint: Moves,
-        wanted: frozenset[str] | None = None,
-    ) -> Found:
-        """Moves by which all that are wanted finish, or else as many as are found."""
-        told = along(ways, walls, hint, self._ground)
-        if told.finishing >= (ways.keys() if wanted is None else wanted):
-            return told
-        question = (
-            budget,
-            wanted,
-            frozenset((name, tuple(way)) for name, way in ways.items()),
-            frozenset(walls),
+    def goes_on_from(self, before: Traffic) -> bool:
+        """Whether this is what was before, but that vehicles have gone ahead on their ways, and
+        that some have no order any more at the end of theirs."""
+        ended = {
+            name: held
+            for name, held in self.parked.items()
+            if name in before.ways and tuple(held) == tuple(before.ways[name])
+        }
+        return (
+            self.still == before.still
+            and {**before.parked, **ended} == self.parked
+            and self.ways.keys() | ended.keys() == before.ways.keys()
+            and all(is_rest(way, before.ways[name]) for name, way in self.ways.items())
         )
-        found = self._kept.get(question)
-        if found is None:
-            if len(self._kept) >= KEPT:
-                self._kept.clear()
-            self.looks += 1
-            found = self._kept[question] = look(ways, walls, budget, wanted, self._ground)
-        return found if found.finishing >= (told.finishing if wanted is None else wanted) else told
 
-    def begin_turn(self) -> None:
-        """From here on who finishes is looked for anew, also where a release or an order was seen
-        to keep who did."""
-        self._granted, self._turn = None, self._turn + 1
 
-    def all_that_finish(
-        self, ways: Mapping[str, Way], walls: Collection[str], later: bool
-    ) -> Found:
-        """Moves by which as many finish as are found. Where those that were found last still
-        finish, no look is made for others for some turns, if the dispatcher counts these."""
-        most, (turn, budget, before) = self.times * self.deep, self._found[later]
-        tried = (
-            (moves[later], along(ways, walls, moves[later], self._ground)) for moves in self._moves
-        )
-        hint, told = next(
-            (one for one in tried if one[1].finishing >= before & ways.keys()),
-            (self._moves[0][later], None),
-        )
-        if told is not None and self._turn - turn < ANEW and budget == most:
-            self._found[later] = turn, budget, told.finishing
-            return told
-        found = self.find(ways, walls, most, hint)
-        self._found[later] = self._turn or -ANEW, most, found.finishing
-        return found
-
-    def outlook(self, traffic: Traffic) -> Outlook:
-        if self._last is None or self._last[0] is not traffic or self._last[1] != self.times:
-            ways = traffic.ways_later()
-            if self._granted is not None and self._granted[0] == traffic:
-                _, now, later = self._granted
-            else:
-                now = self.all_that_finish(traffic.ways, traffic.walls, False)
-                later = self.all_that_finish(ways, (), True)
-            self._moves.appendleft((now.moves, later.moves))
-            self._last = (
-                traffic,
-                self.times,
-                Outlook(now, later, ways, _ends(traffic.ways, now), _ends(ways, later)),
-            )
-        return self._last[2]
-
-    def finish_now(self, traffic: Traffic) -> frozenset[str]:
-        """Who finishes though nobody that stands goes away."""
-        return self.outlook(traffic).now.finishing
-
-    def finish_later(self, traffic: Traffic) -> frozenset[str]:
-        """Who finishes, and gets out of a dead end then, where all others do too: whom the vehicles
-        do not shut in for good."""
-        return self.outlook(traffic).later.finishing
-
-    def look_longer(self, traffic: Traffic, times: int) -> frozenset[str]:
-        """Who finishes later, by a look of so many times as many states. The moves that it finds
-        are tried first from here on."""
-        hint_now, hint = self._moves[0]
-        found = self.find(traffic.ways_later(), (), max(self.times, times) * self.deep, hint)
-        self._moves.appendleft((hint_now, found.moves))
-        self._last = self._granted = None
-        return found.finishing
-
-    def keeps(
-        self, traffic: Traffic, after: Traffic, vehicle: str | None = None, last: bool = False
-    ) -> bool:
-        """Whether each vehicle that could finish before can after, now and later, and this one too,
-        which has begun its way. Whether it goes first or last is tried first."""
-        before, most = self.outlook(traffic), self.times * self.quick
-        found = []
-        for ways, walls, told in (
-            (after.ways, after.walls, before.now),
-            (after.ways_later(), (), before.later),
-        ):
-            wanted, hint = told.finishing, list(told.moves)
-            if vehicle is not None:
-                wanted, hint = wanted | {vehicle}, [move for move in hint if move[0] != vehicle]
-                hint.insert(len(hint) if last else 0, (vehicle, 0))
-            found.append(self.find(ways, walls, most, hint, wanted))
-            if not wanted <= found[-1].finishing:
-                return False
-        self._moves.appendleft((found[0].moves, found[1].moves))
-        self._granted = after, found[0], found[1]
-        return True
-
-    def is_open(self, traffic: Traffic, vehicle: str, way: Way) -> bool:
-        """Whether nobody stands on this way of the vehicle who does not go on."""
-        return traffic.is_open(vehicle, way)
-
-    def may_release(self, traffic: Traffic, vehicle: str, nodes: int) -> bool:
-        """Whether so many nodes more may be released to the vehicle, all of them free. One that
-        can't finish now stays where it is, unless it is in the way of another that can."""
-        finish = self.finish_now(traffic)
-        if vehicle not in finish and finish.isdisjoint(traffic.in_the_way(vehicle)):
-            return False
-        return self.keeps(traffic, traffic.released(vehicle, nodes))
-
-    def goes_last(self, traffic: Traffic, vehicle: str, way: Way) -> bool:
-        """Whether a vehicle without an order can stay until all others are where they go, and then
-        take this way, on which nobody stands now. So it may be started, which is seen without a
-        look."""
-        outlook = self.outlook(traffic)
-        if way[0] in outlook.ahead or not frozenset(outlook.ends.values()).isdisjoint(way):
-            return False
-        others = frozenset(node for name, node in outlook.ends_later.items() if name != vehicle)
-        return others.isdisjoint(way) and others.isdisjoint(traffic.out.get(way[-1], ()))
-
-    def plainly(self, traffic: Traffic, vehicle: str, way: Way) -> bool | None:
-        """Whether a vehicle without an order may be given one along this way, where that is seen
-        without a look; else None."""
-        if not self.is_open(traffic, vehicle, way):
-            return False
-        if self.goes_last(traffic, vehicle, way):
-            return True
-        outlook = self.outlook(traffic)
-        both_stay_there = any(outlook.ends[name] == way[-1] for name in outlook.now.finishing)
-        return False if both_stay_there else None
-
-    def may_start(self, traffic: Traffic, vehicle: str, way: Way) -> bool:
-        """Whether a vehicle without an order may be given one along this way: it can finish, and so
-        can all that could before."""
-        told = self.plainly(traffic, vehicle, way)
-        return told is not False and self.keeps(
-            traffic, traffic.started(vehicle, way), vehicle, told is True
-        )
+def is_rest(way: Way, of: Way) -> bool:
+    """Whether a way is the last part of another one."""
+    return tuple(of[-len(way) :]) == tuple(way)
