@@ -8,24 +8,14 @@ import os
 import re
 import shutil
 import subprocess
-import sys
 import tempfile
 import time
+from collections.abc import Callable
 
-HERE = os.path.dirname(os.path.abspath(__file__))
-sys.path.insert(0, os.path.join(HERE, '..'))
-
-from tests.support import calls  # noqa: E402
-
-DESK = os.path.abspath(os.environ.get('DESK', os.path.join(HERE, '..', 'build', 'desk')))
-AT = '1700000000000'
+from loads import AT, DESK, HERE, load
 
 
-def load(number):
-    return calls.load(f'L{number:07d}').to_bytes()
-
-
-def copied(source, name):
+def copied(source: str, name: str) -> str:
     for end in ('', '-wal'):
         if os.path.exists(name + end):
             os.remove(name + end)
@@ -36,19 +26,21 @@ def copied(source, name):
     return name
 
 
-def timed(words, stdin):
+def timed(words: list[str], stdin: bytes) -> float:
     begun = time.perf_counter()
     subprocess.run(words, input=stdin, stdout=subprocess.DEVNULL, check=True)
     return time.perf_counter() - begun
 
 
-def counted(words, stdin):
+def counted(words: list[str], stdin: bytes) -> int:
     done = subprocess.run(
         ['valgrind', '--tool=callgrind', '--callgrind-out-file=/dev/null', *words],
         input=stdin,
         capture_output=True,
     )
-    return int(re.search(rb'Collected : (\d+)', done.stderr).group(1))
+    found = re.search(rb'Collected : (\d+)', done.stderr)
+    assert found
+    return int(found[1])
 
 
 with tempfile.TemporaryDirectory() as folder:
@@ -63,10 +55,11 @@ with tempfile.TemporaryDirectory() as folder:
         stdout=subprocess.DEVNULL,
         check=True,
     )
-    for name, words in (
-        ('desk', lambda db, n: [DESK, 'replay', '--db', db, '--at', AT]),
-        ('plain SQLite', lambda db, n: [plain, db, str(n), '20000']),
-    ):
+    lines: dict[str, Callable[[str, int], list[str]]] = {
+        'desk': lambda db, n: [DESK, 'replay', '--db', db, '--at', AT],
+        'plain SQLite': lambda db, n: [plain, db, str(n), '20000'],
+    }
+    for name, words in lines.items():
         times, figures = [], []
         for count in (100, 5_100):
             stdin = b''.join(load(20_000 + i) for i in range(count))
@@ -83,7 +76,7 @@ with tempfile.TemporaryDirectory() as folder:
             )
         print(
             (
-                f'{name!s:<13} {(times[1] - times[0]) / 5_000 * 1e6:6.1f} microseconds,'
+                f'{name:<13} {(times[1] - times[0]) / 5_000 * 1e6:6.1f} microseconds,'
                 f' {(figures[1] - figures[0]) // 500:8d} instructions a registration'
             ),
             flush=True,

@@ -6,30 +6,17 @@ most memory of the program. Python's standard library and `/usr/bin/time`.
 """
 import os
 import subprocess
-import sys
 import tempfile
 import time
 
-HERE = os.path.dirname(os.path.abspath(__file__))
-sys.path.insert(0, os.path.join(HERE, '..'))
-
-from tests.support import calls  # noqa: E402
-
-DESK = os.path.abspath(os.environ.get('DESK', os.path.join(HERE, '..', 'build', 'desk')))
-AT = '1700000000000'
+from loads import AT, DESK, load
 
 
-def load(number):
-    return calls.load(f'L{number:07d}').to_bytes()
-
-
-def timed(what, words, stdin=b''):
+def timed(what: str, words: list[str], stdin: bytes = b'') -> None:
     done = subprocess.run(
         ['/usr/bin/time', '-f', '%e s, %M KB', DESK, *words], input=stdin, capture_output=True
     )
-    print(
-        f'  {what!s:<22} {done.stderr.decode().strip()}, {len(done.stdout)} bytes out', flush=True
-    )
+    print(f'  {what:<22} {done.stderr.decode().strip()}, {len(done.stdout)} bytes out', flush=True)
 
 
 with tempfile.TemporaryDirectory() as folder:
@@ -42,6 +29,7 @@ with tempfile.TemporaryDirectory() as folder:
             stdin=subprocess.PIPE,
             stdout=subprocess.DEVNULL,
         )
+        assert replay.stdin
         for number in range(done, total):
             replay.stdin.write(load(number))
         replay.stdin.close()

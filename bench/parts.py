@@ -11,9 +11,10 @@ import os
 import re
 import subprocess
 import tempfile
+from typing import Any
 
 import rounds
-from rounds import calls
+from tests.support import calls
 
 HERE = os.path.dirname(os.path.abspath(__file__))
 DESK = os.path.abspath(os.environ.get('DESK', os.path.join(HERE, '..', 'build', 'desk')))
@@ -27,7 +28,7 @@ PARTS = [
 COUNT = 20
 
 
-def counted(stdin, folder):
+def counted(stdin: bytes, folder: str) -> Any:
     """The instructions in all, and those of each part."""
     db, out = os.path.join(folder, 'parts.db'), os.path.join(folder, 'parts.out')
     for end in ('', '-wal', '-shm'):
@@ -67,7 +68,7 @@ def counted(stdin, folder):
     ]
 
 
-def orders(count):
+def orders(count: int) -> tuple[Any, Any]:
     """Jobs for so many vehicles, and the order of each: what comes before, and the orders."""
     nodes = [f'N{i:03d}' for i in range(2 * count + 2)]
     layout = (
@@ -89,11 +90,10 @@ def orders(count):
             calls.job(job, f'L{i:03d}', f'B{i:03d}'),
         ]
         orders_.append(calls.order(f'O{i:03d}', job, 1, serial))
-    before, orders_ = ([call.to_bytes() for call in some] for some in (before, orders_))
-    return before, orders_
+    return [call.to_bytes() for call in before], [call.to_bytes() for call in orders_]
 
 
-def main():
+def main() -> None:
     loads = [calls.load(f'L{i:07d}').to_bytes() for i in range(2 * COUNT)]
     states = [calls.state(i + 2).to_bytes() for i in range(2 * COUNT)]
     with tempfile.TemporaryDirectory() as folder:

@@ -9,13 +9,14 @@ and proves nothing; with a port it serves one connection instead.
 import os
 import socket
 import sys
+from typing import Any
 
 sys.path.insert(0, os.path.dirname(os.path.dirname(os.path.abspath(__file__))))
 
 from tests.model.desk import AT, Model  # noqa: E402
 
 
-def streams(port):
+def streams(port: int | None) -> tuple[Any, Any]:
     """Standard input and output, or those of one connection on the port."""
     if port is None:
         return sys.stdin.buffer, sys.stdout.buffer
@@ -26,8 +27,8 @@ def streams(port):
     return connection.makefile('rb'), connection.makefile('wb')
 
 
-def main():
-    path, now, port = (sys.argv[1:] + [None, None])[:3]
+def main() -> None:
+    path, now, port = [*sys.argv[1:], '', ''][:3]
     model = Model(path, int(now) if now else AT)
     model.serve(*streams(int(port) if port else None))
 

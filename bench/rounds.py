@@ -5,6 +5,9 @@ isn't there 204."""
 import os
 import sqlite3
 import sys
+from collections.abc import Iterator
+from collections.abc import Sequence
+from typing import Any
 
 sys.path.insert(0, os.path.dirname(os.path.dirname(os.path.abspath(__file__))))
 
@@ -23,7 +26,7 @@ START = [
 ]
 
 
-def nodes_ahead(*nodes):
+def nodes_ahead(*nodes: tuple[str, int]) -> list[dict[str, Any]]:
     """The nodes that a vehicle has ahead, as pairs of a name and its number on the way."""
     return [{'nodeId': name, 'sequenceId': at, 'released': True} for name, at in nodes]
 
@@ -31,24 +34,32 @@ def nodes_ahead(*nodes):
 class Rounds:
     """The requests of one round after the other, each with the name of its kind."""
 
-    def __init__(self):
+    def __init__(self) -> None:
         self.number, self.header, self.instant = 0, 1, 0
 
-    def next_state(self, order='', update=0, node='N1', sequence=0, statuses=(), ahead=()):
+    def next_state(
+        self,
+        order: str = '',
+        update: int = 0,
+        node: str = 'N1',
+        sequence: int = 0,
+        statuses: Sequence[tuple[str, str]] = (),
+        ahead: Sequence[tuple[str, int]] = (),
+    ) -> calls.Call:
         self.header += 1
         return calls.state(
             self.header, order, update, node, sequence, statuses, nodeStates=nodes_ahead(*ahead)
         )
 
-    def next_instant(self):
+    def next_instant(self) -> str:
         self.instant += 1
         return f'instant-{self.instant}'
 
-    def round(self):
+    def round(self) -> Iterator[Any]:
         for what, call in self.calls():
             yield what, call.to_bytes()
 
-    def calls(self):
+    def calls(self) -> Iterator[Any]:
         self.number += 1
         n = self.number
         load, job, stopped, back = f'A{n:06d}', f'P{n:06d}', f'Q{n:06d}', f'R{n:06d}'
@@ -95,7 +106,7 @@ class Rounds:
         yield 'stocktake of two stations', calls.stocktake(f'F{n:06d}', [('A', ''), ('B', '')])
 
 
-def fill(name, count):
+def fill(name: str, count: int) -> None:
     """Puts so many loads at the checking place into a desk's file, with a job each that has ended,
     as its rows."""
     base = sqlite3.connect(name)

@@ -27,15 +27,19 @@ import rounds
 HERE = os.path.dirname(os.path.abspath(__file__))
 DESK = os.path.abspath(os.environ.get('DESK', os.path.join(HERE, '..', 'build', 'desk')))
 TURNS = int(os.environ.get('TURNS', '40'))
+TABLES = (
+    *('meta', 'node', 'edge', 'station', 'vehicle', 'trip', 'leg'),
+    *('load', 'job', 'hold', 'used', 'capacity', 'journey', 'act'),
+)
 
 
-def remove(name):
+def remove(name: str) -> None:
     for end in ('', '-wal', '-shm'):
         if os.path.exists(name + end):
             os.remove(name + end)
 
 
-def copied(source, name):
+def copied(source: str, name: str) -> str:
     remove(name)
     shutil.copy(source, name)
     return name
@@ -44,21 +48,24 @@ def copied(source, name):
 class Served:
     """A desk that serves one connection."""
 
-    def __init__(self, name):
+    def __init__(self, name: str) -> None:
         begun = time.perf_counter()
         self.desk = subprocess.Popen(
             [DESK, 'serve', '--db', name, '--port', '0', '--connections', '1'],
             stdout=subprocess.PIPE,
         )
-        line = self.desk.stdout.readline()
+        assert self.desk.stdout
+        self.out = self.desk.stdout
+        line = self.out.readline()
         self.opened = time.perf_counter() - begun
-        self.memory = int(
-            re.search(r'VmHWM:\s+(\d+)', open(f'/proc/{self.desk.pid}/status').read()).group(1)
-        )
+        with open(f'/proc/{self.desk.pid}/status') as status:
+            memory = re.search(r'VmHWM:\s+(\d+)', status.read())
+        assert memory
+        self.memory = int(memory[1])
         self.line = socket.create_connection(('127.0.0.1', int(line.rsplit(b':', 1)[1])))
         self.line.setsockopt(socket.IPPROTO_TCP, socket.TCP_NODELAY, 1)
 
-    def ask(self, what, bytes_):
+    def ask(self, what: str, bytes_: bytes) -> float:
         begun = time.perf_counter()
         self.line.sendall(bytes_)
         answer = self.line.recv(131_072)
@@ -67,15 +74,16 @@ class Served:
             raise SystemExit(f'{what}: {answer!r}')
         return spent
 
-    def close(self):
+    def close(self) -> None:
         self.line.close()
         self.desk.wait()
-        self.desk.stdout.close()
+        self.out.close()
 
 
-def times(name):
+def times(name: str) -> tuple[dict[str, float], float, int]:
     """The median seconds of each kind of call, and the opening."""
-    desk, calls, found = Served(name), rounds.Rounds(), {}
+    desk, calls = Served(name), rounds.Rounds()
+    found: dict[str, list[float]] = {}
     for turn in range(TURNS + 5):
         for what, bytes_ in calls.round():
             spent = desk.ask(what, bytes_)
@@ -89,7 +97,7 @@ def times(name):
     )
 
 
-def totals(folder, mark):
+def totals(folder: str, mark: str) -> dict[int, int]:
     """The instructions between two dumps of callgrind, by the number of the second."""
     found = {}
     for path in glob.glob(os.path.join(folder, mark + '.*')):
@@ -99,12 +107,13 @@ def totals(folder, mark):
     return found
 
 
-def instructions(name, folder):
+def instructions(name: str, folder: str) -> dict[str, float]:
     """The instructions of each kind of call, the mean of a round's, behind four rounds: from the
     moment at which the desk looks which call it is to that of the next one, each sent when the one
     before it was answered."""
     out = os.path.join(folder, 'desk.callgrind')
-    calls, asked = rounds.Rounds(), []
+    calls = rounds.Rounds()
+    asked: list[tuple[str, bytes]] = []
     for _ in range(5):
         first = len(asked)
         asked += calls.round()
@@ -127,6 +136,7 @@ def instructions(name, folder):
         stdin=subprocess.PIPE,
         stdout=subprocess.PIPE,
     )
+    assert desk.stdin and desk.stdout
     for what, bytes_ in asked:
         desk.stdin.write(bytes_)
         desk.stdin.flush()
@@ -136,15 +146,21 @@ def instructions(name, folder):
     desk.stdin.close()
     desk.wait()
     desk.stdout.close()
-    found, counts = totals(folder, 'desk.callgrind'), {}
+    found = totals(folder, 'desk.callgrind')
+    counts: dict[str, list[int]] = {}
     for number in range(first, last):
         counts.setdefault(asked[number][0], []).append(found[number + 2])
     for path in glob.glob(out + '*'):
         os.remove(path)
-    return {what: statistics.mean(some) for what, some in counts.items()}
+    return {what: float(statistics.mean(some)) for what, some in counts.items()}
 
 
-def plain_times(plain, name, statements=os.path.join(HERE, 'statements.txt'), turns=TURNS):
+def plain_times(
+    plain: str,
+    name: str,
+    statements: str = os.path.join(HERE, 'statements.txt'),
+    turns: int = TURNS,
+) -> dict[str, float]:
     done = subprocess.run(
         [plain, name, statements, str(turns)], capture_output=True, check=True, text=True
     )
@@ -154,7 +170,7 @@ def plain_times(plain, name, statements=os.path.join(HERE, 'statements.txt'), tu
     }
 
 
-def plain_instructions(plain, name, folder):
+def plain_instructions(plain: str, name: str, folder: str) -> dict[str, int]:
     out = os.path.join(folder, 'plain.callgrind')
     done = subprocess.run(
         [
@@ -177,15 +193,16 @@ def plain_instructions(plain, name, folder):
         text = open(path).read()
         what = re.search(r'^desc: Trigger: Client Request: (.*)$', text, re.M)
         total = re.search(r'^(?:totals|summary):\s*(\d+)', text, re.M)
-        if what and what.group(1) in kinds:
-            found[what.group(1)] = int(total.group(1))
+        if what and total and what[1] in kinds:
+            found[what[1]] = int(total[1])
         os.remove(path)
     return found
 
 
-def with_statements():
+def with_statements() -> set[str | None]:
     """The kinds of call that have a statement."""
-    found, what = set(), None
+    found: set[str | None] = set()
+    what: str | None = None
     with open(os.path.join(HERE, 'statements.txt')) as lines:
         for line in lines:
             if line.startswith('= '):
@@ -195,76 +212,68 @@ def with_statements():
     return found
 
 
-def main():
+def compiled(folder: str) -> str:
+    """The program that carries the statements out by SQLite alone."""
+    plain = os.path.join(folder, 'plain')
+    source = os.path.join(HERE, 'plain_calls.c')
+    subprocess.run(['gcc', '-O2', '-o', plain, source, '-lsqlite3'], check=True)
+    return plain
+
+
+def begun(folder: str) -> str:
+    """A file of a desk in which a round may begin."""
+    start = os.path.join(folder, 'start.db')
+    subprocess.run(
+        [DESK, 'replay', '--db', start, '--at', rounds.AT],
+        input=b''.join(rounds.START),
+        stdout=subprocess.DEVNULL,
+        check=True,
+    )
+    return start
+
+
+def reading(folder: str) -> str:
+    """The statements that read all rows of a desk's file."""
+    path = os.path.join(folder, 'tables.txt')
+    with open(path, 'w') as file:
+        file.write('= opening\n' + ''.join(f'SELECT * FROM {name}\n' for name in TABLES))
+    return path
+
+
+def print_size(size: int, start: str, plain: str, tables: str) -> None:
+    """What the calls take on a file with so many loads."""
+    rounds.fill(start, size)
+    folder = os.path.dirname(start)
+    run = os.path.join(folder, 'run.db')
+    ours, opened, memory = times(copied(start, run))
+    theirs = plain_times(plain, copied(start, run))
+    read = plain_times(plain, copied(start, run), tables, 1)['opening']
+    counts = instructions(copied(start, run), folder)
+    plain_counts = plain_instructions(plain, copied(start, run), folder)
+    print(
+        f'{size} loads and ended jobs: opened in {opened:.2f} s, {memory // 1024} MB;'
+        f' SQLite reads the rows in {read:.2f} s'
+    )
+    heads = ('desk, us', 'SQLite, us'), ('desk, instr.', 'SQLite')
+    print(f'{"":<34}', *(f'{head:>10}' for head in heads[0]), f'{"times":>6}', end=' ')
+    print(*(f'{head:>12}' for head in heads[1]))
     stated = with_statements()
+    for what in ours:
+        ratio = f'{ours[what] / theirs[what]:.2f}' if what in stated else '-'
+        print(
+            f'{what:<34} {ours[what] * 1e6:10.0f} {theirs[what] * 1e6:10.0f} {ratio:>6}'
+            f' {counts[what]:12.0f} {plain_counts.get(what, 0):12d}',
+            flush=True,
+        )
+    remove(run)
+
+
+def main() -> None:
     sizes = [int(word) for word in sys.argv[1:]] or [1_000, 100_000, 999_000]
     with tempfile.TemporaryDirectory() as folder:
-        plain = os.path.join(folder, 'plain')
-        subprocess.run(
-            ['gcc', '-O2', '-o', plain, os.path.join(HERE, 'plain_calls.c'), '-lsqlite3'],
-            check=True,
-        )
-        start = os.path.join(folder, 'start.db')
-        subprocess.run(
-            [DESK, 'replay', '--db', start, '--at', rounds.AT],
-            input=b''.join(rounds.START),
-            stdout=subprocess.DEVNULL,
-            check=True,
-        )
-        tables = os.path.join(folder, 'tables.txt')
-        with open(tables, 'w') as file:
-            file.write(
-                '= opening\n'
-                + ''.join(
-                    f'SELECT * FROM {name}\n'
-                    for name in (
-                        'meta',
-                        'node',
-                        'edge',
-                        'station',
-                        'vehicle',
-                        'trip',
-                        'leg',
-                        'load',
-                        'job',
-                        'hold',
-                        'used',
-                        'capacity',
-                        'journey',
-                        'act',
-                    )
-                )
-            )
+        plain, start, tables = compiled(folder), begun(folder), reading(folder)
         for size in sizes:
-            rounds.fill(start, size)
-            run = os.path.join(folder, 'run.db')
-            ours, opened, memory = times(copied(start, run))
-            theirs = plain_times(plain, copied(start, run))
-            read = plain_times(plain, copied(start, run), tables, 1)['opening']
-            counts = instructions(copied(start, run), folder)
-            plain_counts = plain_instructions(plain, copied(start, run), folder)
-            print(
-                f'{size} loads and ended jobs: opened in {opened:.2f} s, {memory // 1024} MB;'
-                f' SQLite reads the rows in {read:.2f} s'
-            )
-            print(
-                f'{""!s:<34} {"desk, us"!s:>10} {"SQLite, us"!s:>10} {"times"!s:>6} '
-                f'{"desk, instr."!s:>12} {"SQLite"!s:>12}'
-            )
-            for what in ours:
-                print(
-                    '%-34s %10.0f %10.0f %6s %12d %12d'
-                    % (
-                        what,
-                        ours[what] * 1e6,
-                        theirs[what] * 1e6,
-                        f'{ours[what] / theirs[what]:.2f}' if what in stated else '-',
-                        counts[what],
-                        plain_counts.get(what, 0),
-                    ),
-                    flush=True,
-                )
-            remove(run)
+            print_size(size, start, plain, tables)
 
 
 if __name__ == '__main__':

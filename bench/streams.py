@@ -3,6 +3,7 @@ Python's standard library alone; valgrind for the counts.
 
     DESK=crates/agv_app/out/agv_app python3 bench/streams.py
 """
+import http.client
 import json
 import os
 import re
@@ -10,46 +11,35 @@ import subprocess
 import sys
 import tempfile
 import time
-import http.client
 
-HERE = os.path.dirname(os.path.abspath(__file__))
-sys.path.insert(0, os.path.join(HERE, '..'))
+from loads import AT, DESK, HERE, calls, load
 
-from tests.support import calls  # noqa: E402
-
-DESK = os.path.abspath(os.environ.get('DESK', os.path.join(HERE, '..', 'build', 'desk')))
 PLAIN = os.path.join(HERE, 'plain_desk.py')
-AT = '1700000000000'
 LAYOUT = (
     'kind,id,from,to\nnode,N1,,\nnode,N2,,\nnode,N3,,\nedge,E12,N1,N2\nedge,E21,N2,N1\n'
     'edge,E23,N2,N3\nedge,E32,N3,N2\nstation,A,N1,999\nstation,B,N3,999\n'
 )
 
 
-def load(number):
-    return calls.load(f'L{number:07d}').to_bytes()
-
-
-def state(number):
+def state(number: int) -> bytes:
     return calls.state(number).to_bytes()
 
 
 START = calls.layout(LAYOUT).to_bytes() + calls.vehicle('0001', 'N1').to_bytes()
 
 
-def mixed(count):
+def mixed(count: int) -> bytes:
     """Registrations and states, one after the other."""
     return b''.join(load(i) + state(i + 1) for i in range(count // 2))
 
 
-def best(words, stdin, fresh=None, turns=3):
+def best(words: list[str], stdin: bytes, fresh: str, turns: int = 3) -> tuple[float, bytes]:
     """The least seconds of some runs, and the output of the last."""
     spent, out = [], b''
     for _ in range(turns):
-        if fresh:
-            for end in ('', '-wal', '-shm'):
-                if os.path.exists(fresh + end):
-                    os.remove(fresh + end)
+        for end in ('', '-wal', '-shm'):
+            if os.path.exists(fresh + end):
+                os.remove(fresh + end)
         begun = time.perf_counter()
         done = subprocess.run(words, input=stdin, capture_output=True)
         spent.append(time.perf_counter() - begun)
@@ -59,7 +49,7 @@ def best(words, stdin, fresh=None, turns=3):
     return min(spent), out
 
 
-def instructions(stdin, db):
+def instructions(stdin: bytes, db: str) -> int:
     done = subprocess.run(
         [
             'valgrind',
@@ -75,10 +65,12 @@ def instructions(stdin, db):
         input=stdin,
         capture_output=True,
     )
-    return int(re.search(rb'Collected : (\d+)', done.stderr).group(1))
+    found = re.search(rb'Collected : (\d+)', done.stderr)
+    assert found
+    return int(found[1])
 
 
-def counted(name, before, requests, folder):
+def counted(name: str, before: bytes, requests: list[bytes], folder: str) -> None:
     """The instructions of one request: of a hundred more of them, by a hundred; in memory and in a
     file."""
     for db in ('memory', os.path.join(folder, 'counted.db')):
@@ -98,10 +90,11 @@ def counted(name, before, requests, folder):
         )
 
 
-def sockets(words, count):
+def sockets(words: list[str], count: int) -> float:
     """The seconds in which a desk answers so many registrations over one connection, the client's
     own time among them."""
     desk = subprocess.Popen(words, stdout=subprocess.PIPE)
+    assert desk.stdout
     port = int(desk.stdout.readline().split(b':')[1])
     connection = http.client.HTTPConnection('127.0.0.1', port)
     begun = time.perf_counter()

@@ -120,7 +120,7 @@ class Judgement:
         return f'lost {self.lost}, two writers {self.writers}, stale {self.stale}'
 
 
-def asked(machine: int, what: str, changes: bool, ask: Any) -> tuple[Any, Answered]:
+def asked(machine: Any, what: str, changes: bool, ask: Any) -> tuple[Any, Answered]:
     """Makes a request, and returns its answer with what is noted of it."""
     sent = time.monotonic()
     answer = ask()

@@ -99,4 +99,17 @@ def small() -> Floor:
     return floor
 
 
-FLOORS = {'large': large, 'small': small}
+def huge() -> Floor:
+    """For a hundred vehicles: eight one-way rings in a circle, each joined to the next one by
+    single track with a passing place, and dead ends on each; 480 nodes."""
+    floor, rings = Floor(), 'NMSPQRTU'
+    for front in rings:
+        floor.ring(front, 32, 12, 2)
+        floor.spur(front + '03', 3, 8)
+        floor.spur(front + '19', 3, 8)
+    for track, here, after in zip('ABCEFGHJ', rings, rings[1:] + rings[:1]):
+        floor.single_track(track, here + '09', after + '25', 4)
+    return floor
+
+
+FLOORS = {'large': large, 'small': small, 'huge': huge}

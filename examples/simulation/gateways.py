@@ -2,11 +2,13 @@
 repeats and delays some."""
 from __future__ import annotations
 
+import json
 import random
 from collections.abc import Callable
 from typing import Any
 
 from nulvrader.desk.client import Desk, NoAnswer, Refused
+from nulvrader.gateway.words import Words
 
 from .clock import Clock
 from .plan import Line
@@ -44,6 +46,7 @@ class Gateway:
             tuple[str, int], float
         ] = {}  # when a message was last handed to the vehicle
         self.posted = 0
+        self.words: Words | None = None  # what tells a board what the vehicle says
 
     def serve(self, vehicle: Vehicle) -> None:
         """Begins to serve this vehicle."""
@@ -81,6 +84,8 @@ class Gateway:
         """Posts a state that the vehicle has made in this life of its own."""
         assert self.vehicle is not None
         self.posted += 1
+        if self.words is not None:
+            self.words.state(self.vehicle.name, json.dumps(state).encode())
         try:
             if self.desk.post_state(self.vehicle.key, state) and life == self.vehicle.life:
                 self.vehicle.posted = state['headerId']

@@ -4,13 +4,15 @@ way at once, and releases all of it with the order."""
 from __future__ import annotations
 
 import time
-from collections.abc import Callable, Mapping
+from collections.abc import Callable, Mapping, Sequence
 
 from nulvrader.desk.client import Desk, NoAnswer, Refused, Stop
 from nulvrader.dispatch.job_book import JobBook, Waiting
 from nulvrader.dispatch.lanes import Way
+from nulvrader.dispatch.plan import Plan
 from nulvrader.dispatch.snapshot import Seen, take
-from nulvrader.dispatch.traffic import Judge, Traffic
+from nulvrader.dispatch.judge import Judge
+from nulvrader.dispatch.traffic import Traffic
 from nulvrader.dispatch.routes import Ways
 from nulvrader.common.layouts import Layout
 from nulvrader.common.names import new_reference
@@ -27,6 +29,9 @@ class NoLook(Judge):
 
     def finish_later(self, traffic: Traffic) -> frozenset[str]:
         return frozenset(traffic.ways_later())
+
+    def plans(self, traffic: Traffic) -> list[Plan]:
+        return []
 
     def look_longer(self, traffic: Traffic, times: int) -> frozenset[str]:
         return self.finish_later(traffic)
@@ -66,6 +71,10 @@ class FirstCome:
     def shut_in(self) -> Mapping[str, tuple[float, str]]:
         """Nobody: who has an order has all of its way."""
         return {}
+
+    def plans(self) -> Sequence[Plan]:
+        """None: who has an order has all of its way."""
+        return ()
 
     def turn(self) -> bool:
         """One look at the desk, and orders for the jobs that wait. Whether the desk answered."""

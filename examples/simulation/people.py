@@ -70,7 +70,8 @@ class People:
         self.blocked: dict[str, float] = {}  # since when a vehicle stands in the way
 
     def begin(self, chance_acts: bool) -> None:
-        self.clock.every(self.habits.jobs, self.add_jobs, 12.0)
+        add = self.add_wave if self.habits.wave else self.add_jobs
+        self.clock.every(self.habits.jobs, add, 12.0)
         self.clock.every(self.habits.looks, self.put_right, self.habits.looks)
         if chance_acts:
             self.clock.every(self.habits.chance, self.act_by_chance, self.habits.chance)
@@ -91,6 +92,17 @@ class People:
             if self.trying is not None:
                 self.add_job(*self.trying)
                 self.trying = None
+        except NoAnswer:
+            pass
+
+    def add_wave(self) -> None:
+        """Adds many jobs at once. One for a load that has a job is refused, and is none."""
+        try:
+            for _ in range(self.habits.wave):
+                self.trying = self.trying or self.new_job()
+                if self.trying is not None:
+                    self.add_job(*self.trying)
+                    self.trying = None
         except NoAnswer:
             pass
 

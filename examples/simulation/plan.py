@@ -22,7 +22,8 @@ class Nature:
 @dataclass(frozen=True)
 class Habits:
     """Seconds between two jobs that are added, two acts by chance and two looks at what needs
-    hands; how many jobs wait at most; which part of the jobs, from 0 to 1, stays on the ring of its
+    hands; how many jobs wait at most; how many come at once every `jobs` seconds, whatever waits,
+    if they come in waves; which part of the jobs, from 0 to 1, stays on the ring of its
     load; and how long a vehicle stands in the way before somebody drives it away.
     """
 
@@ -30,6 +31,7 @@ class Habits:
     chance: float = 60.0
     looks: float = 20.0
     backlog: int = 30
+    wave: int = 0
     near: float = 0.8
     patience: float = 240.0
 
@@ -38,7 +40,8 @@ class Habits:
 class Trouble:
     """Seconds between two kills of the desk, of the dispatcher and of a gateway, and two restarts
     of a vehicle. None: never. `people`: whether people cancel, count and carry by chance. `away`:
-    how long a gateway is away (seconds, from .. to).
+    how long a gateway is away (seconds, from .. to). `stop`: seconds between two presses of an
+    emergency stop, and `stopped`: how long each lasts.
     """
 
     desk: float | None = 240.0
@@ -47,6 +50,8 @@ class Trouble:
     people: bool = True
     vehicle: float | None = 400.0
     away: tuple[float, float] = (5.0, 120.0)
+    stop: float | None = None
+    stopped: tuple[float, float] = (20.0, 90.0)
 
 
 @dataclass(frozen=True)
@@ -83,6 +88,9 @@ class Plan:
     # where no vehicle has moved for so many seconds although there are jobs, the plant stands for
     # good
     stands: float = 1800.0
+    # where nothing has moved for so many seconds although the dispatcher has a plan by which
+    # something can, it is wrong; a vehicle that it does not hear is in its plan for a minute
+    follows: float = 180.0
     circle: float = 120.0  # where vehicles have waited for each other for longer, it is wrong
     limit: float = 200_000.0  # seconds until the plant is given up
     pace: float | None = None

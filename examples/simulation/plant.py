@@ -7,15 +7,17 @@ import re
 import sqlite3
 import time
 from collections import Counter
-from collections.abc import Callable, Mapping
+from collections.abc import Callable, Mapping, Sequence
 from typing import Protocol
 
 from nulvrader.desk.client import Desk, NoAnswer
+from nulvrader.dispatch.plan import Plan as Standing
 from nulvrader.dispatch.shut_in import BEFORE
 from nulvrader.common.names import VehicleKey
 from nulvrader.desk.questions import who_waits
 from nulvrader.desk.exports import read_loads
 from nulvrader.desk.reports import Stock, read_holds, read_stock
+from nulvrader.gateway.words import Words
 
 from .clock import Clock
 from .day import TIME_OVER, Day
@@ -42,10 +44,14 @@ class Dispatching(Protocol):
     def shut_in(self) -> Mapping[str, tuple[float, str]]:
         ...
 
+    def plans(self) -> Sequence[Standing]:
+        ...
+
 
 class Plant:
     """A plant over a desk's program and a file that is not there yet. `dispatcher` makes a
-    dispatcher over a client, which takes its lines and the clock; `say` takes all lines."""
+    dispatcher over a client, which takes its lines and the clock; `say` takes all lines, and
+    `words` tells a board what vehicles say."""
 
     def __init__(
         self,
@@ -54,8 +60,9 @@ class Plant:
         dispatcher: Callable[[Desk, Callable[[str], None], Callable[[], float]], Dispatching]
         | None,
         say: Callable[[str], None] = lambda line: None,
+        words: Words | None = None,
     ) -> None:
-        self.plan, self.served, self.make = plan, served, dispatcher
+        self.plan, self.served, self.make, self.words = plan, served, dispatcher, words
         self.chance = random.Random(plan.seed)
         self.clock = Clock(plan.pace)
         self._say = say
@@ -77,6 +84,7 @@ class Plant:
         self.reason: dict[str, str] = {}  # and why, as far as the dispatcher has said since then
         self.heard: dict[str, str] = {}  # by vehicle the last line of the dispatcher
         self.shut_by: dict[str, str] = {}  # why vehicles are shut in, as of the last turn
+        self.can_move = 0.0  # when nothing could move by the dispatcher's plan last
         self.over, self.fetches = False, 0
         self.reasons = Reasons()
         self.people = People(
@@ -130,6 +138,7 @@ class Plant:
     def add_vehicle(self, key: VehicleKey, node: str) -> None:
         chance = random.Random(self.chance.random())
         gateway = Gateway(self.desk, self.clock, self.given, self.plan.line, chance, self.refused)
+        gateway.words = self.words
         vehicle = Vehicle(
             key,
             node,
@@ -181,6 +190,8 @@ class Plant:
         clock.every(10.0, self.look_for_circles, 10.0)
         clock.every(10.0, self.look_for_end, 60.0)
         clock.every(2.0, self.served.supervise)
+        if self.words is not None:
+            clock.every(1.0, self.words.turn)
         if self.make is not None:
             clock.every(self.plan.every, self.dispatch, 8.0)
         troubles = (
@@ -188,6 +199,7 @@ class Plant:
             (trouble.dispatcher, self.kill_dispatcher),
             (trouble.gateway, self.kill_gateway),
             (trouble.vehicle, self.restart_vehicle),
+            (trouble.stop, self.press_stop),
         )
         for seconds, what in troubles:
             if seconds is not None:
@@ -203,9 +215,24 @@ class Plant:
         try:
             if self.dispatcher.turn():
                 self.note_shut_in(self.dispatcher.shut_in())
+                self.check_plans(self.dispatcher.plans())
             self.day.counts['turns of the dispatcher'] += 1
         except Killed:
             self.dispatcher = None
+
+    def check_plans(self, plans: Sequence[Standing]) -> None:
+        """The dispatcher has a plan that can be carried out, and while something can move by it,
+        something does."""
+        faults = [fault for fault in (plan.fault() for plan in plans) if fault is not None]
+        if faults:
+            raise Wrong(f'the plan of the dispatcher can not be carried out: {faults[0]}')
+        last = max((vehicle.last_moved for vehicle in self.vehicles.values()), default=0.0)
+        self.can_move = self.clock.now if not plans or not plans[0].can_move() else self.can_move
+        if self.clock.now - max(last, self.can_move) > self.plan.follows:
+            raise Wrong(
+                f'nothing has moved for {self.clock.now - last:.0f} s, though the dispatcher has a'
+                ' plan by which something can'
+            )
 
     def hear(self, line: str) -> None:
         """A line of the dispatcher."""
@@ -244,6 +271,16 @@ class Plant:
                 self.say(f'{vehicle.name} is restarted, and has lost its order')
         except NoAnswer:
             pass
+
+    def press_stop(self) -> None:
+        """The emergency stop of one that stands is pressed."""
+        found = [one for one in self.vehicles.values() if one.goes_on() and not one.is_acting()]
+        standing = [one for one in found if not one.node_is_left()]
+        if standing:
+            vehicle = self.chance.choice(standing)
+            vehicle.press_stop(self.chance.uniform(*self.plan.trouble.stopped))
+            self.day.counts['emergency stops'] += 1
+            self.say(f'the emergency stop of {vehicle.name} is pressed')
 
     def fetch(self) -> None:
         """The gateways look for messages, on one connection."""

@@ -34,14 +34,8 @@ class Vehicle:
         tell: Callable[[], None],
     ) -> None:
         self.key, self.name = key, str(key)
-        self.clock, self.track, self.goods, self.given, self.failed, self.metres = (
-            clock,
-            track,
-            goods,
-            given,
-            failed,
-            metres,
-        )
+        self.clock, self.track, self.goods = clock, track, goods
+        self.given, self.failed, self.metres = given, failed, metres
         self.nature, self.chance, self.tell = nature, chance, tell
         self.node, self.sequence = node, 0
         self.order, self.update = '', 0
@@ -53,11 +47,11 @@ class Vehicle:
         self.order_header = self.instant_header = -1  # of the last messages that it took
         self.header = 0
         self.paused = False
-        self.cancelling: str | None = (
-            None  # the id of a cancelOrder that it carries out once it stands
-        )
+        # the id of a cancelOrder that it carries out once it stands
+        self.cancelling: str | None = None
         self.in_service = False
         self.by_hand = False
+        self.stopped = False  # whether its emergency stop is pressed
         self.left = nature.battery * chance.uniform(0.3, 1.0)  # metres
         self.turn = 0  # what was to happen before the last call of `stop` does not happen
         self.driven = 0.0
@@ -66,12 +60,10 @@ class Vehicle:
         self.restarted: float | None = None  # when it was restarted, until a person has placed it
         self.services = 0  # how often its battery was empty
         self.posted = -1  # the number of the last state that the desk has accepted
-        self.moved: dict[
-            str, int
-        ] = {}  # by load that it has picked or put down the number of the last state before that
-        self.dropped: set[
-            str
-        ] = set()  # the orders that were cancelled or cleared: a late update of one is passed over
+        # by load that it has picked or put down the number of the last state before that
+        self.moved: dict[str, int] = {}
+        # the orders that were cancelled or cleared: a late update of one is passed over
+        self.dropped: set[str] = set()
         track.put(self.name, node)
 
     # Messages.
@@ -153,7 +145,8 @@ class Vehicle:
     def goes_on(self) -> bool:
         """Whether it is ready and is not paused; whether the desk hears its states is not looked at
         here."""
-        return not (self.paused or self.in_service or self.by_hand or self.restarted is not None)
+        is_held = self.paused or self.in_service or self.by_hand or self.stopped
+        return not is_held and self.restarted is None
 
     def is_acting(self) -> bool:
         return 'RUNNING' in self.statuses.values()
@@ -194,6 +187,7 @@ class Vehicle:
             self.paused
             or self.in_service
             or self.by_hand
+            or self.stopped
             or self.node_is_left()
             or self.cancelling is not None
         ):
@@ -290,6 +284,32 @@ class Vehicle:
         self.tell()
         self.go_on()
 
+    def press_stop(self, seconds: float) -> None:
+        """Somebody presses its emergency stop, while it stands, and acknowledges it later."""
+        self.stopped = True
+        self.tell()
+        self.clock.after(seconds, self.end_stop)
+
+    def end_stop(self) -> None:
+        self.stopped = False
+        self.last_moved = self.clock.now
+        self.tell()
+        self.go_on()
+
+    def errors(self) -> list[dict[str, Any]]:
+        """What is wrong with it, as its states say it."""
+        found = []
+        if self.in_service:
+            text = f'battery empty at {self.node}, it has to be changed'
+            found.append(_error('batteryEmpty', 'FATAL', text, 'nodeId', self.node))
+        if self.stopped:
+            text = f'emergency stop pressed at {self.node}'
+            found.append(_error('emergencyStop', 'FATAL', text, 'nodeId', self.node))
+        for name, status in self.statuses.items():
+            if status == 'FAILED' and name in self.failed:
+                found.append(_error('actionFailed', 'WARNING', 'no grip', 'actionId', name))
+        return found
+
     def clear(self) -> None:
         """A person clears the order on it."""
         self.stop()
@@ -354,9 +374,16 @@ class Vehicle:
                 'charging': False,
             },
             'operatingMode': 'SERVICE' if self.in_service or self.by_hand else 'AUTOMATIC',
-            'errors': [],
-            'safetyState': {'eStop': 'NONE', 'fieldViolation': False},
+            'errors': self.errors(),
+            'safetyState': {'eStop': 'MANUAL' if self.stopped else 'NONE', 'fieldViolation': False},
         }
+
+
+def _error(kind: str, level: str, text: str, refers: str, to: str) -> dict[str, Any]:
+    """An error of a state."""
+    references = [{'referenceKey': refers, 'referenceValue': to}]
+    told = {'errorType': kind, 'errorLevel': level, 'errorDescription': text}
+    return {**told, 'errorReferences': references}
 
 
 def _said(action: dict[str, Any]) -> dict[str, str]:

@@ -3,16 +3,16 @@ from __future__ import annotations
 
 from collections.abc import Collection, Sequence
 
-from nulvrader.desk.questions import Wait
+from nulvrader.desk.questions import BlockedOrder
 
 from .truth import Wrong
 
-Circle = tuple[Wait, ...]
+Circle = tuple[BlockedOrder, ...]
 """Vehicles each of which waits for track that the next one holds, and the last for the first: none
 of them gets free by itself."""
 
 
-def circles(waits: Sequence[Wait]) -> list[Circle]:
+def circles(waits: Sequence[BlockedOrder]) -> list[Circle]:
     """The circles among what the desk shows, each from the vehicle of the least name on."""
     left = {wait.vehicle: wait for wait in waits if wait.in_circle}
     found = []
@@ -32,7 +32,7 @@ class Circles:
         self.most, self.longest = most, 0.0
         self._since: dict[Circle, float] = {}
 
-    def look(self, waits: Sequence[Wait], excused: Collection[str], now: float) -> None:
+    def look(self, waits: Sequence[BlockedOrder], excused: Collection[str], now: float) -> None:
         """Takes who waits for whom in this moment. The time of a circle begins anew where one in it
         is excused: it does not go on for another reason."""
         found = [

@@ -10,7 +10,7 @@ from collections.abc import Callable
 
 from nulvrader.desk.client import Desk
 from nulvrader.dispatch.dispatcher import Dispatcher, Settings
-from nulvrader.dispatch.traffic import Judge
+from nulvrader.dispatch.judge import Judge
 from nulvrader.common.layouts import Layout
 
 from .day import Day

@@ -449,6 +449,16 @@ class Crowd(unittest.TestCase):
             plain.settimeout(60)
             self.assertEqual(STATUS.findall(read_all(plain)), [b'408'])
 
+    def test_lines_of_blanks(self) -> None:
+        """A line of a head is 32 kB of blanks, and ends in a byte that no header has: each is
+        refused at once, and meanwhile the page is answered."""
+        for line in (b'X:' + b' ' * 32_000, b'X:' + b' a' * 16_000, b'X:a' + b'\t' * 32_000):
+            for plain in self.crowd(20, b'GET / HTTP/1.1\r\n%s\x01\r\n\r\n' % line):
+                plain.settimeout(60)
+                self.assertEqual(STATUS.findall(read_all(plain)), [b'400'])
+            self.plain.clear()
+            self.answers()
+
     def test_answers_that_nobody_takes(self) -> None:
         """Each asks for all that there is, and reads nothing."""
         request = b'GET /data HTTP/1.1\r\nHost: 127.0.0.1:%d\r\n\r\n' % self.board.port
@@ -722,7 +732,7 @@ class NoDesk(Watching):
         words = 'Whether it was done is not known, as the board ended before the answer came: '
         words += 'look first.'
         self.assertEqual(again.rows('SELECT done, answer FROM commands'), [(None, words)])
-        self.assertTrue(again.said(f'A load leaves: {words}'))
+        self.assertTrue(again.said(f'Load L1 leaves: {words}'))
 
     def test_an_endless_answer(self) -> None:
         """An answer that goes on: the board takes at most 300 MB for it."""
@@ -905,7 +915,15 @@ class FullDisk(Watching):
         self.board.stop()
         base = sqlite3.connect(self.board.db, isolation_level=None)
         base.executescript(
-            'DROP TABLE commands; '
+            'DROP TABLE commands; DROP TABLE events; DROP TABLE jobs; '
+            'CREATE TABLE events (n INTEGER PRIMARY KEY, at TEXT NOT NULL, kind TEXT NOT NULL, '
+            'words TEXT NOT NULL, vehicle TEXT, load TEXT) STRICT; '
+            'CREATE INDEX events_at ON events (at); '
+            "INSERT INTO events VALUES (5, '2026-11-28T06:15:00.123Z', 'load', 'L9 is gone', NULL, "
+            "'L9'); "
+            'CREATE TABLE jobs (job TEXT NOT NULL PRIMARY KEY, load TEXT NOT NULL, origin TEXT, '
+            'target TEXT, phase TEXT NOT NULL, order_name TEXT, vehicle TEXT, added TEXT, '
+            'began TEXT, ended TEXT) STRICT; '
             'CREATE TABLE commands (n INTEGER PRIMARY KEY, at TEXT NOT NULL, who TEXT NOT NULL, '
             'command TEXT NOT NULL, said TEXT NOT NULL, done INT NOT NULL, '
             'answer TEXT NOT NULL) STRICT; INSERT INTO commands VALUES '
@@ -920,6 +938,8 @@ class FullDisk(Watching):
         self.assertEqual(
             self.board.rows('SELECT n, who, done, answer FROM commands ORDER BY n'), rows
         )
+        events = self.board.rows('SELECT n, cause, words, load FROM events WHERE n <= 5')
+        self.assertEqual(events, [(5, 'unknown', 'L9 is gone', 'L9')])
 
 
 class Values(Watching):
@@ -996,6 +1016,87 @@ class Values(Watching):
             STATUS.findall(sent(self.board.port, head.replace(b'X-User: otto', b'X: \x1b[2J'))),
             [b'400'],
         )
+
+
+class HostileWords(Watching):
+    """What is sent to the socket on which gateways tell of vehicles."""
+
+    def setUp(self) -> None:
+        self.plant = Plant()
+        self.addCleanup(self.plant.close)
+        self.desk, self.path = self.plant.desk, self.plant.path('words.sock')
+        self.plant.vehicle(ONE, 'N1')
+        self.board = self.plant.board('--words', self.path, '--silent', '600')
+        self.out = socket.socket(socket.AF_UNIX, socket.SOCK_DGRAM)
+        self.addCleanup(self.out.close)
+        self.wait('vehicle', 'KIT/0001', node='N1')
+
+    def tell(self, **members: Any) -> None:
+        """Tells of KIT/0001."""
+        told = {'manufacturer': 'KIT', 'serialNumber': '0001', **members}
+        self.out.sendto(json.dumps(told).encode(), self.path)
+
+    def test_a_flood(self) -> None:
+        """Invented vehicles, bytes and datagrams that are too long, as fast as they go: the board
+        asks the desk as before, shows nothing of them, and hears the real one."""
+        self.out.setblocking(False)
+        ends, sent = time.monotonic() + 4, 0
+        while time.monotonic() < ends:
+            for data in (
+                json.dumps({'manufacturer': 'X', 'serialNumber': str(sent)}).encode(),
+                os.urandom(100),
+                b'{' * 20_000,
+            ):
+                with contextlib.suppress(OSError):
+                    self.out.sendto(data, self.path)
+                    sent += 1
+        self.assertGreater(sent, 100)
+        self.out.setblocking(True)
+        self.tell(operatingMode='SERVICE')
+        self.wait('said', 'KIT/0001', mode='SERVICE')
+        self.assertEqual(self.board.all('said').keys(), {'KIT/0001'})
+        self.desk.register_load('L1', 'A')
+        self.wait('load', 'L1', place='station A')
+        self.assertEqual(self.board.stop(), (0, ''))
+
+    def test_a_socket_of_others(self) -> None:
+        """One that is left by a board that was killed is taken; one on which another program
+        listens, and a file, stay."""
+        self.board.stop(9)
+        self.board = self.plant.board('--words', self.path)
+        with self.assertRaises(AssertionError) as failed:
+            self.plant.board('--words', self.path, '--db', self.plant.path('other.db'))
+        self.assertIn('in use', str(failed.exception))
+        with open(self.plant.path('file'), 'w') as file:
+            file.write('mine')
+        with self.assertRaises(AssertionError):
+            self.plant.board('--words', file.name, '--db', self.plant.path('other.db'))
+        with open(file.name) as kept:
+            self.assertEqual(kept.read(), 'mine')
+
+    def test_a_vehicle_that_says_all_that_it_can(self) -> None:
+        """For some seconds, ever other errors with long texts of any characters: what is kept of it
+        is small, and nothing of it is obeyed by a terminal or a page."""
+        text = '\x1b]0;x\x07\u202e<script>alert(1)</script>' * 6
+        ends, number = time.monotonic() + 4, 0
+        while time.monotonic() < ends:
+            number += 1
+            error = {
+                'errorType': f'{number}{text}',
+                'errorLevel': 'FATAL',
+                'errorDescription': text,
+            }
+            with contextlib.suppress(OSError):
+                self.tell(operatingMode=f'{number}{text}', errors=[error] * 4)
+            time.sleep(0.005)
+        self.assertGreater(number, 100)
+        self.wait('said', 'KIT/0001', stop='NONE')
+        rows = self.board.rows("SELECT words FROM events WHERE what LIKE 'said.%'")
+        self.assertLessEqual(len(rows), 61)
+        self.assertTrue(all(words.isprintable() for (words,) in rows))
+        ((size,),) = self.board.rows('SELECT length(errors) + length(mode) FROM vehicle_words')
+        self.assertLess(size, 8000)
+        self.assertEqual(self.board.stop(), (0, ''))
 
 
 @unittest.skipUnless(has_loopback(), 'no sockets on 127.0.0.1 here')
@@ -1083,7 +1184,7 @@ def load_tests(
 ) -> unittest.TestSuite:
     """`Watching` has no tests of its own."""
     suite = unittest.TestSuite()
-    cases = Desync, ForeignPage, Crowd, MadeOnce, NoDesk, OtherDesk, FullDisk, Values, OtherUser
-    for case in cases:
+    cases = Desync, ForeignPage, Crowd, MadeOnce, NoDesk, OtherDesk, FullDisk, Values
+    for case in (*cases, HostileWords, OtherUser):
         suite.addTests(loader.loadTestsFromTestCase(case))
     return suite

@@ -228,7 +228,10 @@ TRUE: dict[str, bytes] = {
     'GET /loads/L1': b'{"job":"J1","load":"L1","place":"station A"}',
     'GET /uagv/v2/KIT/0001/order': json.dumps(ORDER).encode(),
     'GET /uagv/v2/KIT/0001/instantActions': json.dumps({**HEAD, 'actions': [INSTANT]}).encode(),
+    'GET /jobs/J1/phase': b'{"from":"A","job":"J1","load":"L1","order":"O1","phase":"riding",'
+    b'"to":"B","vehicle":"KIT/0001"}',
     'POST /orders': b'{"orderUpdateId":0}',
+    'POST /drives': b'{"orderUpdateId":0}',
     'POST /vehicles/KIT/0001/advance': b'{"orderUpdateId":1}',
     'POST /vehicles/KIT/0001/cancel': b'{"actionId":"instant-1"}',
     'POST /uagv/v2/KIT/0001/state': b'{"accepted":true}',
@@ -284,7 +287,9 @@ CALLS: dict[str, Callable[[client.Desk], object]] = {
     'GET /loads/L1': lambda desk: desk.load('L1'),
     'GET /uagv/v2/KIT/0001/order': lambda desk: desk.order_message(KIT),
     'GET /uagv/v2/KIT/0001/instantActions': lambda desk: desk.instant_actions(KIT),
+    'GET /jobs/J1/phase': lambda desk: desk.job('J1'),
     'POST /orders': lambda desk: desk.start_order('O1', KIT, job='J1', edges=1),
+    'POST /drives': lambda desk: desk.start_drive('O1', KIT, 'N1', 1),
     'POST /vehicles/KIT/0001/advance': lambda desk: desk.advance(KIT, 'O1', 1, 1),
     'POST /vehicles/KIT/0001/cancel': lambda desk: desk.cancel(KIT),
     'POST /uagv/v2/KIT/0001/state': lambda desk: desk.post_state(KIT, {}),
@@ -457,6 +462,20 @@ class EndlessAnswers(Attack):
                 with self.subTest(f'{what}, {command}'), Server(always(send)) as server:
                     done = asks('--timeout', '30', *command.split(), address=server.address)
                     self.check_no_answer(done, what)
+
+    def test_texts_that_are_short_in_every_warehouse(self) -> None:
+        """80 MB of what looks like rows: that is refused by the length, since rows take many times
+        as much memory as their bytes."""
+        for command, rows, most in (
+            ('layout', b'kind,id,from,to\n' + 8_800_000 * b'node,N,,\n', '65,537'),
+            ('vehicles', 79_000_000 * b'\n', '1,000,000'),
+            ('hold-report', 3_700_000 * b'node N1 KIT/0001\n', '1,000,000'),
+        ):
+            with self.subTest(command), Server(http(rows)) as server:
+                done = asks('--timeout', '50', command, address=server.address)
+                self.check_no_answer(done, command)
+                self.assertIn(f'it answers more than {most} bytes', done[2])
+                self.assertRaises(client.NotADesk, exports.read_layout, rows)
 
     def test_a_report_of_empty_lines(self) -> None:
         """A whole answer, as long as one may be, whose lines are many: it is no report."""
@@ -696,6 +715,7 @@ class WrongValues(Attack):
             desk.register_load,
             desk.load,
             desk.stop_job,
+            desk.job,
             lambda bad: desk.register_load('L1', bad),
             lambda bad: desk.register_vehicle(KIT, bad),
             lambda bad: desk.correct_load(bad, 'R1'),
@@ -710,6 +730,9 @@ class WrongValues(Attack):
             lambda bad: desk.start_order('O1', KIT, stops=[client.Stop('pick', bad)], edges=1),
             lambda bad: desk.start_order('O1', KIT, stops=[client.Stop(bad, 'J1')], edges=1),
             lambda bad: desk.start_order('O1', KIT, stops=[bad], edges=1),
+            lambda bad: desk.start_drive(bad, KIT, 'N1', 1),
+            lambda bad: desk.start_drive('O1', KIT, bad, 1),
+            lambda bad: desk.start_drive('O1', VehicleKey('KIT', bad), 'N1', 1),
             lambda bad: desk.advance(KIT, bad, 1, 1),
             lambda bad: desk.place(KIT, bad, 'N1'),
             lambda bad: desk.place(KIT, 'R1', bad),
@@ -727,6 +750,7 @@ class WrongValues(Attack):
     def test_numbers(self) -> None:
         desk = self.desk
         self.refuses(lambda bad: desk.start_order('O1', KIT, job='J1', edges=bad), self.NUMBERS)
+        self.refuses(lambda bad: desk.start_drive('O1', KIT, 'N1', bad), self.NUMBERS)
         self.refuses(lambda bad: desk.advance(KIT, 'O1', bad, 1), self.NUMBERS)
         self.refuses(lambda bad: desk.advance(KIT, 'O1', 1, bad), self.NUMBERS)
         wrong = [value for value in self.NUMBERS if value is not None]

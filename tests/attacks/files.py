@@ -431,6 +431,19 @@ class NoTables(Attack):
                     if words[0] != 'backup':
                         self.check_sentence(ran(*words), (what, words[0]), (0, 1, 2, 3))
 
+    def test_behind_the_statement_of_a_table(self) -> None:
+        """SQLite reads the first statement of a text in its list of tables, so behind that stands
+        what it likes: a million quotes of a kind, or beginnings of comments, without an end."""
+        for sign in ('[', "''", '"', '`', '/*', '-', '[]', "''x"):
+            with self.subTest(sign):
+                text = f"replace(hex(zeroblob({500_000 // len(sign)})), '0', '{sign}')"
+                self.fill(
+                    'PRAGMA writable_schema = ON; UPDATE sqlite_master'
+                    f" SET sql = sql || ' ;' || {text} WHERE name = 'load'"
+                )
+                for words in self.readers():
+                    self.check_sentence(ran(*words), (sign, words[0]), (0, 1, 2, 3))
+
     def test_many_rows_that_break_rules(self) -> None:
         """Each of 100,000 loads breaks three rules: the first are told, and the others counted, not
         kept."""

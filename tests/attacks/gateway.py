@@ -175,6 +175,47 @@ class InventedVehicles(Attacked):
 
 @with_mosquitto
 @with_paho
+class StuckBoards(WithADesk):
+    """A gateway that is to tell a board what vehicles say."""
+
+    def serve(self, path: str) -> None:
+        """Starts a gateway that tells at this path, and has states arrive at the desk."""
+        self.broker('allow_anonymous true')
+        self.gateway(self.desk.address, '--board', path, '--vehicle', 'KIT/0001')
+        vehicle = self.enterContext(Client(self.port))
+        begun, number = time.monotonic(), 0
+
+        def has_arrived() -> bool:
+            nonlocal number
+            number += 1
+            vehicle.publish(TOPIC + 'state', state(number))
+            return (self.header() or 0) >= 40
+
+        until(has_arrived, 'the states at the desk')
+        self.assertLess(time.monotonic() - begun, PATIENCE)
+        said = [line for line in self.said('gateway') if 'board' in line]
+        self.assertLessEqual(len(said), 1, said)
+
+    def test_nobody_reads(self) -> None:
+        """The socket of a board that hangs is full: states arrive as before."""
+        path = self.path('words.sock')
+        with socket.socket(socket.AF_UNIX, socket.SOCK_DGRAM) as stuck:
+            stuck.bind(path)
+            with socket.socket(socket.AF_UNIX, socket.SOCK_DGRAM) as other:
+                other.setblocking(False)
+                with contextlib.suppress(BlockingIOError):
+                    while True:
+                        other.sendto(b'x', path)
+            self.serve(path)
+
+    def test_what_is_no_board(self) -> None:
+        """A path where there is nothing: it is said once."""
+        self.serve(self.path('nothing'))
+        self.assertTrue(self.has_said('gateway', 'the board is not told'))
+
+
+@with_mosquitto
+@with_paho
 class LongMessages(Attacked):
     def test_a_giant_state(self) -> None:
         """A state of 39 MB that takes a gigabyte when it is parsed is dropped before that."""

@@ -16,6 +16,9 @@ from tests.attacks.board import OtherUser
 from tests.attacks.way_in import CommandOfAGateway, CommandOfAReader
 from tests.attacks.way_in import Record
 
+# Anybody fills the disk by a site of nginx that is not the desk's; the record ends at a rotation.
+from tests.attacks.record import OddBytes, OtherSites, RotatedRecord
+
 # The board's token is taken by a request within the body of another one.
 from tests.attacks.board import Desync
 
@@ -30,7 +33,7 @@ from tests.attacks.way_in import ConnectionsOfAnAddress, SilentConnections
 from tests.attacks.gateway import BrokerConnections, BrokerOfAllAddresses
 
 # A reader keeps the others from the desk; passwords are tried, and names found out.
-from tests.attacks.way_in import Starvation, UnreadReports
+from tests.attacks.way_in import PagesOfReaders, Starvation, UnreadReports
 from tests.attacks.way_in import NamesOfUsers, Passwords
 
 # Another server answers on the desk's port: to the client and `ask`, the dispatcher, the gateway
@@ -97,12 +100,16 @@ __all__ = [
     'NoDesk',
     'NoRegularFile',
     'NoTables',
+    'OddBytes',
     'OtherDesk',
+    'OtherSites',
     'OtherUser',
     'OverAUnixSocket',
+    'PagesOfReaders',
     'Passwords',
     'Record',
     'RequestOfAForeignPage',
+    'RotatedRecord',
     'SilentConnections',
     'Starvation',
     'TerminalEscapes',

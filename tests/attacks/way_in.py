@@ -293,7 +293,8 @@ class CommandOfAGateway(ThroughNginx):
         be refused."""
         calls = ['PUT /layout', 'POST /loads/L1/leave', 'DELETE /jobs/J1', 'POST /stocktakes/R1']
         calls += [
-            f'POST /{name}' for name in ('vehicles', 'loads', 'jobs', 'orders', 'loads/L1/correct')
+            f'POST /{name}'
+            for name in ('vehicles', 'loads', 'jobs', 'orders', 'drives', 'loads/L1/correct')
         ]
         acts = ('advance', 'cancel', 'pause', 'resume', 'place', 'resync')
         calls += [f'POST /vehicles/KIT/0001/{act}' for act in acts]
@@ -666,6 +667,83 @@ class UnreadReports(unittest.TestCase):
             self.addCleanup(asking(self.proxy, '127.0.0.2', 'GET /export/loads', 'otto:x').close)
         told = self.proxy.ask('GET /export/loads', user='otto')
         self.assertEqual((told.status, len(told.body)), (200, LARGE))
+
+
+class BusyBoard:
+    """In the board's place: answers dispatchers, and keeps all others waiting."""
+
+    def __init__(self, port: int) -> None:
+        self.listener = socket.create_server(('127.0.0.1', port), backlog=300)
+        self.waiting: list[socket.socket] = []
+        threading.Thread(target=self._serve, daemon=True).start()
+
+    def _serve(self) -> None:
+        with contextlib.suppress(OSError):
+            while True:
+                line, _ = self.listener.accept()
+                if b'X-User: anna\r\n' in line.recv(65536):
+                    line.sendall(b'HTTP/1.1 200 OK\r\nContent-Length: 0\r\n\r\n')
+                    line.close()
+                else:
+                    self.waiting.append(line)
+
+    def close(self) -> None:
+        """Ends it."""
+        with contextlib.suppress(OSError):
+            self.listener.shutdown(socket.SHUT_RDWR)
+        for line in [self.listener, *self.waiting]:
+            line.close()
+
+
+@unittest.skipUnless(has_loopback(), 'no sockets on 127.0.0.1 here')
+@unittest.skipIf(proxies.MISSING, proxies.WHY)
+class PagesOfReaders(unittest.TestCase):
+    """Readers ask for pages of the board from many addresses, so that it has no connection for
+    others."""
+
+    def setUp(self) -> None:
+        self.board = BusyBoard(free_port())
+        self.addCleanup(self.board.close)
+        self.proxy = Proxy(1, self.board.listener.getsockname()[1])
+        self.addCleanup(self.proxy.close)
+        self.asked = 0
+
+    def status(self, user: str) -> int | None:
+        """Asks for a page from an address that changes; what is answered, or None once it waits at
+        the board."""
+        self.asked += 1
+        before = len(self.board.waiting)
+        plain = socket.socket()
+        plain.bind((f'127.0.0.{2 + self.asked % 20}', 0))
+        plain.connect(('127.0.0.1', self.proxy.tls_port))
+        context = ssl.create_default_context(cafile=self.proxy.path('server.pem'))
+        line = context.wrap_socket(plain, server_hostname='127.0.0.1')
+        self.addCleanup(line.close)
+        target = ('/board/data?run=&since=0', '/board/commands')[self.asked % 2]
+        head = [f'GET {target} HTTP/1.1', f'Host: {self.proxy.host(True)}']
+        head += [proxies.basic(user, f'{user}!'), 'Connection: close', '', '']
+        line.sendall('\r\n'.join(head).encode())
+        line.settimeout(0.05)
+        found: list[int] = []
+
+        def is_over() -> bool:
+            with contextlib.suppress(TimeoutError):
+                found.append(int(line.recv(12).split()[1]))
+            return bool(found) or len(self.board.waiting) > before
+
+        until(is_over, 'the request is answered, or waits at the board')
+        return found[0] if found else None
+
+    def test_from_many_addresses(self) -> None:
+        """A reader has 32 pages under way from all addresses together, and all readers 64: another
+        reader has its own, and a dispatcher is answered."""
+        self.proxy.add_user('reader', '')
+        self.assertEqual({self.status('otto') for _ in range(32)}, {None})
+        self.assertEqual({self.status('otto') for _ in range(3)}, {429})
+        self.assertEqual({self.status('ANNA') for _ in range(32)}, {None})
+        self.assertEqual(self.status('reader'), 502)
+        self.assertEqual(self.status('anna'), 200)
+        self.assertEqual(len(self.board.waiting), 64)
 
 
 class SilentConnections(ThroughNginx):

@@ -10,19 +10,20 @@ import random
 import sqlite3
 import tempfile
 import unittest
+from typing import Any
 
-from tests.support.breaks import BREAKS
+from tests.support.breaks import BREAKS, DRIVE_BREAKS
 from tests.support.calls import REPORTS, request
 from tests.support.faults import ALL, STORAGE, Script, full_log, lines, remove, scripts
-from nulvrader.file.rows import SECOND, TABLES
+from nulvrader.file.tables import SECOND, TABLES
 from tests.support.records import FOLDER, answers_of_rows, broken, copied, rows_of
-from tests.support.damages import FILLED, FINISHED, SHAPES, asked, damaged
+from tests.support.damages import DRIVEN, FILLED, FINISHED, SHAPES, asked, damaged
 from tests.support.answers import answers_of
 from tests.support.first_schema import BEGUN, FIRST, committed
 from tests.support.first_schema import LAYOUT as NO_VEHICLE
 from tests.support.desks import AT, run
 from tests.support.calls import advance, state
-from tests.support.scripts import job, load, ok, order
+from tests.support.scripts import drive, job, load, ok, order
 
 DAMAGES = int(os.environ.get('DAMAGES', '28'))
 SECONDS = 10
@@ -40,12 +41,13 @@ WRITES = [
     ok('POST /loads/L9/leave', {'ref': 'R5'}),
     ok('DELETE /jobs/J8'),
     ok('POST /vehicles/KIT/0001/resync', ''),
+    drive('G2', 'N7', 0, '0002'),
 ]
 
 
-def reads_of(rows):
-    """What is asked of a file: the reports, the exports, each vehicle with its messages, loads of
-    which there are some, and one that isn't."""
+def reads_of(rows: Any) -> list[Any]:
+    """What is asked of a file: the reports, the exports, each vehicle with its messages, loads and
+    jobs of which there are some, and one of each that isn't."""
     keys = ['%s/%s' % (row[0], row[1]) for row in rows['vehicle']]
     return [
         *[call.target for call in REPORTS],
@@ -53,18 +55,20 @@ def reads_of(rows):
         *['/uagv/v2/%s/%s' % (key, topic) for key in keys for topic in ('order', 'instantActions')],
         *['/loads/' + row[0] for row in rows['load'][:8]],
         '/loads/no',
+        *[f'/jobs/{row[0]}/phase' for row in rows['job'][:8]],
+        '/jobs/no/phase',
     ]
 
 
 class FilesTest(unittest.TestCase):
-    def setUp(self):
+    def setUp(self) -> None:
         self.folder = tempfile.TemporaryDirectory(dir=FOLDER)
         self.db = os.path.join(self.folder.name, 'damaged.db')
 
-    def tearDown(self):
+    def tearDown(self) -> None:
         self.folder.cleanup()
 
-    def replay(self, stdin):
+    def replay(self, stdin: bytes) -> tuple[list[tuple[Any, Any]], Any]:
         """What the program answers, and what it says at its end; it is one of the ends that
         docs/HTTP.md has."""
         status, out, said = run('replay', '--db', self.db, '--at', AT, stdin=stdin, limit=SECONDS)
@@ -83,7 +87,7 @@ class FilesTest(unittest.TestCase):
             self.assertTrue(status == 0 or out == b'')
         return [(answer.status, answer.body) for answer in found], said.decode().strip()
 
-    def files(self):
+    def files(self) -> Any:
         found = {}
         for end in ('', '-wal'):
             if os.path.exists(self.db + end):
@@ -91,13 +95,13 @@ class FilesTest(unittest.TestCase):
                     found[end] = file.read()
         return found
 
-    def put(self, files):
+    def put(self, files: Any) -> None:
         remove(self.db)
         for end, data in files.items():
             with open(self.db + end, 'wb') as file:
                 file.write(data)
 
-    def checked(self):
+    def checked(self) -> Any:
         """The rows as another SQLite reads them, which break no rule; none where it can't."""
         try:
             rows = rows_of(self.db, check=False)
@@ -106,7 +110,7 @@ class FilesTest(unittest.TestCase):
         self.assertEqual(broken(rows), [])
         return rows
 
-    def look(self, reads, known):
+    def look(self, reads: Any, known: Any) -> tuple[Any, Any, bool] | tuple[Any, None, bool]:
         """The program is asked all that it tells of a file. What it answers is what a desk of the
         rows tells that another SQLite reads there, or, where that reads none, of rows that are
         known to have been there. It gives what the program says at its end, the rows that it has
@@ -129,14 +133,14 @@ class FilesTest(unittest.TestCase):
 
 
 class Damaged(FilesTest):
-    def into_database(self):
+    def into_database(self) -> None:
         """What the log has is put into the database, and the log is gone."""
         base = sqlite3.connect(self.db)
         base.execute('PRAGMA wal_checkpoint(TRUNCATE)')
         base.close()
         self.assertEqual(list(self.files()), [''])
 
-    def kinds_of(self, script):
+    def kinds_of(self, script: Any) -> Any:
         """The files that a script leaves, each with the end of the name of the one that is
         changed."""
         kinds, half = {}, len(script.requests) // 2
@@ -161,12 +165,13 @@ class Damaged(FilesTest):
             self.assertEqual(rows_of(self.db), script.rows[-1])
         return kinds
 
-    def played(self):
+    def played(self) -> Any:
         filled = Script(lines(FILLED)).play(self.folder.name)
         self.assertEqual({answer.status for answer in answers_of(filled.out)[0]}, {200})
         self.assertEqual({table for table in TABLES if not filled.rows[-1][table]}, {'trip'})
         found = {
             'a row of each kind': filled,
+            'a drive under way': Script(lines(FILLED + DRIVEN)),
             'a new desk': Script([]),
             **scripts(),
             'a full log': full_log(),
@@ -178,7 +183,7 @@ class Damaged(FilesTest):
                 self.assertEqual(broken(rows), [], name)
         return found
 
-    def check_damaged(self, files, statements):
+    def check_damaged(self, files: Any, statements: str) -> None:
         """The files are damaged once these statements were carried out, and stay as they are
         then."""
         self.put(files)
@@ -192,20 +197,25 @@ class Damaged(FilesTest):
         self.assertEqual(self.files()[''], changed[''])
         self.assertEqual(committed(self.files()['-wal']), b'')
 
-    def test_rows_that_break_a_rule(self):
+    def test_rows_that_break_a_rule(self) -> None:
         """Of each the desk tells."""
-        files, _ = self.kinds_of(self.played()['a row of each kind'])['the database']
-        for statement, _, _ in BREAKS:
-            with self.subTest(statement):
-                self.check_damaged(files, statement)
+        played = self.played()
+        for name, breaks in (
+            ('a row of each kind', BREAKS),
+            ('a drive under way', DRIVE_BREAKS),
+        ):
+            files, _ = self.kinds_of(played[name])['the database']
+            for statement, _, _ in breaks:
+                with self.subTest(statement):
+                    self.check_damaged(files, statement)
 
-    def test_tables_of_another_shape(self):
+    def test_tables_of_another_shape(self) -> None:
         files, _ = self.kinds_of(self.played()['a row of each kind'])['the database']
         for statements in SHAPES:
             with self.subTest(statements):
                 self.check_damaged(files, statements)
 
-    def test_fronts(self):
+    def test_fronts(self) -> None:
         """Each front of each script, with nothing changed: what the desk tells is what the model
         says of the rows."""
         looked = 0
@@ -220,8 +230,21 @@ class Damaged(FilesTest):
                     looked += 1
         self.assertGreater(looked, 80)
 
-    def test_changes_at_random(self):
-        told = {}
+    def kind_of(self, found: Any, last: Any, changed: bytes, end: str) -> str:
+        """What has become of the rows, in words."""
+        if found == last:
+            return 'the same'
+        if end:
+            return 'fewer calls'
+        if any(found[table] for table in found if table != 'meta'):
+            return 'other rows'
+        # A file of no byte, and one of a byte alone, is taken for one in which no desk was made
+        # yet.
+        self.assertLessEqual(len(changed), 1)
+        return 'a new desk'
+
+    def test_changes_at_random(self) -> None:
+        told: dict[Any, Any] = {}
         for name, script in self.played().items():
             kinds, rows, reads = self.kinds_of(script), script.rows, reads_of(script.rows[-1])
             self.put(kinds['the database'][0])
@@ -237,17 +260,9 @@ class Damaged(FilesTest):
                         len(committed(files[end])) if end else 0,
                     )
                     self.put({**files, end: changed})
+                    found: Any
                     said, found, read = self.look(reads, rows if end else rows[-1:])
-                    what = said or (
-                        'the same' if found == rows[-1] else 'fewer calls' if end else 'other rows'
-                    )
-                    if what == 'other rows' and not any(
-                        found[table] for table in found if table != 'meta'
-                    ):
-                        # A file of no byte, and one of a byte alone, is taken for one in which no
-                        # desk was made yet.
-                        self.assertLessEqual(len(changed), 1)
-                        what = 'a new desk'
+                    what = said or self.kind_of(found, rows[-1], changed, end)
                     what += '' if read else ', unread by another SQLite'
                     if found and end:
                         self.assertTrue(found in rows, 'rows that the desk never had')
@@ -261,13 +276,9 @@ class Damaged(FilesTest):
                         what += ', and then ' + said if said else ''
                     told[name, kind, what] = told.get((name, kind, what), 0) + 1
             if ALL:
-                print(
-                    '\n'.join(
-                        '%s, %s: %s: %d' % (*met, count)
-                        for met, count in sorted(told.items())
-                        if met[0] == name
-                    )
-                )
+                for (of, kind, what), count in sorted(told.items()):
+                    if of == name:
+                        print(f'{of}, {kind}: {what}: {count}')
         # Some changes are told, or end the log, and some touch nothing that is looked at.
         for kind, (_, end) in kinds.items():
             met = {
@@ -279,7 +290,7 @@ class Damaged(FilesTest):
 
 
 class BeforeAMove(FilesTest):
-    def first_rows(self):
+    def first_rows(self) -> Any:
         """All rows of the file of the first schema, as another SQLite reads them; none where it
         can't."""
         with tempfile.TemporaryDirectory(dir=self.folder.name) as folder:
@@ -295,10 +306,10 @@ class BeforeAMove(FilesTest):
             finally:
                 base.close()
 
-    def test_changes_at_random(self):
+    def test_changes_at_random(self) -> None:
         """It is moved, and then it has the rows of a lawful world, or it isn't, and has the rows
         that it had."""
-        told = {}
+        told: dict[Any, Any] = {}
         for name, text in (('an open order', BEGUN), ('no vehicle', NO_VEHICLE)):
             remove(self.db)
             base = sqlite3.connect(self.db)
@@ -313,10 +324,12 @@ class BeforeAMove(FilesTest):
                     self.put({'': damaged(first, random.Random(f'{name} {number}'))})
                     before = self.first_rows()
                     status, out, said = run('migrate', '--db', self.db, limit=SECONDS)
+                    what: Any
+                    found: Any
                     if status == 0:
                         self.assertEqual((out, said), (b'migrated\n', b''))
                         said, found, read = self.look(reads, [moved])
-                        rows = said or ('the same' if found == moved else 'other rows')
+                        rows: Any = said or ('the same' if found == moved else 'other rows')
                         what = f'moved, {rows}' + ('' if read else ', unread by another SQLite')
                     else:
                         self.assertIn(

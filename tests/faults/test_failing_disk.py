@@ -8,6 +8,7 @@ import errno
 import os
 import sqlite3
 import unittest
+from typing import Any
 
 from tests.support import tracing
 from tests.support.faults import ALL, STORAGE, Move, check_kept, moves, sample, scripts
@@ -42,29 +43,29 @@ ROOM = {'openat', 'write', 'pwrite64', 'pwritev', 'ftruncate', 'fallocate', 'fsy
 SYNCS = {'fsync', 'fdatasync'}
 
 
-def works(number, call):
+def works(number: int, call: Any) -> None:
     """What each call is told on a disk that works."""
 
 
-def fails(n, error, once):
+def fails(n: int, error: Any, once: Any) -> Any:
     """What each call is told where the n-th fails, by itself or with all behind it."""
     return lambda number, call: (
         tracing.Fails(error) if number == n or number > n and not once else None
     )
 
 
-@unittest.skipIf(LACKS, LACKS)
+@unittest.skipIf(LACKS is not None, LACKS or '')
 class FailingDisk(FaultTest):
-    def serve(self, script, kinds, told):
+    def serve(self, script: Any, kinds: Any, told: Any) -> Any:
         """The program serves the script; what each of its calls on the file of these kinds is told,
         by its number."""
         script.start(self.db)
         return self.run_on(self.words, script.input, kinds, told)
 
-    def run_on(self, words, stdin, kinds, told):
+    def run_on(self, words: Any, stdin: bytes, kinds: Any, told: Any) -> tuple[Any, Any]:
         seen = []
 
-        def on_call(call):
+        def on_call(call: Any) -> Any:
             if call.name not in kinds:
                 return None
             path = call.path
@@ -75,7 +76,7 @@ class FailingDisk(FaultTest):
 
         return tracing.run(words, CALLS, on_call, stdin), seen
 
-    def check(self, kinds, error, once, most):
+    def check(self, kinds: Any, error: Any, once: Any, most: int) -> None:
         """A failure at each call; or at so many of the opening, and at twice as many behind it.
         None is passed over."""
         met = {'not opened': 0, 'refused': 0}
@@ -109,20 +110,20 @@ class FailingDisk(FaultTest):
             print(f'errno {error}, {"once" if once else "from then on"}: {met}')
         self.assertGreater(min(met.values()), 10)
 
-    def test_each_call_fails_from_one_on(self):
+    def test_each_call_fails_from_one_on(self) -> None:
         self.check(set(CALLS), errno.EIO, False, 4)
 
-    def test_one_call_fails(self):
+    def test_one_call_fails(self) -> None:
         self.check(set(CALLS), errno.EIO, True, 3)
 
-    def test_one_sync_fails(self):
+    def test_one_sync_fails(self) -> None:
         """Nothing is answered that it was to keep, though the disk works again behind it."""
         self.check(SYNCS, errno.EIO, True, 2)
 
-    def test_no_room_from_one_write_on(self):
+    def test_no_room_from_one_write_on(self) -> None:
         self.check(ROOM, errno.ENOSPC, False, 3)
 
-    def test_a_call_of_a_move_fails(self):
+    def test_a_call_of_a_move_fails(self) -> None:
         """By itself, or with all behind it, or for want of room: it is told, and the file isn't
         told to be moved."""
         faults = [
@@ -131,7 +132,7 @@ class FailingDisk(FaultTest):
             (SYNCS, errno.EIO, True),
             (ROOM, errno.ENOSPC, False),
         ]
-        met = collections.Counter()
+        met: Any = collections.Counter()
         for name, move in moves().items():
             words = [*Move.WORDS, self.db]
             for kinds, error, once in faults:
@@ -153,7 +154,7 @@ class FailingDisk(FaultTest):
             )
         self.assertGreater(met['before'], 20)
 
-    def large(self):
+    def large(self) -> Any:
         """The file has more pages than a desk keeps in memory, so that a report reads some of them
         again behind the opening. It gives the report of it."""
         self.assertEqual(run('replay', '--db', self.db, '--at', AT), (0, b'', b''))
@@ -169,7 +170,7 @@ class FailingDisk(FaultTest):
         self.assertEqual(run('report', '--db', self.db, 'stock'), (0, whole, b''))
         return whole
 
-    def test_a_call_of_a_report_fails(self):
+    def test_a_call_of_a_report_fails(self) -> None:
         """Behind the opening: it is told, and nothing is written. On a disk that works again the
         report is whole."""
         whole = self.large()
@@ -193,7 +194,7 @@ class FailingDisk(FaultTest):
         if ALL:
             print(f'{len(tried)} calls of a report that failed, behind its opening')
 
-    def test_small_writes(self):
+    def test_small_writes(self) -> None:
         """What a write has left is written by the next."""
         for name in scripts():
             script = self.played(name)
@@ -206,7 +207,7 @@ class FailingDisk(FaultTest):
                     self.assertGreater(len(seen), 2 * len(script.requests))
                     check_kept(self, script, self.db, len(script.requests))
 
-    def test_parts_that_are_none(self):
+    def test_parts_that_are_none(self) -> None:
         """A write of the file that takes nothing is a fault, and so is a read that gives nothing or
         less than there is."""
         met = 0

@@ -6,6 +6,7 @@ be limited; one that can't be had ends the program."""
 import errno
 import socket
 import unittest
+from typing import Any
 
 from tests.support import tracing
 from tests.support.faults import (
@@ -19,7 +20,7 @@ from tests.support.faults import (
     without_clock,
 )
 from tests.support.records import rows_of
-from tests.support.desks import DESK, over_sockets, without_moments
+from tests.support.desks import over_sockets, without_moments
 from tests.support.fault_test import LACKS, FaultTest
 
 PART = 97  # bytes that one read of standard input gives at most
@@ -29,15 +30,17 @@ BAD_HEAD = (
 )
 
 
-@unittest.skipIf(LACKS, LACKS)
+@unittest.skipIf(LACKS is not None, LACKS or '')
 class FailingStreams(FaultTest):
-    def serve(self, script, told_read=None, told_write=None):
+    def serve(
+        self, script: Any, told_read: Any = None, told_write: Any = None
+    ) -> tuple[Any, Any, Any]:
         """The program serves the script on a new file. Its reads of standard input are of small
         parts."""
         remove(self.db)
         reads, writes = [], []
 
-        def on_call(call):
+        def on_call(call: Any) -> Any:
             if call.name in ('read', 'readv') and call.file == 0:
                 reads.append(call)
                 told = told_read(len(reads)) if told_read else None
@@ -53,11 +56,11 @@ class FailingStreams(FaultTest):
             writes,
         )
 
-    def tell(self, text, *numbers):
+    def tell(self, text: str, *numbers: Any) -> None:
         if ALL:
             print(text % numbers)
 
-    def test_reads_that_fail(self):
+    def test_reads_that_fail(self) -> None:
         """None is passed over, one that was interrupted neither."""
         failed = 0
         for name in scripts():
@@ -81,7 +84,7 @@ class FailingStreams(FaultTest):
         self.tell('%d reads that failed', failed)
         self.assertGreater(failed, 40)
 
-    def test_inputs_that_end(self):
+    def test_inputs_that_end(self) -> None:
         """At the end of a request all is well; within one it is refused, and what came before it is
         answered."""
         cut, at_end = 0, 0
@@ -104,7 +107,7 @@ class FailingStreams(FaultTest):
         self.assertGreater(cut, 20)
         self.assertGreater(at_end, 3)
 
-    def test_writes_that_fail(self):
+    def test_writes_that_fail(self) -> None:
         """The call whose answer can't be written is carried out; none behind it is. No write is
         made again."""
         failed = 0
@@ -134,7 +137,7 @@ class FailingStreams(FaultTest):
         self.tell('%d writes that failed', failed)
         self.assertGreater(failed, 60)
 
-    def test_writes_of_a_byte(self):
+    def test_writes_of_a_byte(self) -> None:
         """One write, or each from one on, takes a byte: all is written in the end. One byte, and
         then nothing: an answer is cut."""
         cut = 0
@@ -172,26 +175,17 @@ class FailingStreams(FaultTest):
         self.assertGreater(cut, 10)
 
 
-@unittest.skipIf(LACKS, LACKS)
+@unittest.skipIf(LACKS is not None, LACKS or '')
 @over_sockets
 class FailingConnections(FaultTest):
-    def serve(self, script, name, told):
+    def serve(self, script: Any, name: str, told: Any) -> tuple[Any, Any]:
         """The program serves each request by a connection of its own. Which requests weren't
         answered whole; where the fault isn't of writes they are asked again."""
         answers, lost, seen = [], [], []
         wanted = [without_moments(answer) for answer in script.answers]
-        words = [
-            DESK,
-            'serve',
-            '--db',
-            self.db,
-            '--port',
-            '0',
-            '--connections',
-            str(len(script.requests) + 1),
-        ]
+        words = self.serving(len(script.requests) + 1)
 
-        def on_call(call):
+        def on_call(call: Any) -> Any:
             if (
                 not call.path.startswith('socket:')
                 or name == 'setsockopt'
@@ -201,7 +195,7 @@ class FailingConnections(FaultTest):
             seen.append(call)
             return told(len(seen)) if told else None
 
-        def beside(process):
+        def beside(process: Any) -> None:
             port = port_of(process)
             for number, request in enumerate(script.requests):
                 answer = without_moments(asks(port, request))
@@ -224,7 +218,7 @@ class FailingConnections(FaultTest):
                 self.assertEqual(answer, wanted[number])
         return lost, seen
 
-    def check(self, name, most, faults, also=()):
+    def check(self, name: str, most: int, faults: Any, also: Any = ()) -> None:
         """Calls of this name fail: of a script of few calls each one, and by the other faults too.
         Whichever error it is, the same is lost."""
         met = {'lost': 0, 'whole': 0}
@@ -250,7 +244,7 @@ class FailingConnections(FaultTest):
             print(f'{name} of a connection: {met}')
         self.assertGreater(met['lost'], 10)
 
-    def test_reads_that_fail(self):
+    def test_reads_that_fail(self) -> None:
         """The connection ends, and the next one is served."""
         self.check(
             'recvfrom',
@@ -259,7 +253,7 @@ class FailingConnections(FaultTest):
             [tracing.Fails(errno.EINTR)],
         )
 
-    def test_writes_that_fail(self):
+    def test_writes_that_fail(self) -> None:
         """The call stands, and the next connection is served."""
         self.check(
             'sendto',
@@ -268,30 +262,22 @@ class FailingConnections(FaultTest):
             [tracing.Fails(errno.EINTR)],
         )
 
-    def test_waits_that_can_not_be_limited(self):
+    def test_waits_that_can_not_be_limited(self) -> None:
         """The connection ends before anything is read of it, and the next one is served."""
         self.check('setsockopt', 4, (tracing.Fails(errno.ENOMEM), tracing.Fails(errno.EINVAL)))
 
-    def lack(self, script, n):
+    def lack(self, script: Any, n: Any) -> tuple[Any, Any, Any]:
         """The program has one descriptor too few at its n-th connection. How it ends, what those
         before were answered, and how often it asked for one."""
-        seen, answers = [], []
-        words = [
-            DESK,
-            'serve',
-            '--db',
-            self.db,
-            '--port',
-            '0',
-            '--connections',
-            str(len(script.requests) + 1),
-        ]
+        seen: list[Any] = []
+        answers: list[Any] = []
+        words = self.serving(len(script.requests) + 1)
 
-        def on_call(call):
+        def on_call(call: Any) -> Any:
             seen.append(call)
             return tracing.Fails(errno.EMFILE) if len(seen) == n else None
 
-        def beside(process):
+        def beside(process: Any) -> None:
             port = port_of(process)
             answers.extend(
                 without_moments(asks(port, request)) for request in script.requests[: n - 1]
@@ -304,7 +290,7 @@ class FailingConnections(FaultTest):
             seen,
         )
 
-    def test_connections_that_can_not_be_had(self):
+    def test_connections_that_can_not_be_had(self) -> None:
         """The program ends by it, told as such. What it has answered before is in the file, and it
         takes no further connection."""
         failed = 0

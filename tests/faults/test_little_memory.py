@@ -6,6 +6,7 @@ import resource
 import subprocess
 import tempfile
 import unittest
+from typing import Any
 
 from tests.support import calls
 from tests.support.calls import request
@@ -34,16 +35,16 @@ LAYOUT = 'kind,id,from,to\nnode,N1,,\n' + ''.join(
 )
 
 
-def station_of(number, turn):
+def station_of(number: int, turn: Any) -> Any:
     return (number + turn) % STATIONS
 
 
-def stocktake(turn):
+def stocktake(turn: Any) -> Any:
     rows = ''.join(f'S{station_of(number, turn)},L{number:05d}\n' for number in range(COUNTED))
     return request(f'POST /stocktakes/R{turn}', 'station,load\n' + rows)
 
 
-def export(turn):
+def export(turn: Any) -> bytes:
     """The export after so many stocktakes."""
     lines = (
         'L%05d,%s\n' % (number, f'station,S{station_of(number, turn)}' if turn else 'checking,')
@@ -52,9 +53,10 @@ def export(turn):
     return ('load,place,at\n' + ''.join(lines)).encode()
 
 
-def report(turn):
+def report(turn: Any) -> bytes:
     """The stock report after so many stocktakes."""
-    loads, told = {at: [] for at in (*range(STATIONS), 'checking')}, ''
+    loads: dict[Any, list[str]] = {at: [] for at in (*range(STATIONS), 'checking')}
+    told = ''
     for number in range(COUNTED):
         loads[station_of(number, turn) if turn else 'checking'].append(f'  L{number:05d}\n')
     for at, here in loads.items():
@@ -67,33 +69,33 @@ def report(turn):
     return (told + 'left: 0\n').encode()
 
 
-def limit(mebibytes):
+def limit(mebibytes: Any) -> Any:
     """What gives the program no more than so many MiB of addresses, as `ulimit -v` does."""
     size = int(mebibytes * (1 << 20))
     return lambda: resource.setrlimit(resource.RLIMIT_AS, (size, size))
 
 
 class LittleMemory(unittest.TestCase):
-    def setUp(self):
+    def setUp(self) -> None:
         self.folder = tempfile.TemporaryDirectory(dir=FOLDER)
         self.db = os.path.join(self.folder.name, 'many.db')
 
-    def tearDown(self):
+    def tearDown(self) -> None:
         self.folder.cleanup()
 
-    def whole(self, out):
+    def whole(self, out: Any) -> list[tuple[Any, Any]]:
         """The answers of an output, which has nothing else."""
         found, left = answers_of(out)
         self.assertEqual(left, b'')
         return [(answer.status, answer.body) for answer in found]
 
-    def asked(self, stdin):
+    def asked(self, stdin: bytes) -> Any:
         """What the program writes with all the memory that it wants."""
         status, out, said = run('replay', '--db', self.db, '--at', AT, stdin=stdin)
         self.assertEqual((status, said), (0, b''))
         return out
 
-    def front(self, mebibytes, stdin):
+    def front(self, mebibytes: Any, stdin: bytes) -> tuple[Any, bool, bool]:
         """What the program writes in so little memory before it lacks some, and whether it was
         opened, and whether it has served all."""
         done = subprocess.run(
@@ -113,7 +115,7 @@ class LittleMemory(unittest.TestCase):
         self.assertTrue(out.endswith(MEMORY), (mebibytes, out[-300:]))
         return out[: -len(MEMORY)], True, False
 
-    def test_reports_in_less_and_less_memory(self):
+    def test_reports_in_less_and_less_memory(self) -> None:
         self.asked(
             b''.join(
                 request('POST /loads', f'{{"load":"L{number:05d}"}}') for number in range(LOADS)
@@ -131,7 +133,7 @@ class LittleMemory(unittest.TestCase):
         self.assertEqual(met, {'not opened', 'refused', 'served'})
         self.assertEqual(self.asked(ASKED), whole)
 
-    def counted(self):
+    def counted(self) -> Any:
         """The files of a desk with all loads at the checking place, each time they are asked
         for."""
         self.asked(
@@ -146,20 +148,21 @@ class LittleMemory(unittest.TestCase):
             with open(self.db + end, 'rb') as file:
                 files[end] = file.read()
 
-        def put():
+        def put() -> None:
             for end, data in files.items():
                 with open(self.db + end, 'wb') as file:
                     file.write(data)
 
         return put
 
-    def check_turn(self, turn, *of):
+    def check_turn(self, turn: Any, *of: Any) -> None:
         """The loads are where this stocktake found them."""
         self.assertTrue(self.whole(self.asked(EXPORT)) == [(200, export(turn))], (turn, *of))
 
-    def test_stocktakes_in_less_and_less_memory(self):
+    def test_stocktakes_in_less_and_less_memory(self) -> None:
         """In one stream: as many stocktakes as were answered are kept."""
-        put, met = self.counted(), {}
+        put = self.counted()
+        met: dict[Any, Any] = {}
         stdin, wanted = REPORT.join(map(stocktake, TURNS)), [MOVED]
         for turn in TURNS[:-1]:
             wanted += [(200, report(turn)), MOVED]
@@ -181,7 +184,7 @@ class LittleMemory(unittest.TestCase):
         self.assertTrue({'not opened', 0, TURNS[-1]} <= set(met), met)
         self.assertTrue(set(TURNS[:-1]) & set(met), f'no limit ends between two stocktakes: {met}')
 
-    def by_connections(self, port, met, mebibytes):
+    def by_connections(self, port: int, met: Any, mebibytes: Any) -> Any:
         """Each stocktake, and a report behind it, over a connection of its own. It gives the last
         stocktake that was answered."""
         last, refused = 0, False
@@ -204,9 +207,10 @@ class LittleMemory(unittest.TestCase):
         return last
 
     @over_sockets
-    def test_connections_in_less_and_less_memory(self):
+    def test_connections_in_less_and_less_memory(self) -> None:
         """The desk goes on after a refusal, which ends its connection alone."""
-        put, met = self.counted(), {}
+        put = self.counted()
+        met: dict[Any, Any] = {}
         for mebibytes in LIMITS[::2]:
             put()
             words = [DESK, 'serve', '--db', self.db, '--port', '0', '--connections', '1000']
@@ -214,6 +218,7 @@ class LittleMemory(unittest.TestCase):
                 words, stdout=subprocess.PIPE, stderr=subprocess.PIPE, preexec_fn=limit(mebibytes)
             ) as process:
                 try:
+                    assert process.stdout and process.stderr
                     line = process.stdout.readline()
                     if not line:
                         self.assertEqual(process.stderr.read(), b'fault: Memory\n', mebibytes)

@@ -6,8 +6,10 @@ is told whole or not at all. What a program takes by other ways than `malloc` an
 reached."""
 import collections
 import unittest
+from typing import Any
 
 from tests.support import tracing
+from tests.support.heap import Heap, slots_of
 from tests.support.faults import (
     ALL,
     MEMORY,
@@ -28,11 +30,11 @@ from tests.support.scripts import bytes_of, load
 from tests.support.fault_test import FULL, LACKS, FaultTest
 
 
-def lacks_heap():
+def lacks_heap() -> Any:
     if LACKS:
         return LACKS
     try:
-        slots = set(tracing.slots_of(DESK)[1].values())
+        slots = set(slots_of(DESK)[1].values())
     except (OSError, ValueError) as error:
         return f'the calls of the heap can not be found: {error}'
     return (
@@ -47,11 +49,11 @@ NO_HEAP = lacks_heap()
 
 @unittest.skipIf(NO_HEAP, NO_HEAP)
 class RefusedMemory(FaultTest):
-    def serve(self, given, db, first=None, times=1):
+    def serve(self, given: Any, db: str, first: int | None = None, times: int = 1) -> Any:
         words = [DESK, 'replay', '--db', db, '--at', AT]
-        return tracing.run(words, stdin=given, heap=tracing.Heap(DESK, first, times))
+        return tracing.run(words, stdin=given, heap=Heap(DESK, first, times))
 
-    def calls(self, name, script, db):
+    def calls(self, name: str, script: Any, db: Any) -> Any:
         """Which calls of the heap are tried: those of the opening of a new file, which are the same
         for these scripts, with one of them alone."""
         script.start(self.db)
@@ -65,7 +67,7 @@ class RefusedMemory(FaultTest):
         self.assertGreater(ended.asked, opening + 10 * len(script.requests))
         return range(1 if name in ('a first load', FULL) else opening + 1, ended.asked + 1)
 
-    def check(self, db, times, most):
+    def check(self, db: str, times: Any, most: int) -> None:
         """A refusal at each call of the heap. Of a run in memory nothing is kept, and what its
         files there lack is told of the store."""
         met = {'not opened': 0, 'refused': 0, 'served': 0}
@@ -93,7 +95,7 @@ class RefusedMemory(FaultTest):
                         answer = next(
                             (answer for answer in faults if ended.out.endswith(answer)), None
                         )
-                        self.assertIsNotNone(answer, ended.out[-200:])
+                        assert answer is not None, ended.out[-200:]
                         self.assertEqual((ended.status, ended.said), (1, faults[answer]))
                         front = ended.out[: -len(answer)]
                         answered = script.whole(front)
@@ -109,24 +111,24 @@ class RefusedMemory(FaultTest):
                 )
         self.assertGreater(min(met['not opened'], met['refused']), most // 2, met)
 
-    def test_one_on_a_file(self):
+    def test_one_on_a_file(self) -> None:
         self.check(self.db, 1, 22)
 
-    def test_one_in_memory(self):
+    def test_one_in_memory(self) -> None:
         self.check('memory', 1, 20)
 
-    def test_all_from_one_on(self):
+    def test_all_from_one_on(self) -> None:
         self.check(self.db, None, 10)
         self.check('memory', None, 8)
 
-    def test_a_move(self):
+    def test_a_move(self) -> None:
         """One call of the heap gets no memory, or none does from one on: the file is moved, or the
         lack is told and the file is as before."""
-        met = collections.Counter()
+        met: Any = collections.Counter()
         for name, move in moves().items():
             words = [*Move.WORDS, self.db]
             move.start(self.db)
-            ended = tracing.run(words, heap=tracing.Heap(DESK))
+            ended = tracing.run(words, heap=Heap(DESK))
             self.assertEqual(
                 (ended.status, ended.out, ended.said, ended.refused), (0, b'migrated\n', b'', 0)
             )
@@ -136,7 +138,7 @@ class RefusedMemory(FaultTest):
                 for k in sample(calls if times else calls[::7], 6):
                     with self.subTest(name, k=k, of=calls[-1], times=times):
                         move.start(self.db)
-                        ended = tracing.run(words, heap=tracing.Heap(DESK, k, times))
+                        ended = tracing.run(words, heap=Heap(DESK, k, times))
                         self.assertGreaterEqual(ended.refused, 1)
                         moved = ended.status == 0
                         self.assertEqual(
@@ -151,7 +153,7 @@ class RefusedMemory(FaultTest):
                 print(f'a move, {name}, calls 1 to {calls[-1]} of the heap: {dict(met)} so far')
         self.assertGreater(met['refused'], 20, met)
 
-    def test_a_report(self):
+    def test_a_report(self) -> None:
         """Each opening asks the heap alike, so what the stock report asks beyond the hold report is
         of the report itself. Where that gets no memory it is told so, and nothing is written."""
         loads = [f'L{number:03d}' for number in range(300)]
@@ -161,9 +163,7 @@ class RefusedMemory(FaultTest):
         self.assertEqual((status, said), (0, b''))
         whole = 'checking: %d\n%sleft: 0\n' % (len(loads), ''.join(f'  {name}\n' for name in loads))
         stock, holds = ([DESK, 'report', '--db', self.db, kind] for kind in ('stock', 'holds'))
-        fewer, ended = tracing.run(holds, heap=tracing.Heap(DESK)), tracing.run(
-            stock, heap=tracing.Heap(DESK)
-        )
+        fewer, ended = tracing.run(holds, heap=Heap(DESK)), tracing.run(stock, heap=Heap(DESK))
         self.assertEqual((fewer.status, fewer.out, fewer.said), (0, b'held 0 of 0\n', b''))
         self.assertEqual((ended.status, ended.out, ended.said), (0, whole.encode(), b''))
         self.assertGreater(ended.asked, fewer.asked + 10)
@@ -171,7 +171,7 @@ class RefusedMemory(FaultTest):
         for times in (1, None):
             for k in tried:
                 with self.subTest(k=k, of=ended.asked, times=times):
-                    one = tracing.run(stock, heap=tracing.Heap(DESK, k, times))
+                    one = tracing.run(stock, heap=Heap(DESK, k, times))
                     self.assertGreaterEqual(one.refused, 1)
                     self.assertEqual((one.status, one.out, one.said), (1, b'', b'fault: Memory\n'))
         self.assertEqual(run(*stock[1:]), (0, whole.encode(), b''))
@@ -182,22 +182,13 @@ class RefusedMemory(FaultTest):
 @unittest.skipIf(NO_HEAP, NO_HEAP)
 @over_sockets
 class RefusedConnections(FaultTest):
-    def serve(self, requests, first=None):
+    def serve(self, requests: Any, first: int | None = None) -> tuple[Any, Any, Any]:
         """The program serves each request by a connection of its own. One that isn't answered, or
         for want of memory, is asked again."""
         answers, again = [], []
-        words = [
-            DESK,
-            'serve',
-            '--db',
-            self.db,
-            '--port',
-            '0',
-            '--connections',
-            f'{len(requests) + 1:04d}',
-        ]
+        words = self.serving(len(requests) + 1)
 
-        def beside(process):
+        def beside(process: Any) -> None:
             port = port_of(process)
             if not port:
                 return
@@ -211,9 +202,9 @@ class RefusedConnections(FaultTest):
                 asks(port, b'')
 
         remove(self.db)
-        return tracing.run(words, heap=tracing.Heap(DESK, first), beside=beside), answers, again
+        return tracing.run(words, heap=Heap(DESK, first), beside=beside), answers, again
 
-    def test_one_while_connections_are_served(self):
+    def test_one_while_connections_are_served(self) -> None:
         met = {'not opened': 0, 'asked again': 0, 'served': 0}
         for name in scripts():
             script = self.played(name)

@@ -7,6 +7,7 @@ import collections
 import os
 import random
 import unittest
+from typing import Any
 
 from tests.support import tracing
 from tests.support.faults import ALL, Move, check_kept, moves, put, sample, scripts
@@ -38,7 +39,7 @@ CUTS = 20 if not ALL else 1000  # in each script
 VARIANTS = 1 if not ALL else 12
 
 
-def changes_file(call, db):
+def changes_file(call: Any, db: str) -> Any:
     """Whether the call may change one of the files of the database, or syncs them or their
     folder."""
     path = call.path
@@ -47,14 +48,14 @@ def changes_file(call, db):
     return path.startswith(db) or path == os.path.dirname(db)
 
 
-@unittest.skipIf(LACKS, LACKS)
+@unittest.skipIf(LACKS is not None, LACKS or '')
 class Stops(FaultTest):
-    def stop(self, start, words, k, stdin=b''):
+    def stop(self, start: Any, words: Any, k: int, stdin: bytes = b'') -> tuple[Any, Any]:
         """The program is ended before its k-th write. It gives how it ended, and the writes."""
         start(self.db)
         at = []
 
-        def on_call(call):
+        def on_call(call: Any) -> Any:
             if not changes_file(call, self.db):
                 return None
             at.append((call.name, call.path))
@@ -62,7 +63,7 @@ class Stops(FaultTest):
 
         return tracing.run(words, WRITES, on_call, stdin), at
 
-    def test_a_stop_at_each_write(self):
+    def test_a_stop_at_each_write(self) -> None:
         for name in [*scripts(), FULL]:
             script = self.played(name)
             ended, writes = self.stop(script.start, self.words, 0, script.input)
@@ -90,13 +91,13 @@ class Stops(FaultTest):
             if ALL:
                 print(f'{name}: ended before each of {len(writes)} writes: {met}')
 
-    def test_a_stop_at_each_write_of_a_move(self):
+    def test_a_stop_at_each_write_of_a_move(self) -> None:
         for name, move in moves().items():
             words = [*Move.WORDS, self.db]
             ended, writes = self.stop(move.start, words, 0)
             self.assertEqual((ended.status, ended.out, ended.said), (0, b'migrated\n', b''))
             self.assertEqual(move.check(self, self.db, True), 'after')
-            met = collections.Counter()
+            met: Any = collections.Counter()
             tried = sample(range(1, len(writes) + 1), 8)
             for k in tried:
                 with self.subTest(name, k=k, call=writes[k - 1]):
@@ -114,11 +115,11 @@ class Recorded:
     """What a run does to its files and to its output, in order: the name of a file with the change,
     or how many bytes were answered."""
 
-    def __init__(self, words, db, stdin=b''):
-        self.events = []
+    def __init__(self, words: Any, db: str, stdin: bytes = b'') -> None:
+        self.events: list[Any] = []
         self.db = db
 
-        def on_call(call):
+        def on_call(call: Any) -> None:
             if call.name in ('write', 'writev') and call.file == 1:
                 self.events.append(('answer', None, call.size))
             elif changes_file(call, db):
@@ -126,7 +127,7 @@ class Recorded:
 
         self.ended = tracing.run(words, WRITES, on_call, stdin)
 
-    def note(self, call):
+    def note(self, call: Any) -> None:
         path = call.path
         if call.name == 'openat':
             if not os.path.exists(path):
@@ -141,7 +142,7 @@ class Recorded:
             raise AssertionError(f'no simulation of {call!r}')
 
 
-def changed(data, kind, what):
+def changed(data: Any, kind: str, what: Any) -> Any:
     """The bytes of a file after one change."""
     if kind == 'size':
         return data[:what] + bytes(max(0, what - len(data)))
@@ -153,12 +154,13 @@ def changed(data, kind, what):
 class Disk:
     """What of the files is on the disk for sure, and which changes may be lost."""
 
-    def __init__(self, db, files):
-        self.folder, self.pending = os.path.dirname(db), []
+    def __init__(self, db: str, files: Any) -> None:
+        self.folder = os.path.dirname(db)
+        self.pending: list[Any] = []
         self.files = {db + end: data for end, data in files.items()}
         self.made = set(self.files)
 
-    def do(self, event):
+    def do(self, event: Any) -> None:
         kind, path, what = event
         if kind == 'make':
             self.files[path] = b''
@@ -172,7 +174,7 @@ class Disk:
                     self.files[of] = changed(self.files[of], one, what)
             self.pending = [event for event in self.pending if event[1] != path]
 
-    def left(self, chance, keep):
+    def left(self, chance: random.Random, keep: Any) -> Any:
         """Files that a power cut may leave: each change that isn't synced is kept by this chance,
         else lost, or kept in part."""
         files = dict(self.files)
@@ -190,13 +192,13 @@ class Disk:
                 del files[path]
         return files
 
-    def doubtful(self):
+    def doubtful(self) -> Any:
         return len(self.pending) + len(set(self.files) - self.made)
 
 
-@unittest.skipIf(LACKS, LACKS)
+@unittest.skipIf(LACKS is not None, LACKS or '')
 class PowerCuts(FaultTest):
-    def cut(self, name, recorded, files, check):
+    def cut(self, name: str, recorded: Any, files: Any, check: Any) -> tuple[int, int]:
         """The power fails at moments at which something isn't synced; `check` sees what is left,
         and is told how many bytes were answered. It gives at how many moments something isn't
         synced, and at how many of them the power failed.
@@ -229,7 +231,7 @@ class PowerCuts(FaultTest):
         self.assertEqual(lost, len(chosen) * VARIANTS)
         return len(cuts), len(chosen)
 
-    def test_writes_that_are_lost(self):
+    def test_writes_that_are_lost(self) -> None:
         for name in [*scripts(), FULL]:
             script = self.played(name)
             script.start(self.db)
@@ -247,14 +249,14 @@ class PowerCuts(FaultTest):
             if ALL:
                 print(f'{name}: {chosen} power cuts, each left in {VARIANTS} ways')
 
-    def test_writes_of_a_move_that_are_lost(self):
+    def test_writes_of_a_move_that_are_lost(self) -> None:
         for name, move in moves().items():
             move.start(self.db)
             recorded = Recorded([*Move.WORDS, self.db], self.db)
             self.assertEqual((recorded.ended.status, recorded.ended.out), (0, b'migrated\n'))
-            met = collections.Counter()
+            met: Any = collections.Counter()
 
-            def check(answered):
+            def check(answered: Any) -> None:
                 met[move.check(self, self.db, answered > 0)] += 1
 
             _, chosen = self.cut(name, recorded, move.files, check)

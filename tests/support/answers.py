@@ -2,8 +2,9 @@
 import json
 import os
 import re
+from typing import Any
 
-from tests.support.programs import ROOT
+from tests.support.programs import ROOT, matched
 
 LONG = os.environ.get('NULVRADER_LONG') == '1'
 REASONS = {
@@ -29,18 +30,18 @@ with open(os.path.join(ROOT, 'docs', 'HTTP.md')) as page:
     }
 
 
-def refusal(name):
+def refusal(name: str) -> tuple[Any, bytes]:
     number, status = REFUSALS[name]
     return status, json.dumps({'name': name, 'refusal': number}, separators=(',', ':')).encode()
 
 
 class Answer:
-    def __init__(self, status, lines, body):
+    def __init__(self, status: int, lines: Any, body: Any) -> None:
         self.status, self.lines, self.body = status, lines, body
         self.closes = 'Connection: close' in lines
 
 
-def answers_of(data):
+def answers_of(data: bytes) -> tuple[Any, bytes]:
     """The answers that an output has, each checked to be a whole one in the form that the desk
     writes; and what is left."""
     found = []
@@ -49,7 +50,7 @@ def answers_of(data):
         if end < 0:
             break
         first, *lines = data[:end].decode('ascii').split('\r\n')
-        status = int(re.fullmatch(r'HTTP/1\.1 (\d{3}) [A-Za-z ]+', first).group(1))
+        status = int(matched(r'\AHTTP/1\.1 (\d{3}) [A-Za-z ]+\Z', first)[1])
         if first[13:] != REASONS[status]:
             raise AssertionError(first)
         form = (
@@ -72,7 +73,7 @@ def answers_of(data):
     return found, data
 
 
-def check_body(status, kind, body):
+def check_body(status: int, kind: Any, body: Any) -> None:
     """A body of JSON is JSON, and a refusal has the number and the status of its name."""
     if kind != 'application/json':
         return

@@ -35,7 +35,7 @@ FOLDER = '/dev/shm' if os.access('/dev/shm', os.W_OK | os.X_OK) else None
 class Process:
     """A program that says on its first line where it listens."""
 
-    def __init__(self, line: list[str]):
+    def __init__(self, line: list[str]) -> None:
         self.process = subprocess.Popen(
             line, stdout=subprocess.PIPE, stderr=subprocess.PIPE, text=True
         )
@@ -66,7 +66,7 @@ class Process:
 class Plant:
     """A folder with a desk on a new file and its layout, and the boards that watch it."""
 
-    def __init__(self, layout: str = LAYOUT):
+    def __init__(self, layout: str = LAYOUT) -> None:
         self.folder = tempfile.TemporaryDirectory(dir=FOLDER)
         self.port = free_port()
         self.running: list[Process] = []
@@ -162,7 +162,7 @@ class Plant:
 class Board(Process):
     """A board, asked as its page asks it."""
 
-    def __init__(self, plant: Plant, *words: str, port: int = 0):
+    def __init__(self, plant: Plant, *words: str, port: int = 0) -> None:
         self.port = port or free_port()
         self.db = plant.path('board.db')
         # who asks, as a proxy names only those who may give commands

@@ -50,7 +50,7 @@ class Times:
 class Vehicle:
     """A vehicle on the ring, and what it still has to do."""
 
-    def __init__(self, number: int):
+    def __init__(self, number: int) -> None:
         self.key = VehicleKey('KIT', f'{number:04d}')
         self.at, self.header = number * APART, 0
         self.order, self.update, self.seen, self.base = '', 0, 0, 0
@@ -94,7 +94,7 @@ class Traffic(threading.Thread):
     """All vehicles, each a step and a state in every second, and the orders that they drive. Each
     request has a connection of its own; `answers` are the seconds of each until its answer."""
 
-    def __init__(self, address: str, nodes: Times, loads: Times):
+    def __init__(self, address: str, nodes: Times, loads: Times) -> None:
         super().__init__(daemon=True)
         self.desk = Desk(address)
         self.nodes, self.loads = nodes, loads
@@ -213,7 +213,7 @@ class Pauses(threading.Thread):
     they go on; `pending` of the commands.
     """
 
-    def __init__(self, traffic: Traffic, board: Board):
+    def __init__(self, traffic: Traffic, board: Board) -> None:
         super().__init__(daemon=True)
         self.traffic, self.board = traffic, board
         self.alone, self.by_page, self.back, self.pending = Times(), Times(), Times(), Times()

@@ -1,6 +1,5 @@
-"""What somebody may write into a desk's file: statements over the rows of `FILLED` in
-test_damaged_files.py, each with a rule that it breaks, by its name in docs/TABLES.md, and the rows
-that break it."""
+"""What somebody may write into a desk's file: statements over the rows of `FILLED` in damages.py,
+each with a rule that it breaks, by its name in docs/TABLES.md, and the rows that break it."""
 
 BREAKS = [
     ("UPDATE meta SET schema = 1", 'schema', 'meta'),
@@ -146,7 +145,8 @@ BREAKS = [
     ("UPDATE act SET n = 2 WHERE n = 1", 'parts of an order', 'journey O2, its rows in `act`'),
     ("UPDATE act SET n = 2 WHERE n = 0", 'parts of an order', 'journey O2, its rows in `act`'),
     ("UPDATE act SET order_id = 'O9'", 'parts of an order', 'act O9, 0'),
-    ("DELETE FROM act", 'jobs of an order', 'journey O2'),
+    # the order is a drive by its rows then, but its job still rides
+    ("DELETE FROM act", 'riding jobs', 'job J2'),
     ("DELETE FROM act WHERE n = 0", 'parts of an order', 'journey O2, its rows in `act`'),
     ("DELETE FROM act WHERE n = 1", 'jobs of an order', 'journey O2, job J2'),
     (
@@ -283,6 +283,66 @@ BREAKS = [
     ("INSERT INTO hold VALUES ('node', 'N2', 'KIT', '0009')", 'holds', 'hold node N2'),
     ("INSERT INTO hold VALUES ('edge', 'E9', 'KIT', '0001')", 'holds', 'hold edge E9'),
     ("INSERT INTO hold VALUES ('edge', 'E12', 'KIT', '0001')", 'holds', 'hold edge E12'),
+]
+
+# The same over the rows of `FILLED` with those of `DRIVEN`.
+DRIVE_BREAKS = [
+    ("DELETE FROM act", 'riding jobs', 'job J2'),
+    ("DELETE FROM leg WHERE order_id = 'G1' AND k = 1", 'ended orders', 'journey G1'),
+    ("DELETE FROM leg WHERE order_id = 'G1'", 'released track', 'journey G1'),
+    (
+        (
+            "DELETE FROM leg WHERE order_id = 'G1'; UPDATE journey SET start = 'N5', base = 0, seen"
+            " = 0 WHERE order_id = 'G1'"
+        ),
+        'ended orders',
+        'journey G1',
+    ),
+    (
+        (
+            "UPDATE journey SET base = 2, seen = 2 WHERE order_id = 'G1'; UPDATE vehicle SET node ="
+            " 'N4' WHERE serial = '0003'; DELETE FROM hold WHERE id = 'N5'"
+        ),
+        'ended orders',
+        'journey G1',
+    ),
+    (
+        "INSERT INTO act VALUES ('G1', 0, 'J5', 'pick', 1, 'WAITING')",
+        'jobs of an order',
+        'journey G1, job J5',
+    ),
+    (
+        (
+            "INSERT INTO act VALUES ('G1', 0, 'J5', 'pick', 1, 'WAITING'),"
+            " ('G1', 1, 'J5', 'drop', 2, 'WAITING')"
+        ),
+        'places of acts',
+        'act G1, 0',
+    ),
+    ("UPDATE act SET order_id = 'G1'", 'places of acts', 'act G1, 0'),
+    ("UPDATE act SET order_id = 'G1' WHERE n = 1", 'jobs of an order', 'journey G1, job J2'),
+    ("UPDATE job SET phase = 'riding' WHERE id = 'J5'", 'riding jobs', 'job J5'),
+    ("DELETE FROM used WHERE id = 'G1'", 'name of an order', 'journey G1'),
+    (
+        "UPDATE journey SET confirmed = NULL WHERE order_id = 'G1'",
+        'confirmed updates',
+        'journey G1',
+    ),
+    ("UPDATE journey SET base = 3 WHERE order_id = 'G1'", 'released track', 'journey G1'),
+    ("UPDATE journey SET base = 2 WHERE order_id = 'G1'", 'one holder', 'node N4'),
+    (
+        "UPDATE vehicle SET node = 'N6' WHERE serial = '0003'",
+        'vehicle on its way',
+        'vehicle KIT/0003, journey G1',
+    ),
+    ("DELETE FROM hold WHERE id = 'N5'", 'holds', 'node N5'),
+    ("UPDATE leg SET edge = 'E45' WHERE order_id = 'G1' AND k = 1", 'way of an order', 'leg G1, 1'),
+    ("DELETE FROM journey WHERE order_id = 'G1'", 'parts of an order', 'leg G1, 0'),
+    (
+        "UPDATE vehicle SET order_header = 0, order_at = 0 WHERE serial = '0003'",
+        'vehicle of an order',
+        'journey G1, vehicle KIT/0003',
+    ),
 ]
 
 # Of each rule a statement that breaks it, and what is told of it: of other rules no more than can't

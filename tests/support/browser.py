@@ -62,7 +62,7 @@ def children(number: int) -> list[int]:
 class Failed(AssertionError):
     """What the driver answers that is no success."""
 
-    def __init__(self, name: str, words: str):
+    def __init__(self, name: str, words: str) -> None:
         super().__init__(f'{name}: {words}')
         self.name = name
 
@@ -72,7 +72,7 @@ class Browser:
 
     def __init__(
         self, width: int = 1280, height: int = 800, dark: bool = False, mobile: bool = False
-    ):
+    ) -> None:
         self.port = free_port()
         self.driver = subprocess.Popen(
             ['chromedriver', f'--port={self.port}'],

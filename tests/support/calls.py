@@ -2,7 +2,8 @@
 KIT."""
 import functools
 import json
-from typing import NamedTuple
+from collections.abc import Iterable, Sequence
+from typing import Any, NamedTuple
 
 
 class Asked(NamedTuple):
@@ -15,15 +16,15 @@ class Call(Asked):
     a text, bytes, or none."""
 
     @property
-    def method(self):
+    def method(self) -> str:
         return self.line.split(' ')[0]
 
     @property
-    def target(self):
+    def target(self) -> str:
         return self.line.split(' ')[1]
 
     @functools.cached_property
-    def data(self):
+    def data(self) -> bytes:
         """The bytes of the body."""
         if isinstance(self.body, (bytes, type(None))):
             return self.body or b''
@@ -33,86 +34,103 @@ class Call(Asked):
             else json.dumps(self.body, separators=(',', ':'))
         ).encode()
 
-    def to_bytes(self, more=''):
+    def to_bytes(self, more: str = '') -> bytes:
         """The request as bytes; `more` are further lines of its head."""
         length = '' if self.body is None else f'Content-Length: {len(self.data)}\r\n'
         return (f'{self.line} HTTP/1.1\r\n{length}{more}\r\n').encode() + self.data
 
 
-def request(line, body=None, more=''):
+def request(line: str, body: object = None, more: str = '') -> bytes:
     """The bytes of a request."""
     return Call(line, body).to_bytes(more)
 
 
-def present(**members):
+def present(**members: object) -> dict[str, object]:
     """An object with those of the members that aren't none."""
     return {name: value for name, value in members.items() if value is not None}
 
 
-def key(serial):
+def key(serial: str) -> dict[str, object]:
     return {'manufacturer': 'KIT', 'serialNumber': serial}
 
 
-def layout(rows):
+def layout(rows: str) -> Call:
     return Call('PUT /layout', rows)
 
 
-def vehicle(serial, node, capacity=None):
-    return Call('POST /vehicles', {**key(serial), 'node': node, **present(capacity=capacity)})
+def vehicle(serial: str, node: str, capacity: int | None = None) -> Call:
+    body: dict[str, object] = {**key(serial), 'node': node, **present(capacity=capacity)}
+    return Call('POST /vehicles', body)
 
 
-def load(name, station=None):
+def load(name: str, station: str | None = None) -> Call:
     return Call('POST /loads', present(load=name, station=station))
 
 
-def correct(name, ref, station=None):
+def correct(name: str, ref: str, station: str | None = None) -> Call:
     return Call(f'POST /loads/{name}/correct', present(ref=ref, station=station))
 
 
-def leave(name, ref):
+def leave(name: str, ref: str) -> Call:
     return Call(f'POST /loads/{name}/leave', {'ref': ref})
 
 
-def job(name, of, to):
+def job(name: str, of: str, to: str) -> Call:
     return Call('POST /jobs', {'job': name, 'load': of, 'to': to})
 
 
-def stop_job(name):
+def stop_job(name: str) -> Call:
     return Call('DELETE /jobs/' + name)
 
 
-def order(name, of, edges, serial='0001'):
+def order(name: str, of: str, edges: int, serial: str = '0001') -> Call:
     """An order of one job."""
     return Call('POST /orders', {'order': name, 'job': of, **key(serial), 'edges': edges})
 
 
-def order_of_stops(name, stops, edges, serial='0001'):
+def order_of_stops(
+    name: str, stops: Iterable[Sequence[str]], edges: int, serial: str = '0001'
+) -> Call:
     """An order over several jobs; the stops are pairs as `('pick', 'J1')`."""
     said = [{'action': action, 'job': of} for action, of in stops]
     return Call('POST /orders', {'order': name, 'stops': said, **key(serial), 'edges': edges})
 
 
-def advance(name, update, edges, serial='0001'):
+def drive(name: str, to: str, edges: int, serial: str = '0001') -> Call:
+    """An order without actions, to a node."""
+    return Call('POST /drives', {'order': name, **key(serial), 'to': to, 'edges': edges})
+
+
+def advance(name: str, update: int, edges: int, serial: str = '0001') -> Call:
     return Call(
         f'POST /vehicles/KIT/{serial}/advance',
         {'order': name, 'orderUpdateId': update, 'edges': edges},
     )
 
 
-def instant(what, serial='0001'):
+def instant(what: str, serial: str = '0001') -> Call:
     """`cancel`, `pause` or `resume`."""
     return Call(f'POST /vehicles/KIT/{serial}/{what}', '')
 
 
-def place(ref, node, serial='0001'):
+def place(ref: str, node: str, serial: str = '0001') -> Call:
     return Call(f'POST /vehicles/KIT/{serial}/place', {'ref': ref, 'node': node})
 
 
-def resync(serial='0001'):
+def resync(serial: str = '0001') -> Call:
     return Call(f'POST /vehicles/KIT/{serial}/resync', '')
 
 
-def state(number, order='', update=0, node='N1', sequence=0, statuses=(), serial='0001', **others):
+def state(
+    number: int,
+    order: str = '',
+    update: int = 0,
+    node: str = 'N1',
+    sequence: int = 0,
+    statuses: Iterable[tuple[str, str]] = (),
+    serial: str = '0001',
+    **others: Any,
+) -> Call:
     """A state of a vehicle that is ready; `statuses` are pairs of an action's id and its status."""
     body = {
         'headerId': number,
@@ -135,26 +153,31 @@ def state(number, order='', update=0, node='N1', sequence=0, statuses=(), serial
     return Call(f'POST /uagv/v2/KIT/{serial}/state', {**body, **others})
 
 
-def stocktake(ref, rows):
+def stocktake(ref: str, rows: Iterable[tuple[str, str]]) -> Call:
     """What was counted: pairs of a station and a load, which is empty where none was found."""
     return Call(
-        'POST /stocktakes/' + ref, 'station,load\n' + ''.join('%s,%s\n' % row for row in rows)
+        'POST /stocktakes/' + ref,
+        'station,load\n' + ''.join(f'{station},{load}\n' for station, load in rows),
     )
 
 
-def get_load(name):
+def get_load(name: str) -> Call:
     return Call('GET /loads/' + name)
 
 
-def get_vehicle(serial='0001'):
+def get_job(name: str) -> Call:
+    return Call(f'GET /jobs/{name}/phase')
+
+
+def get_vehicle(serial: str = '0001') -> Call:
     return Call('GET /vehicles/KIT/' + serial)
 
 
-def get_order(serial='0001'):
+def get_order(serial: str = '0001') -> Call:
     return Call(f'GET /uagv/v2/KIT/{serial}/order')
 
 
-def get_instant(serial='0001'):
+def get_instant(serial: str = '0001') -> Call:
     return Call(f'GET /uagv/v2/KIT/{serial}/instantActions')
 
 

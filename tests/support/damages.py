@@ -1,7 +1,11 @@
 """Files of a desk that are filled, and damaged."""
-from tests.support.faults import lines
+import random
+from collections.abc import Sequence
+from typing import Any
+
 from tests.support.calls import state
-from tests.support.scripts import accepted, job, load, ok, order, vehicle
+from tests.support.faults import lines
+from tests.support.scripts import accepted, drive, job, load, ok, order, vehicle
 
 PAGE = 512  # bytes of a page of a new file
 NODES = range(1, 9)
@@ -51,12 +55,18 @@ FILLED = [
     ok('DELETE /jobs/J4'),
 ]
 
+# Behind these, KIT/0003 is on its way to N4, and has come to the end of what is released to it.
+DRIVEN = [
+    drive('G1', 'N4', 1, '0003'),
+    accepted(state(2, 'G1', node='N5', sequence=2, serial='0003')),
+]
 
-def asked(script):
+
+def asked(script: Sequence[Any]) -> bytes:
     return b''.join(lines([(*line, None, None)[:4] for line in script]))
 
 
-def damaged(data, chance, used=0):
+def damaged(data: bytes, chance: random.Random, used: int = 0) -> bytes:
     """The bytes with one change, in the front that is used where there is one."""
     data, used = bytearray(data), used or len(data)
     kind, at = chance.randrange(6), chance.randrange(used)

@@ -37,10 +37,14 @@ SCRIPTS = (
     'desk',
     'dev/build-desk',
     'dev/build-unproved',
+    'dev/building.py',
     'dev/ci-with-jobs',
     'dev/desk-arguments',
+    'dev/desk-file',
     'dev/release',
+    'dev/run-desk',
     'dev/sources',
+    'dev/unpack-release',
 )
 # A line that the program takes, and what the stand-in for it prints of these words.
 REPLAY = ('replay', '--db', 'memory', '--at', '5')

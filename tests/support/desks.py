@@ -1,4 +1,6 @@
 """Runs the program: over files, over sockets, and its output read."""
+from __future__ import annotations
+
 import contextlib
 import http.client
 import os
@@ -7,6 +9,8 @@ import socket
 import subprocess
 import tempfile
 import unittest
+from collections.abc import Callable
+from typing import Any
 
 from tests.support.programs import ROOT
 
@@ -23,7 +27,7 @@ STOCK = (
 HOLDS = b'node N3 KIT/0001\nheld 1 of 7\n'
 
 
-def has_loopback():
+def has_loopback() -> bool:
     """Whether this machine lets a program listen on 127.0.0.1, and another one connect."""
     try:
         with socket.socket() as listener:
@@ -38,7 +42,7 @@ def has_loopback():
 over_sockets = unittest.skipUnless(has_loopback(), 'no sockets on 127.0.0.1 here')
 
 
-def requests_of(data):
+def requests_of(data: bytes) -> list[tuple[str, str, bytes]]:
     """The requests of a file of requests: method, target, body."""
     found, at = [], 0
     while at < len(data):
@@ -55,7 +59,7 @@ def requests_of(data):
     return found
 
 
-def run(*words, stdin=b'', limit=600):
+def run(*words: str, stdin: bytes = b'', limit: float = 600) -> tuple[int, bytes, bytes]:
     done = subprocess.run([DESK, *words], input=stdin, capture_output=True, timeout=limit)
     return done.returncode, done.stdout, done.stderr
 
@@ -63,36 +67,46 @@ def run(*words, stdin=b'', limit=600):
 class Serving:
     """The program that serves so many connections on a port of its own."""
 
-    def __init__(self, db, connections=1000, preexec_fn=None):
+    def __init__(
+        self, db: str, connections: int = 1000, preexec_fn: Callable[[], None] | None = None
+    ) -> None:
         self.process = subprocess.Popen(
             [DESK, 'serve', '--db', db, '--port', '0', '--connections', str(connections)],
             stdout=subprocess.PIPE,
             stderr=subprocess.PIPE,
             preexec_fn=preexec_fn,
         )
-        line = self.process.stdout.readline().decode()
+        assert self.process.stdout and self.process.stderr
+        self.out, self.said = self.process.stdout, self.process.stderr
+        line = self.out.readline().decode()
         said = re.fullmatch(r'listening on 127\.0\.0\.1:(\d+)\n', line)
         if not said:
-            raise AssertionError(line + self.process.stderr.read().decode())
+            raise AssertionError(line + self.said.read().decode())
         self.port = int(said.group(1))
 
-    def __enter__(self):
+    def __enter__(self) -> Serving:
         return self
 
-    def __exit__(self, *_):
+    def __exit__(self, *_: object) -> None:
         if self.process.poll() is None:
             self.process.kill()
         self.process.wait(300)
-        self.process.stdout.close()
-        self.process.stderr.close()
+        self.out.close()
+        self.said.close()
 
-    def connect(self):
+    def connect(self) -> http.client.HTTPConnection:
         return http.client.HTTPConnection('127.0.0.1', self.port, timeout=300)
 
-    def plain(self):
+    def plain(self) -> socket.socket:
         return socket.create_connection(('127.0.0.1', self.port), timeout=300)
 
-    def ask(self, method, target, body=None, connection=None):
+    def ask(
+        self,
+        method: Any,
+        target: str,
+        body: bytes | None = None,
+        connection: http.client.HTTPConnection | None = None,
+    ) -> tuple[int, bytes]:
         """One request; its status and its body."""
         own = connection or self.connect()
         # a request that is refused by its head may be answered, and its connection closed, while
@@ -114,12 +128,12 @@ class Serving:
 MOMENT = rb'\d{4}-\d\d-\d\dT\d\d:\d\d:\d\d\.\d\dZ'
 
 
-def without_moments(body):
+def without_moments(body: bytes) -> bytes:
     """A body, with the same text in the place of each moment."""
     return re.sub(MOMENT, b'MOMENT', body)
 
 
-def read_all(plain):
+def read_all(plain: socket.socket) -> bytes:
     got = b''
     while True:
         part = plain.recv(65536)
@@ -129,14 +143,14 @@ def read_all(plain):
 
 
 class ProgramTest(unittest.TestCase):
-    def setUp(self):
+    def setUp(self) -> None:
         self.folder = tempfile.TemporaryDirectory()
         self.db = os.path.join(self.folder.name, 'warehouse.db')
         with open(TRANSPORT, 'rb') as file:
             self.transport = file.read()
 
-    def tearDown(self):
+    def tearDown(self) -> None:
         self.folder.cleanup()
 
-    def replay(self, stdin, db=None):
+    def replay(self, stdin: bytes, db: str | None = None) -> tuple[int, bytes, bytes]:
         return run('replay', '--db', db or self.db, '--at', AT, stdin=stdin)

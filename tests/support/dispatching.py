@@ -3,6 +3,7 @@ between them."""
 import os
 import tempfile
 import unittest
+from typing import Any
 
 from tests.support.programs import PATIENCE, TOOLS
 from tests.support.desks import Serving
@@ -36,25 +37,29 @@ ONE, TWO = VehicleKey('KIT', '0001'), VehicleKey('KIT', '0002')
 class Told:
     """Vehicles that tell a desk where they are, as their gateways do."""
 
-    def __init__(self, desk):
-        self.desk, self.headers = desk, {}
+    def __init__(self, desk: Any) -> None:
+        self.desk = desk
+        self.headers: dict[Any, int] = {}
 
     def __call__(
         self,
-        key,
-        node,
-        sequence=0,
-        acts='',
+        key: Any,
+        node: str,
+        sequence: int = 0,
+        acts: str = '',
         *,
-        mode='AUTOMATIC',
-        paused=False,
-        instant=(),
-        fresh=True,
-    ):
-        """A state of a vehicle that has its last order with its last update. `acts` has a letter
-        for each action that has ended: f for finished, x for failed."""
+        mode: str = 'AUTOMATIC',
+        paused: bool = False,
+        instant: Any = (),
+        fresh: bool = True,
+        named: str | None = None,
+    ) -> Any:
+        """A state of a vehicle that has its last order with its last update, or names this one.
+        `acts` has a letter for each action that has ended: f for finished, x for failed."""
         message = self.desk.order_message(key) if fresh else None
-        order, update = (message['orderId'], message['orderUpdateId']) if message else ('', 0)
+        order, update = named or '', 0
+        if message:
+            order, update = message['orderId'], message['orderUpdateId']
         statuses = {'f': 'FINISHED', 'x': 'FAILED', 'r': 'RUNNING'}
         listed = [
             {'actionId': f'{order}.{n}', 'actionStatus': statuses[letter]}
@@ -88,9 +93,11 @@ class Told:
 
 class OverADesk(unittest.TestCase):
     """Turns of a dispatcher, and states between them, over a desk with two vehicles: one in the bay
-    of A, one in that of C."""
+    of A, one in that of C. `places` has the parking places, if these are given."""
 
-    def setUp(self):
+    places: tuple[str, ...] | None = None
+
+    def setUp(self) -> None:
         self.folder = tempfile.TemporaryDirectory()
         self.addCleanup(self.folder.cleanup)
         self.serving = Serving(os.path.join(self.folder.name, 'warehouse.db'), 10**6)
@@ -105,27 +112,46 @@ class OverADesk(unittest.TestCase):
         self.told(TWO, 'cb')
         for load, station in (('L1', 'A'), ('L2', 'A'), ('L3', 'C')):
             self.desk.register_load(load, station)
-        self.now, self.lines = 0.0, []
+        self.now = 0.0
+        self.lines: list[str] = []
         self.begin()
 
-    def begin(self):
+    def a_desk(self) -> Desk:
+        """The desk as the dispatcher has it."""
+        return Desk(self.address, timeout=PATIENCE)
+
+    def begin(self) -> None:
         self.dispatcher = Dispatcher(
-            Desk(self.address, timeout=PATIENCE),
+            self.a_desk(),
             read_layout(LAYOUT),
             Settings(ahead=2),
+            parking=self.places,
             say=self.lines.append,
             clock=lambda: self.now,
         )
 
-    def turn(self, seconds=1.0):
+    def turn(self, seconds: float = 1.0) -> Any:
         """A turn, and what it has said."""
         self.now += seconds
         before = len(self.lines)
         self.assertTrue(self.dispatcher.turn())
         return self.lines[before:]
 
-    def held(self, key):
+    def go_on(self, key: Any, acts: int = 2) -> None:
+        """Lets a vehicle drive to the end of what is released to it and do there what is to be
+        done, where its order has so many acts in all."""
+        message = self.desk.order_message(key)
+        if message is None:
+            self.told(key, self.desk.vehicle(key).node)
+            return
+        last = [node for node in message['nodes'] if node['released']][-1]
+        left = [act for node in message['nodes'] if not node['released'] for act in node['actions']]
+        is_drive = not any(node['actions'] for node in message['nodes'])
+        done = 0 if is_drive else acts - len(left)
+        self.told(key, last['nodeId'], last['sequenceId'], 'f' * done)
+
+    def held(self, key: Any) -> Any:
         return sorted(take(self.desk).vehicles[str(key)].nodes)
 
-    def place(self, load):
+    def place(self, load: str) -> Any:
         return self.desk.load(load).place

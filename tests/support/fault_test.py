@@ -2,6 +2,7 @@
 import os
 import tempfile
 import unittest
+from typing import Any
 
 from tests.support import tracing
 from tests.support.faults import full_log, scripts
@@ -13,14 +14,28 @@ FULL = 'a full log'
 
 
 class FaultTest(unittest.TestCase):
-    def setUp(self):
+    def setUp(self) -> None:
         self.folder = tempfile.TemporaryDirectory(dir=FOLDER)
         self.db = os.path.join(os.path.realpath(self.folder.name), 'desk.db')
         self.words = [DESK, 'replay', '--db', self.db, '--at', AT]
 
-    def tearDown(self):
+    def tearDown(self) -> None:
         self.folder.cleanup()
 
-    def played(self, name):
+    def serving(self, connections: int) -> list[str]:
+        """The words by which the program serves so many connections; they are as long for few as
+        for many."""
+        return [
+            DESK,
+            'serve',
+            '--db',
+            self.db,
+            '--port',
+            '0',
+            '--connections',
+            f'{connections:04d}',
+        ]
+
+    def played(self, name: str) -> Any:
         with tempfile.TemporaryDirectory(dir=FOLDER) as folder:
             return (full_log() if name == FULL else scripts()[name]).play(folder)

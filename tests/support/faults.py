@@ -6,6 +6,8 @@ met amid its move.
 
 By default a sample of all faults is tried; all of them where the variable FAULTS is `all`, or every
 n-th from the k-th on (counted from 0) where FAULTS_PART is besides `k/n`."""
+from __future__ import annotations
+
 import functools
 import hashlib
 import os
@@ -13,15 +15,20 @@ import re
 import socket
 import sqlite3
 import tempfile
+import unittest
+from collections.abc import Iterable, Sequence
+from typing import Any
 
 from tests.support import first_schema
 from tests.support.records import FOLDER, copied, rows_of
 from tests.support.desks import AT, DESK, read_all, run
+from tests.support.tracing import Process
 from tests.support.calls import REPORTS, state
 from tests.support.scripts import (
     AT_A,
     CUT,
     SCRIPTS,
+    Case,
     accepted,
     answers_of,
     bytes_of,
@@ -33,7 +40,7 @@ from tests.support.scripts import (
     stands,
 )
 
-from nulvrader.file.rows import columns
+from nulvrader.file.tables import columns
 from tests.support.programs import ROOT
 
 ALL = os.environ.get('FAULTS') == 'all'
@@ -48,7 +55,7 @@ MEMORY, STORAGE = (
 )
 
 
-def example(name):
+def example(name: str) -> list[bytes]:
     """The requests of a file of the examples, as bytes."""
     with open(os.path.join(ROOT, 'examples', name), 'rb') as file:
         data = file.read()
@@ -63,7 +70,7 @@ def example(name):
     return found
 
 
-def lines(script):
+def lines(script: Sequence[Any]) -> list[bytes]:
     return [bytes_of(line) for line in script]
 
 
@@ -97,14 +104,17 @@ class Script:
     before. Where it is cut, the last of its requests is the front of one, which is refused where
     the input ends."""
 
-    def __init__(self, requests, before=(), cut=False):
-        self.requests, self.before, self.cut, self.files = requests, before, cut, {}
+    def __init__(
+        self, requests: list[bytes], before: Sequence[bytes] = (), cut: bool = False
+    ) -> None:
+        self.requests, self.before, self.cut = requests, before, cut
+        self.files: dict[str, bytes] = {}
 
-    def start(self, db):
+    def start(self, db: str) -> None:
         """The files are there with which the script begins."""
         put(db, self.files)
 
-    def play(self, folder):
+    def play(self, folder: str) -> Script:
         if not hasattr(self, 'rows'):
             db = os.path.join(folder, 'played.db')
             if self.before:
@@ -112,7 +122,8 @@ class Script:
                 if (status, said) != (0, b''):
                     raise AssertionError((status, said))
                 self.files = files_of(db)
-            self.answers, self.rows = [], []
+            self.answers: list[bytes] = []
+            self.rows: list[Any] = []
             for number in range(len(self.requests) + 1):
                 status, out, said = run(
                     'replay',
@@ -131,7 +142,7 @@ class Script:
             self.input = b''.join(self.requests)
         return self
 
-    def begun(self, given):
+    def begun(self, given: int) -> tuple[int, bool]:
         """How many requests are whole in so many bytes of the input, and whether there is more."""
         number = 0
         while number < len(self.requests) - self.cut and given >= len(self.requests[number]):
@@ -139,7 +150,7 @@ class Script:
             number += 1
         return number, given > 0
 
-    def whole(self, out):
+    def whole(self, out: bytes) -> int:
         """How many answers an output has whole, of which it must be a front."""
         if not self.out.startswith(out):
             raise AssertionError(out[-300:])
@@ -151,7 +162,7 @@ class Script:
 
 
 @functools.lru_cache(None)
-def scripts():
+def scripts() -> dict[str, Script]:
     return {
         'a first load': Script(example('first-load.http')),
         'a transport': Script(example('transport.http')),
@@ -168,16 +179,18 @@ def scripts():
 
 
 @functools.lru_cache(None)
-def full_log():
+def full_log() -> Script:
     """A transport amid which the log is full."""
     requests = example('transport.http')
     return Script(requests[4:], requests[:4] + FILL)
 
 
-CHECKED = {}
+CHECKED: dict[Any, Any] = {}
 
 
-def check_kept(test, script, db, answered, more=True):
+def check_kept(
+    test: unittest.TestCase, script: Script, db: str, answered: int, more: bool = True
+) -> Any:
     """The file has the rows after so many calls, or one more where that is allowed, and the rest of
     the script goes on from there. It gives how many calls are in the file; -1 where it is no desk's
     yet: it is missing, has no table, or its first page, which the desk writes but for a byte and
@@ -189,7 +202,7 @@ def check_kept(test, script, db, answered, more=True):
     return CHECKED[key]
 
 
-def check_anew(test, script, db, answered, more):
+def check_anew(test: unittest.TestCase, script: Script, db: str, answered: int, more: bool) -> int:
     try:
         rows = rows_of(db) if os.path.exists(db) else None
     except sqlite3.DatabaseError:
@@ -225,15 +238,16 @@ class Move:
 
     WORDS = DESK, 'migrate', '--db'
 
-    def __init__(self, rows, logged, moved, *asked):
-        self.moved, self.asked = {
+    def __init__(self, rows: str, logged: bool, moved: dict[str, list[Any]], *asked: Case) -> None:
+        self.asked = asked
+        self.moved: dict[str, list[Any]] = {
             'meta': [(1, 2)],
             'trip': [],
             'capacity': [],
             'journey': [],
             'act': [],
             **moved,
-        }, asked
+        }
         with tempfile.TemporaryDirectory(dir=FOLDER) as folder:
             db = os.path.join(folder, 'first.db')
             base = sqlite3.connect(db)
@@ -245,10 +259,10 @@ class Move:
             base.close()
         self.after = {**self.before, **self.moved}
 
-    def start(self, db):
+    def start(self, db: str) -> None:
         put(db, self.files)
 
-    def check(self, test, db, told):
+    def check(self, test: unittest.TestCase, db: str, told: bool) -> Any:
         """The file has the rows before the move or those after it, and these where it was told that
         it is moved; then it is moved, or is moved already, and a desk starts on it. It gives which
         rows they were. What has been checked is not checked again over the same bytes.
@@ -258,7 +272,7 @@ class Move:
             CHECKED[key] = self.check_anew(test, db, told)
         return CHECKED[key]
 
-    def check_anew(self, test, db, told):
+    def check_anew(self, test: unittest.TestCase, db: str, told: bool) -> str:
         rows = tables_of(db)
         moved = told or rows != self.before
         test.assertEqual(rows, self.after if moved else self.before)
@@ -276,7 +290,7 @@ class Move:
 
 
 @functools.lru_cache(None)
-def moves():
+def moves() -> dict[str, Move]:
     """The files of the first schema that are moved: one with an order under way, and one with no
     vehicle."""
     found = {}
@@ -309,16 +323,18 @@ def moves():
     return found
 
 
-def port_of(process):
+def port_of(process: Process) -> int | None:
     """The port on which the program that is traced listens, once it says so; none where it ends
     before."""
     while not process.out.endswith(b'\n'):
         if process.ended.wait(0.001):
             return None
-    return int(re.fullmatch(rb'listening on 127\.0\.0\.1:(\d+)\n', process.out).group(1))
+    said = re.fullmatch(rb'listening on 127\.0\.0\.1:(\d+)\n', process.out)
+    assert said, process.out
+    return int(said.group(1))
 
 
-def asks(port, request):
+def asks(port: Any, request: bytes) -> bytes:
     """What one connection is answered, as far as it comes."""
     with socket.create_connection(('127.0.0.1', port), timeout=300) as plain:
         try:
@@ -330,7 +346,7 @@ def asks(port, request):
             return b''
 
 
-def without_clock(rows):
+def without_clock(rows: dict[str, Any]) -> dict[str, Any]:
     """The rows with no moments of messages, which are the clock's."""
     places = {columns('vehicle').index(name) for name in ('order_at', 'instant_at')}
     return {
@@ -342,7 +358,7 @@ def without_clock(rows):
     }
 
 
-def files_of(db):
+def files_of(db: str) -> dict[str, bytes]:
     """The bytes of the file, and of the log beside it, as far as they are there."""
     found = {}
     for end in ('', '-wal'):
@@ -352,11 +368,11 @@ def files_of(db):
     return found
 
 
-def digest_of(db):
+def digest_of(db: str) -> tuple[tuple[str, bytes], ...]:
     return tuple((end, hashlib.sha1(data).digest()) for end, data in files_of(db).items())
 
 
-def tables_of(db):
+def tables_of(db: str) -> dict[str, list[Any]]:
     """The rows of each table of a file that is sound, whatever tables it has, as another SQLite
     reads them; the file is left as it is."""
     with tempfile.TemporaryDirectory(dir=os.path.dirname(db)) as folder:
@@ -376,13 +392,13 @@ def tables_of(db):
             base.close()
 
 
-def remove(db):
+def remove(db: str) -> None:
     for end in ('', '-wal', '-shm', '-journal'):
         if os.path.exists(db + end):
             os.remove(db + end)
 
 
-def put(db, files):
+def put(db: str, files: dict[str, bytes]) -> None:
     """These files are there, and no others of this database."""
     remove(db)
     for end, data in files.items():
@@ -390,7 +406,7 @@ def put(db, files):
             file.write(data)
 
 
-def sample(numbers, most):
+def sample(numbers: Iterable[int], most: int) -> list[int]:
     """All of these, or so many spread over them."""
     numbers = list(numbers)
     if ALL:

@@ -1,4 +1,5 @@
 """Files of the first schema, and what they are moved to."""
+from typing import Any
 
 
 # The first schema, as its desk has made it.
@@ -93,7 +94,7 @@ MESSAGE = (
 )
 
 
-def committed(log):
+def committed(log: Any) -> Any:
     """The front of a log that has its frames, which are those with the salts of its header; nothing
     where it has none."""
     end, size = HEADER, FRAME + int.from_bytes(log[8:12], 'big')

@@ -6,6 +6,7 @@ import importlib.machinery
 import importlib.util
 import io
 import os
+import re
 import signal
 import socket
 import subprocess
@@ -26,11 +27,12 @@ PATIENCE = 120.0  # seconds until what is waited for has to be so, however busy 
 
 # A shell that runs the tests beside itself has signals ignored that would end it, and what ignores
 # one hands that on to what it starts.
-for number, handler in (
+HANDLERS: tuple[tuple[int, Any], ...] = (
     (signal.SIGINT, signal.default_int_handler),
     (signal.SIGQUIT, signal.SIG_DFL),
     (signal.SIGHUP, signal.SIG_DFL),
-):
+)
+for number, handler in HANDLERS:
     if signal.getsignal(number) == signal.SIG_IGN:
         signal.signal(number, handler)
 
@@ -70,6 +72,13 @@ def free_port() -> int:
                 return port
 
 
+def matched(pattern: str, text: str, flags: int = 0) -> re.Match[str]:
+    """The first place where a text has a pattern, which must be there."""
+    found = re.search(pattern, text, flags)
+    assert found, f'{pattern} is not in {text[:1000]}'
+    return found
+
+
 def wait_for_port(port: int, process: 'subprocess.Popen[Any]') -> None:
     """Waits until a program, which is running, listens on a port."""
 
@@ -84,17 +93,21 @@ def wait_for_port(port: int, process: 'subprocess.Popen[Any]') -> None:
     until(listens, f'port {port}')
 
 
-def module(name, folder='tools'):
+def module(name: str, folder: str = 'tools') -> Any:
     """A program as a module."""
     path = os.path.join(ROOT, folder, name)
     loader = importlib.machinery.SourceFileLoader(name.replace('-', '_'), path)
-    made = importlib.util.module_from_spec(importlib.util.spec_from_loader(loader.name, loader))
+    spec = importlib.util.spec_from_loader(loader.name, loader)
+    assert spec
+    made = importlib.util.module_from_spec(spec)
     sys.modules[loader.name] = made
     loader.exec_module(made)
     return made
 
 
-def within(program, *words, stdin='', env=None):
+def within(
+    program: Any, *words: str, stdin: str = '', env: dict[str, str] | None = None
+) -> tuple[Any, str, str]:
     """A program that was loaded as a module, run within this one: its status, what it prints, and
     what it says on standard error."""
     out, said = io.StringIO(), io.StringIO()
@@ -113,7 +126,9 @@ def within(program, *words, stdin='', env=None):
     return status, out.getvalue(), said.getvalue()
 
 
-def ran(name, *words, stdin='', env=None):
+def ran(
+    name: str, *words: str, stdin: str = '', env: dict[str, str] | None = None
+) -> tuple[int, str, str]:
     """A program of `tools/`, run: its status, what it prints, and what it says on standard
     error."""
     line = [sys.executable, os.path.join(TOOLS, name), *words]

@@ -6,8 +6,11 @@ import shutil
 import sqlite3
 import sys
 import tempfile
+from collections.abc import Iterable
+from typing import Any
 
-from nulvrader.file.rows import TABLES, Rows, columns
+from nulvrader.file.rows import Rows
+from nulvrader.file.tables import TABLES, columns
 from nulvrader.file.rules import broken_rules
 from tests.model.desk import Model, compact
 
@@ -15,7 +18,7 @@ from tests.model.desk import Model, compact
 FOLDER = '/dev/shm' if os.access('/dev/shm', os.W_OK | os.X_OK) else None
 
 
-def copied(db, folder):
+def copied(db: str, folder: str) -> str:
     """A copy of the file, with its log where it has one: what reads it changes nothing of the
     file."""
     copy = os.path.join(folder, 'copy.db')
@@ -28,7 +31,7 @@ def copied(db, folder):
     return copy
 
 
-def rows_of(db, check=True):
+def rows_of(db: str, check: bool = True) -> Any:
     """All rows by table, each table sorted; none where the file has no table. The file is left as
     it is."""
     with tempfile.TemporaryDirectory(dir=os.path.dirname(db)) as folder:
@@ -57,22 +60,23 @@ def rows_of(db, check=True):
             base.close()
 
 
-def named(rows):
+def named(rows: Any) -> Rows:
     """The rows with their columns as members."""
-    return Rows(**{table: list(map(of._make, rows[table])) for table, of in TABLES.items()})
+    made: dict[str, Any] = {table: list(map(of._make, rows[table])) for table, of in TABLES.items()}
+    return Rows(**made)
 
 
-def breaches(rows):
+def breaches(rows: Any) -> list[Any]:
     """All breaches of the rules."""
     return [found for one in broken_rules(rows, sys.maxsize) for found in one.first]
 
 
-def broken(rows):
+def broken(rows: Any) -> list[str]:
     """The rules that these rows break, as texts; an empty list where they are a lawful world's."""
     return [f'{found.rule.name}: {found}' for found in breaches(named(rows))]
 
 
-def answers_of_rows(rows, targets):
+def answers_of_rows(rows: Any, targets: Iterable[str]) -> list[tuple[int, bytes]]:
     """The status and the body by which a desk that has these rows of a lawful world answers each
     `GET`."""
     model, found = Model.of_rows(rows), []
@@ -87,6 +91,6 @@ def answers_of_rows(rows, targets):
     return found
 
 
-def export_of_rows(rows):
+def export_of_rows(rows: Any) -> str:
     """The export of all loads."""
     return answers_of_rows(rows, ['/export/loads'])[0][1].decode()

@@ -5,6 +5,8 @@ import functools
 import json
 import os
 import re
+from collections.abc import Iterator
+from typing import Any
 
 from tests.support.answers import REASONS
 from tests.support.programs import ROOT
@@ -17,23 +19,23 @@ IMPORTS = re.compile(r'^use crate::scripts::(\w+)::(?:\{(.*?)\}|(\w+));', re.M |
 ASKING = 'GET', 'POST', 'PUT', 'DELETE'
 
 
-def source(name):
+def source(name: str) -> Any:
     with open(os.path.join(FOLDER, name + '.rt'), encoding='utf-8') as file:
         return file.read()
 
 
 @functools.lru_cache(None)
-def texts_of(name):
+def texts_of(name: str) -> Any:
     """The texts of a file by their names, with those that it takes from others."""
     text = source(name)
-    found = {}
+    found: dict[Any, Any] = {}
     for other, names, one in IMPORTS.findall(text):
         found.update((part, texts_of(other)[part]) for part in re.findall(r'\w+', names or one))
     found.update((part, raw or plain) for part, raw, plain in TEXT.findall(text))
     return found
 
 
-def expanded(text):
+def expanded(text: str) -> Iterator[Any]:
     """The lines of a text: one that begins with `*` and a number stands so often, with 000, 001 and
     so on for `#`, and `%` ends a line."""
     for line in text.split('\n'):
@@ -45,9 +47,9 @@ def expanded(text):
             yield line
 
 
-def parsed(parts):
+def parsed(parts: Any) -> list[tuple[Any, str]]:
     """The lines of a script, each with the lines of text behind it."""
-    found = []
+    found: list[Any] = []
     for line in expanded('\n'.join(parts)):
         if line.startswith('| '):
             found[-1][1].append(line[2:] + '\n')
@@ -56,13 +58,15 @@ def parsed(parts):
     return [(line, ''.join(text)) for line, text in found]
 
 
-def request(method, target, body):
+def request(method: str, target: str, body: Any) -> str:
     if not body and method in ('GET', 'DELETE'):
         return f'{method} {target} HTTP/1.1\r\n\r\n'
     return f'{method} {target} HTTP/1.1\r\nContent-Length: {len(body)}\r\n\r\n{body}'
 
 
-def state(serial, number, order, update, node, place, *actions):
+def state(
+    serial: Any, number: int, order: str, update: int, node: str, place: str, *actions: Any
+) -> Any:
     """The state of a vehicle that is ready, as a script writes it."""
     body = {
         'headerId': int(number),
@@ -88,15 +92,16 @@ def state(serial, number, order, update, node, place, *actions):
     return request('POST', f'/uagv/v2/KIT/{serial}/state', json.dumps(body, separators=(',', ':')))
 
 
-def asked(line, text):
+def asked(line: str, text: str) -> Any:
     """The request of a line."""
     if line.startswith('state '):
-        return state(*line.split()[1:])
+        words: Any = line.split()[1:]
+        return state(*words)
     method, target, body = (line.split(' ', 2) + [''])[:3]
     return request(method, target, body or text)
 
 
-def answered(asked_for, line, text):
+def answered(asked_for: Any, line: str, text: str) -> str:
     """The answer of a line to a request."""
     status, _, body = line.partition(' ')
     body = body or text
@@ -113,7 +118,7 @@ def answered(asked_for, line, text):
     )
 
 
-def streams_of(parts):
+def streams_of(parts: Any) -> list[tuple[Any, bytes, bytes]]:
     """The streams of a script, one for each moment that it names: the moment, the requests and the
     answers, as bytes."""
     streams, last = [[MOMENT, '', '']], ''
@@ -131,7 +136,7 @@ def streams_of(parts):
     return [(at, requests.encode(), answers.encode()) for at, requests, answers in streams]
 
 
-def scripts():
+def scripts() -> Any:
     """All scripts of vehicles for up to four loads, by the name of their list and their number in
     it."""
     found = {}

@@ -1,8 +1,10 @@
 """Calls with the answers that are expected, and answers that are read."""
 import json
+from collections.abc import Iterable, Sequence
+from typing import Any
 
 from tests.support import calls
-from tests.support.calls import advance, state
+from tests.support.calls import Asked, advance, state
 
 LAYOUT = (
     'kind,id,from,to\nnode,N1,,\nnode,N2,,\nnode,N3,,\nedge,E12,N1,N2\nedge,E21,N2,N1\nedge,E23,'
@@ -11,44 +13,68 @@ LAYOUT = (
 )
 
 
-def ok(request, body=None, told='{}'):
+# A request, its body, and the status and the body of the answer.
+Case = tuple[str, object, int, str]
+
+
+def ok(request: str, body: object = None, told: str = '{}') -> Case:
     return request, body, 200, told
 
 
-def refused(request, body, status, name, number):
+def refused(request: str, body: object, status: int, name: str, number: int) -> Case:
     return request, body, status, f'{{"name":"{name}","refusal":{number}}}'
 
 
-def accepted(said, told='{"accepted":true}'):
+def accepted(said: Asked, told: str = '{"accepted":true}') -> Case:
     return said[0], said[1], 200, told
 
 
-def refused_state(said, status, name, number):
+def refused_state(said: Asked, status: int, name: str, number: int) -> Case:
     return refused(said[0], said[1], status, name, number)
 
 
-def vehicle(serial, node, capacity=None):
+def vehicle(serial: str, node: str, capacity: int | None = None) -> Case:
     return ok(*calls.vehicle(serial, node, capacity))
 
 
-def load(name, station=None):
+def load(name: str, station: str | None = None) -> Case:
     return ok(*calls.load(name, station))
 
 
-def job(name, of, to):
+def job(name: str, of: str, to: str) -> Case:
     return ok(*calls.job(name, of, to))
 
 
-def order(name, of, edges, serial='0001'):
+def order(name: str, of: str, edges: int, serial: str = '0001') -> Case:
     return ok(*calls.order(name, of, edges, serial), '{"orderUpdateId":0}')
 
 
-def order_over(name, stops, edges, serial):
+def drive(name: str, to: str, edges: int, serial: str = '0001') -> Case:
+    return ok(*calls.drive(name, to, edges, serial), '{"orderUpdateId":0}')
+
+
+def refused_drive(
+    name: str,
+    number: int,
+    order: str = 'G9',
+    to: str = 'N3',
+    edges: int = 1,
+    status: int = 409,
+    serial: str = '0001',
+    **more: Any,
+) -> Case:
+    """A drive that is refused; `more` is what the answer tells besides."""
+    told = {'name': name, 'refusal': number, **more}
+    text = json.dumps(told, sort_keys=True, separators=(',', ':'))
+    return *calls.drive(order, to, edges, serial), status, text
+
+
+def order_over(name: str, stops: Iterable[str], edges: int, serial: str) -> calls.Call:
     """An order over several jobs; `stops` are words as `pick J1`."""
     return calls.order_of_stops(name, [stop.split() for stop in stops], edges, serial)
 
 
-def stands(name, place, of=None):
+def stands(name: str, place: str, of: str | None = None) -> Case:
     return ok(
         'GET /loads/' + name,
         None,
@@ -56,7 +82,24 @@ def stands(name, place, of=None):
     )
 
 
-def export(kind, *rows):
+def phase(
+    name: str,
+    of: str,
+    origin: str,
+    to: str,
+    told: str,
+    on: str | None = None,
+    vehicle: str | None = None,
+) -> Case:
+    """What is told of a job, by the order that has it and its vehicle while it rides."""
+    body = {
+        'from': origin, 'job': name, 'load': of, 'order': on, 'phase': told, 'to': to,
+        'vehicle': vehicle,
+    }  # fmt: skip
+    return ok(*calls.get_job(name), json.dumps(body, separators=(',', ':')))
+
+
+def export(kind: str, *rows: str) -> Case:
     heads = {
         'loads': 'load,place,at',
         'jobs': 'job,load,from,to,phase,manufacturer,serialNumber,order',
@@ -67,7 +110,7 @@ def export(kind, *rows):
     return ok('GET /export/' + kind, None, ''.join(row + '\n' for row in (heads[kind], *rows)))
 
 
-def holds(*lines, of=7):
+def holds(*lines: str, of: int = 7) -> Case:
     return ok(
         'GET /report/holds',
         None,
@@ -359,6 +402,95 @@ SCRIPTS = {
         ok('DELETE /jobs/J2'),
         export('jobs', 'J1,L1,A,C,waiting,,,'),
     ],
+    'a drive takes a load along; a job in each of its phases': AT_A
+    + [
+        refused('GET /jobs/J1/phase', None, 404, 'NoJob', 24),
+        job('J1', 'L1', 'B'),
+        phase('J1', 'L1', 'A', 'B', 'waiting'),
+        order('O1', 'J1', 0),
+        phase('J1', 'L1', 'A', 'B', 'riding', 'O1', 'KIT/0001'),
+        ok('POST /vehicles/KIT/0001/cancel', '', '{"actionId":"instant-1"}'),
+        accepted(
+            state(
+                2,
+                'O1',
+                statuses=[('O1.0', 'FINISHED'), ('O1.1', 'FAILED'), ('instant-1', 'FINISHED')],
+            )
+        ),
+        phase('J1', 'L1', 'A', 'B', 'stopped'),
+        drive('G1', 'N3', 1),
+        export('jobs'),
+        export('vehicles', 'KIT,0001,N1,1,true,false,false,2,,G1,0,,1,2,0,,'),
+        holds('node N1 KIT/0001', 'node N2 KIT/0001', 'edge E12 KIT/0001'),
+        accepted(state(3, 'G1', node='N2', sequence=2)),
+        holds('node N2 KIT/0001'),
+        stands('L1', 'vehicle KIT/0001'),
+        ok(*advance('G1', 1, 1), '{"orderUpdateId":1}'),
+        accepted(state(4, 'G1', 1, 'N3', 4)),
+        holds('node N3 KIT/0001'),
+        ('GET /uagv/v2/KIT/0001/order', None, 204, ''),
+        stands('L1', 'vehicle KIT/0001'),
+        refused('POST /vehicles/KIT/0001/cancel', '', 409, 'NoOrder', 25),
+        ok('POST /loads/L1/correct', {'ref': 'R1', 'station': 'B'}),
+        job('J2', 'L1', 'A'),
+        order('O2', 'J2', 2),
+        accepted(
+            state(
+                5,
+                'O2',
+                node='N1',
+                sequence=4,
+                statuses=[('O2.0', 'FINISHED'), ('O2.1', 'FINISHED')],
+            )
+        ),
+        phase('J2', 'L1', 'B', 'A', 'done'),
+        phase('J1', 'L1', 'A', 'B', 'stopped'),
+    ],
+    'what is refused of a drive, in the order of the checks': [
+        *READY[:2],
+        refused_drive('NoVehicle', 20, to='N9', status=404, serial='0009'),
+        refused_drive('NoNode', 21, to='N9', status=404),
+        refused_drive('NotReady', 41, to='N1'),
+        accepted(state(1, 'G8')),
+        refused_drive('OrderKnown', 52, 'G8', 'N1'),
+        refused_drive('NoWalk', 46, to='N1', edges=9),
+        refused_drive('Beyond', 45, edges=3),
+        vehicle('0002', 'N2'),
+        refused_drive('Held', 33, by='KIT/0002', what='node N2'),
+        drive('G1', 'N3', 0),
+        refused_drive('Exists', 30, 'G1', 'N9', serial='0009'),
+        refused_drive('Busy', 38, to='N1'),
+        accepted(state(2, 'G1')),
+        ok('POST /vehicles/KIT/0001/cancel', '', '{"actionId":"instant-1"}'),
+        refused(*advance('G1', 1, 1), 409, 'InstantPending', 42),
+        ok('POST /vehicles/KIT/0001/place', {'ref': 'R1', 'node': 'N1'}),
+        ok('POST /vehicles/KIT/0002/place', {'ref': 'R2', 'node': 'N3'}),
+        drive('G2', 'N2', 1),
+        ok('POST /vehicles/KIT/0001/cancel', '', '{"actionId":"instant-2"}'),
+        accepted(state(3, 'G2', statuses=[('instant-2', 'FINISHED')])),
+        refused_drive('Astray', 39, to='N1'),
+        ok('POST /vehicles/KIT/0001/place', {'ref': 'R3', 'node': 'N1'}),
+        accepted(state(4, 'G2', operatingMode='MANUAL')),
+        refused_drive('NotReady', 41),
+    ],
+    'a drive of 200 edges, and of one more': [
+        ok(
+            'PUT /layout',
+            'kind,id,from,to\n'
+            + ''.join(f'node,N{n},,\n' for n in range(202))
+            + ''.join(f'edge,E{n},N{n},N{n + 1}\n' for n in range(201)),
+        ),
+        vehicle('0001', 'N0'),
+        accepted(state(1, node='N0')),
+        refused_drive('TooLong', 47, to='N201', edges=999),
+        refused_drive('Beyond', 45, to='N200', edges=201),
+        drive('G1', 'N200', 200),
+        refused(*advance('G1', 1, 1), 409, 'NotConfirmed', 43),
+        accepted(state(2, 'G1', node='N0')),
+        refused(*advance('G1', 1, 1), 409, 'Beyond', 45),
+        accepted(state(3, 'G1', node='N199', sequence=398)),
+        holds('node N199 KIT/0001', 'node N200 KIT/0001', 'edge E199 KIT/0001', of=403),
+    ],
     'a layout is set once': READY + [refused('PUT /layout', LAYOUT, 409, 'LayoutSet', 31)],
     'a layout with an edge to nowhere': [
         refused('PUT /layout', 'kind,id,from,to\nnode,N1,,\nedge,E1,N1,N2\n', 409, 'LayoutBad', 32)
@@ -383,7 +515,7 @@ SCRIPTS = {
 }
 
 
-def bytes_of(line):
+def bytes_of(line: Sequence[Any]) -> bytes:
     return calls.request(*line[:2])
 
 
@@ -391,7 +523,7 @@ def bytes_of(line):
 CUT = [bytes_of(load('L1')), bytes_of(load('L2')), bytes_of(load('L1'))[:-8]]
 
 
-def answers_of(data):
+def answers_of(data: bytes) -> Any:
     """The answers of an output, each its status and its body; none where the last one lacks
     bytes."""
     found, at = [], 0

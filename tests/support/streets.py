@@ -1,6 +1,7 @@
 """Layouts for random traffic, on which many vehicles can drive without standing in one another's
 way."""
 import collections
+from typing import Any
 
 
 class Streets:
@@ -10,9 +11,11 @@ class Streets:
     its end, so that it isn't in the way there; at each bay is a station, and at every third one
     another."""
 
-    def __init__(self, width, height):
+    def __init__(self, width: int, height: int) -> None:
         self.streets = [f'N{y:02d}-{x:02d}' for y in range(height) for x in range(width)]
-        self.bays, self.edges, self.stations = [], {}, {}
+        self.bays: list[Any] = []
+        self.edges: dict[Any, Any] = {}
+        self.stations: dict[Any, Any] = {}
         for y in range(height):
             for x in range(width):
                 east, south = f'N{y:02d}-{x + 1:02d}', f'N{y + 1:02d}-{x:02d}'
@@ -29,19 +32,19 @@ class Streets:
         for name, (start, finish) in sorted(self.edges.items()):
             self.out[start].append((name, finish))
             self.into[finish].append(start)
-        self.known = {}
+        self.known: dict[Any, Any] = {}
 
-    def join(self, start, finish):
+    def join(self, start: str, finish: str) -> None:
         self.edges[f'{start}.{finish}'] = start, finish
 
-    def bay(self, name, start, finish, number):
+    def bay(self, name: str, start: str, finish: str, number: int) -> None:
         self.bays.append(name)
         self.join(start, name)
         self.join(name, finish)
         for side in 'ab' if number % 3 == 0 else 'a':
             self.stations['S' + name[1:] + side] = name, 1 + number % 5
 
-    def rows(self):
+    def rows(self) -> str:
         """The file that sets it as the layout."""
         lines = ['kind,id,from,to', *[f'node,{node},,' for node in self.nodes]]
         lines += ['edge,%s,%s,%s' % (name, *ends) for name, ends in self.edges.items()]
@@ -52,7 +55,7 @@ class Streets:
             + '\n'
         )
 
-    def hops_to(self, target):
+    def hops_to(self, target: str) -> Any:
         """How many edges each node is from the target."""
         if target not in self.known:
             found, row = {target: 0}, [target]
@@ -64,14 +67,14 @@ class Streets:
             self.known[target] = found
         return self.known[target]
 
-    def next_node(self, start, target):
+    def next_node(self, start: str, target: str) -> Any:
         """Where the first edge of the route ends: of those whose end is one hop nearer the one of
         least name."""
         hops = self.hops_to(target)
         return next(end for _, end in self.out[start] if hops.get(end, -1) == hops[start] - 1)
 
 
-def streets_for(vehicles):
+def streets_for(vehicles: int) -> Any:
     """Streets with room to drive: three nodes for each vehicle, and bays beside them."""
     width = height = 4
     while width * height < 3 * vehicles:

@@ -6,6 +6,8 @@ on, get no memory.
 Only the chosen calls stop the program: a filter of seccomp names them. Of Linux on x86-64 alone;
 `lacks` says why it can't be had elsewhere. Threads of the program are followed, and so is a script
 that becomes the program by `exec`."""
+from __future__ import annotations
+
 import ctypes
 import errno
 import os
@@ -14,6 +16,10 @@ import signal
 import struct
 import sys
 import threading
+from collections.abc import Callable, Collection, Iterable, Sequence
+from typing import Any, NoReturn
+
+from tests.support.heap import Clock, Heap
 
 NUMBERS = {
     'read': 0,
@@ -121,7 +127,7 @@ STOP = 'stop'
 class Fails:
     """The call isn't made, and fails by this error."""
 
-    def __init__(self, error):
+    def __init__(self, error: int) -> None:
         self.error = error
 
 
@@ -129,14 +135,14 @@ class Gives:
     """The call isn't made, and gives this number: 0 for an end or for nothing taken, its size for a
     write that is dropped."""
 
-    def __init__(self, value):
+    def __init__(self, value: int) -> None:
         self.value = value
 
 
 class Short:
     """The call is made with so many bytes at most."""
 
-    def __init__(self, size):
+    def __init__(self, size: int) -> None:
         self.size = size
 
 
@@ -156,7 +162,7 @@ REG_R10, REG_R9, REG_R8, RAX, RDX, RSI, RDI, ORIG_RAX, RIP = 7, 8, 9, 10, 12, 13
 Registers = ctypes.c_ulonglong * 27
 
 
-def _library():
+def _library() -> ctypes.CDLL:
     found = ctypes.CDLL(None, use_errno=True)
     found.ptrace.restype = ctypes.c_long
     found.ptrace.argtypes = [ctypes.c_long, ctypes.c_long, ctypes.c_void_p, ctypes.c_void_p]
@@ -164,16 +170,16 @@ def _library():
     return found
 
 
-LIBC = _library() if sys.platform == 'linux' else None
+LIBC: Any = _library() if sys.platform == 'linux' else None
 
 
-def ptrace(request, pid, address=0, data=0):
+def ptrace(request: int, pid: int, address: int = 0, data: int = 0) -> None:
     if LIBC.ptrace(request, pid, address, data) < 0:
         number = ctypes.get_errno()
-        raise OSError(number, 'ptrace %#x: %s' % (request, os.strerror(number)))
+        raise OSError(number, f'ptrace {request:#x}: {os.strerror(number)}')
 
 
-def _filter(names):
+def _filter(names: Collection[str]) -> bytes:
     """The program of seccomp's filter: a call of these names stops, every other one goes on."""
     numbers = sorted(NUMBERS[name] for name in names)
     lines = [(0x20, 0, 0, 4), (0x15, 0, len(numbers) + 1, 0xC000003E), (0x20, 0, 0, 0)]
@@ -185,14 +191,14 @@ def _filter(names):
 class Call:
     """A system call that the program is about to make."""
 
-    def __init__(self, pid, registers):
+    def __init__(self, pid: int, registers: Any) -> None:
         self.pid = pid
         self.name = NAMES[registers[ORIG_RAX]]
         self.words = [registers[at] for at in (RDI, RSI, RDX, REG_R10, REG_R8, REG_R9)]
         self.file = self.words[0] if self.name in OF_A_FILE else None
 
     @property
-    def path(self):
+    def path(self) -> str:
         """The file that the call is on; a path as the program has it, or where the descriptor
         leads."""
         if self.name in OF_A_PATH:
@@ -205,177 +211,54 @@ class Call:
             return ''
 
     @property
-    def size(self):
+    def size(self) -> Any:
         """The bytes that a read or a write is about."""
         return self.words[2]
 
     @property
-    def data(self):
+    def data(self) -> bytes:
         """The bytes that are to be written."""
         return self._memory(self.words[1], self.size)
 
-    def _memory(self, at, size):
+    def _memory(self, at: int, size: int) -> bytes:
         with open(f'/proc/{self.pid}/mem', 'rb', 0) as memory:
             return os.pread(memory.fileno(), size, at)
 
-    def _text(self, at):
+    def _text(self, at: int) -> bytes:
         data = b''
         while b'\0' not in data:
             data += self._memory(at + len(data), 256 - (at + len(data)) % 256)
         return data.split(b'\0')[0]
 
-    def __repr__(self):
-        return '%s(%s)' % (self.name, ', '.join('%#x' % word for word in self.words))
+    def __repr__(self) -> str:
+        return f'{self.name}({", ".join(f"{word:#x}" for word in self.words)})'
 
 
 class Ended:
     """How a program ended: its exit status, or the number of the signal below 0; what it wrote; and
     how often it asked the heap, and how often it got nothing there."""
 
-    def __init__(self, status, out, said, heap):
+    def __init__(self, status: int, out: bytes, said: bytes, heap: tuple[int, int] | None) -> None:
         self.status, self.out, self.said = status, out, said
         self.asked, self.refused = heap or (0, 0)
 
 
-class Heap:
-    """From the `first` time on that the program asks the C library for memory it gets none: `times`
-    times, or always. With no `first` the calls are only counted."""
-
-    NAMES = {
-        'malloc': 0,
-        'calloc': 0,
-        'realloc': 0,
-        'reallocarray': 0,
-        'aligned_alloc': 0,
-        'memalign': 0,
-        'posix_memalign': errno.ENOMEM,
-        'valloc': 0,
-        'pvalloc': 0,
-    }
-
-    def __init__(self, program, first=None, times=1):
-        self.entry, self.slots = slots_of(program)
-        self.first, self.times = first, times
-
-    def code(self, originals):
-        """The page that stands in the place of these functions: for each its code, and behind them
-        the numbers it counts."""
-        asked, left, given = 3072, 3080, 3088
-        code, starts = b'', []
-        for at, (name, original) in enumerate(originals):
-            code = code.ljust((len(code) + 15) // 16 * 16, b'\xcc')
-            start = len(code)
-            starts.append(start)
-
-            def beside(place, size):
-                return struct.pack('<i', place - (start + len(body) + size))
-
-            body = b'\xf3\x0f\x1e\xfa'  # endbr64
-            body += b'\xf0\x48\xff\x05' + beside(asked, 8)  # lock inc [asked]
-            body += b'\xf0\x48\xff\x0d' + beside(left, 8)  # lock dec [left]
-            body += b'\x7e\x06'  # jle, over the next
-            body += b'\xff\x25' + beside(3096 + 8 * at, 6)  # jmp [original]
-            body += b'\xf0\x48\xff\x0d' + beside(given, 8)  # lock dec [given]
-            body += b'\x7d\x06'  # jge, over the next
-            body += b'\xff\x25' + beside(3096 + 8 * at, 6)  # jmp [original]
-            body += (
-                b'\xb8' + struct.pack('<i', self.NAMES[name]) + b'\xc3'
-            )  # mov eax, the answer; ret
-            code += body
-        never = 1 << 62
-        numbers = (0, self.first or never, never if self.times is None else self.times)
-        tail = struct.pack('<3q', *numbers) + b''.join(
-            struct.pack('<Q', original) for _, original in originals
-        )
-        return starts, code.ljust(3072, b'\xcc') + tail
-
-
-class Clock:
-    """The clock of the day shows so many seconds since 1970 whenever the program asks the C library
-    for it; where they are None it can't be read. It is handed to `run` as a `Heap` is, and its
-    calls are counted as those of the heap are. Other clocks go on.
-    """
-
-    NAMES = ('clock_gettime',)
-    times = 0
-
-    def __init__(self, program, seconds):
-        self.entry, self.slots = slots_of(program, self.NAMES)
-        self.seconds = seconds
-
-    def code(self, originals):
-        """The page that stands in the place of this function."""
-        asked, left = 3072, 3096
-
-        def beside(place, size):
-            return struct.pack('<i', place - (len(code) + size))
-
-        code = b'\xf3\x0f\x1e\xfa'  # endbr64
-        code += b'\x85\xff\x74\x06'  # test edi, edi; jz, over the next: 0 is the clock of the day
-        code += b'\xff\x25' + beside(left, 6)  # jmp [original]
-        code += b'\xf0\x48\xff\x05' + beside(asked, 8)  # lock inc [asked]
-        if self.seconds is None:
-            code += b'\xb8' + struct.pack('<i', -1) + b'\xc3'  # mov eax, -1; ret
-        else:
-            code += b'\x48\xb8' + struct.pack('<q', self.seconds)  # mov rax, seconds
-            code += b'\x48\x89\x06\x48\xc7\x46\x08' + bytes(
-                4
-            )  # mov [rsi], rax; mov qword [rsi + 8], 0
-            code += b'\x31\xc0\xc3'  # xor eax, eax; ret
-        tail = struct.pack('<3q', 0, 0, 0) + struct.pack('<Q', originals[0][1])
-        return [0] * len(originals), code.ljust(asked, b'\xcc') + tail
-
-
-def slots_of(program, names=Heap.NAMES):
-    """Where an ELF file of x86-64 begins, and where its table of imports has these functions, or
-    those of the heap."""
-    with open(program, 'rb') as file:
-        data = file.read()
-    if data[:5] != b'\x7fELF\x02':
-        raise ValueError(f'{program} is no ELF file of 64 bits')
-    entry, at = struct.unpack_from('<QQ', data, 24)
-    size, count = struct.unpack_from('<HH', data, 54)
-    parts = [struct.unpack_from('<IIQQQQQQ', data, at + size * n) for n in range(count)]
-
-    def place(address):
-        for kind, _, offset, start, _, length, _, _ in parts:
-            if kind == 1 and start <= address < start + length:
-                return offset + address - start
-        raise ValueError('no such address')
-
-    dynamic = {}
-    for kind, _, offset, _, _, length, _, _ in parts:
-        if kind == 2:
-            for n in range(0, length, 16):
-                tag, value = struct.unpack_from('<qQ', data, offset + n)
-                dynamic.setdefault(tag, value)
-    slots = {}
-    for table, length in ((23, 2), (7, 8)):
-        if table not in dynamic:
-            continue
-        for n in range(0, dynamic[length], 24):
-            where, info, _ = struct.unpack_from('<QQq', data, place(dynamic[table]) + n)
-            if info & 0xFFFFFFFF in (6, 7):
-                (name,) = struct.unpack_from('<I', data, place(dynamic[6]) + 24 * (info >> 32))
-                begin = place(dynamic[5]) + name
-                text = data[begin : data.index(b'\0', begin)].decode()
-                if text in names:
-                    slots[where] = text
-    return entry, slots
+# What is told of a call: `None` to let it go on, or what comes of it.
+OnCall = Callable[[Call], Any]
 
 
 class Process:
     """The program while it runs: who stands beside it may ask what it has written, and whether it
     has ended."""
 
-    def __init__(self, pid, out):
+    def __init__(self, pid: int, out: int) -> None:
         self.pid, self._out, self.ended = pid, out, threading.Event()
 
     @property
-    def out(self):
+    def out(self) -> bytes:
         return os.pread(self._out, 1 << 26, 0)
 
-    def end(self):
+    def end(self) -> None:
         if not self.ended.is_set():
             os.kill(self.pid, signal.SIGKILL)
 
@@ -383,12 +266,13 @@ class Process:
 class Beside(threading.Thread):
     """What runs next to the program. Where it fails the program is ended."""
 
-    def __init__(self, work, process):
+    def __init__(self, work: Callable[[Process], None], process: Process) -> None:
         super().__init__()
-        self.work, self.process, self.error = work, process, None
+        self.work, self.process = work, process
+        self.error: Exception | None = None
         self.start()
 
-    def run(self):
+    def run(self) -> None:
         try:
             self.work(self.process)
         except Exception as error:
@@ -397,35 +281,38 @@ class Beside(threading.Thread):
 
 
 class Tracer:
-    def __init__(self, pid, on_call, heap):
-        self.pid, self.on_call, self.heap = pid, on_call, heap
-        self.started, self.counted, self.page = False, None, None
+    def __init__(self, pid: int, on_call: OnCall | None, heap: Heap | Clock | None) -> None:
+        self.pid, self.heap = pid, heap
+        self.on_call: Any = on_call
+        self.started = False
+        self.counted: tuple[int, int] | None = None
+        self.page: int | None = None
 
-    def memory(self):
+    def memory(self) -> int:
         return os.open(f'/proc/{self.pid}/mem', os.O_RDWR)
 
-    def registers(self, pid):
+    def registers(self, pid: int) -> Any:
         found = Registers()
         ptrace(GETREGS, pid, 0, ctypes.addressof(found))
         return found
 
-    def set_registers(self, pid, registers):
+    def set_registers(self, pid: int, registers: Any) -> None:
         ptrace(SETREGS, pid, 0, ctypes.addressof(registers))
 
-    def begin(self):
+    def begin(self) -> None:
         """The program has just been loaded: it is stopped once more where its own code begins, once
         its imports are found."""
         self.started = True
         if self.heap:
             with open(f'/proc/{self.pid}/auxv', 'rb') as file:
-                words = dict(struct.iter_unpack('<QQ', file.read()))
+                words: dict[int, int] = dict(struct.iter_unpack('<QQ', file.read()))  # type: ignore
             self.at = words[9]
             memory = self.memory()
             self.kept = os.pread(memory, 3, self.at)
             os.pwrite(memory, b'\xcc', self.at)
             os.close(memory)
 
-    def trapped(self):
+    def trapped(self) -> None:
         """At its own code: a page is had for the program, by a call of its own, and the functions
         of the heap lead there."""
         registers, memory = self.registers(self.pid), self.memory()
@@ -447,20 +334,22 @@ class Tracer:
                 registers[place] = word
             self.set_registers(self.pid, registers)
         else:
-            self.page = registers[RAX]
+            page: int = registers[RAX]
+            self.page = page
+            assert self.heap
             base = self.at - self.heap.entry
             originals = []
             for slot, name in self.heap.slots.items():
                 originals.append((name, struct.unpack('<Q', os.pread(memory, 8, base + slot))[0]))
             starts, code = self.heap.code(originals)
-            os.pwrite(memory, code, self.page)
+            os.pwrite(memory, code, page)
             for slot, start in zip(self.heap.slots, starts):
-                os.pwrite(memory, struct.pack('<Q', self.page + start), base + slot)
+                os.pwrite(memory, struct.pack('<Q', page + start), base + slot)
             os.pwrite(memory, self.kept, self.at)
             self.set_registers(self.pid, self.first)
         os.close(memory)
 
-    def count(self):
+    def count(self) -> None:
         if self.heap and self.page:
             memory = self.memory()
             asked, _, given = struct.unpack('<3q', os.pread(memory, 24, self.page + 3072))
@@ -468,7 +357,7 @@ class Tracer:
             times = 1 << 62 if self.heap.times is None else self.heap.times
             self.counted = asked, min(times - given, times)
 
-    def call(self, pid):
+    def call(self, pid: Any) -> bool:
         registers = self.registers(pid)
         told = self.on_call(Call(pid, registers))
         if told is None:
@@ -483,7 +372,7 @@ class Tracer:
         self.set_registers(pid, registers)
         return True
 
-    def follow(self):
+    def follow(self) -> int:
         """The status with which the program ends."""
         begun = set()
         while True:
@@ -516,7 +405,9 @@ class Tracer:
                 pass
 
 
-def _become(words, names, streams, env):
+def _become(
+    words: Sequence[str], names: Collection[str], streams: Iterable[int], env: dict[str, str]
+) -> None:
     os.setpgid(0, 0)
     for number, stream in enumerate(streams):
         os.dup2(stream, number)
@@ -529,10 +420,28 @@ def _become(words, names, streams, env):
     os.kill(os.getpid(), signal.SIGSTOP)
     if LIBC.prctl(38, 1, 0, 0, 0) or LIBC.prctl(22, 2, ctypes.addressof(program), 0, 0):
         os._exit(126)
-    os.execve(words[0], words, env)
+    os.execve(words[0], list(words), env)
 
 
-def run(words, names=(), on_call=None, stdin=b'', heap=None, beside=None, limit=600):
+def _begin(
+    words: Sequence[str], names: Collection[str], files: list[int], env: dict[str, str]
+) -> NoReturn:
+    """The new process becomes the program; it ends where it can't."""
+    try:
+        _become(words, names, files, env)
+    finally:
+        os._exit(127)
+
+
+def run(
+    words: Sequence[str],
+    names: Collection[str] = (),
+    on_call: OnCall | None = None,
+    stdin: bytes = b'',
+    heap: Heap | Clock | None = None,
+    beside: Callable[[Process], None] | None = None,
+    limit: float = 600,
+) -> Ended:
     """Runs these words, and tells `on_call` of each call of these names that the program is about
     to make. `beside` runs next to it in a thread of its own. A program that takes longer than
     `limit` seconds is ended, and that is an error.
@@ -541,15 +450,10 @@ def run(words, names=(), on_call=None, stdin=b'', heap=None, beside=None, limit=
     os.write(files[0], stdin)
     os.lseek(files[0], 0, os.SEEK_SET)
     env = {**os.environ, 'LD_BIND_NOW': '1'}
-    pid = os.fork()
-    if not pid:
-        try:
-            _become(words, names, files, env)
-        finally:
-            os._exit(127)
+    pid = os.fork() or _begin(words, names, files, env)
     process = Process(pid, files[1])
 
-    def watch(process):
+    def watch(process: Process) -> None:
         if not process.ended.wait(limit):
             raise TimeoutError(f'the program took longer than {limit:g} s')
 
@@ -559,7 +463,7 @@ def run(words, names=(), on_call=None, stdin=b'', heap=None, beside=None, limit=
             raise OSError(errno.EPERM, 'a program can not be traced here')
         ptrace(SETOPTIONS, pid, 0, OPTIONS)
         tracer = Tracer(pid, on_call, heap)
-        aside = [Beside(work, process) for work in (watch, beside) if work]
+        aside = [Beside(work, process) for work in (watch, beside) if work is not None]
         try:
             ptrace(CONT, pid)
             status = tracer.follow()
@@ -579,7 +483,7 @@ def run(words, names=(), on_call=None, stdin=b'', heap=None, beside=None, limit=
             os.close(file)
 
 
-def lacks():
+def lacks() -> str | None:
     """Why programs can't be traced here; None where they can."""
     if (
         sys.platform != 'linux'

@@ -24,6 +24,7 @@ class Traffic:
         self.turned_down = collections.Counter()  # how often in a row it was
         self.waiting, self.old = [], {}
         self.here, self.recent = {}, []  # the loads that have not left, and the last that came
+        self.jobs = []  # the last that were added
 
     def name(self, front):
         self.number += 1
@@ -184,7 +185,7 @@ class Traffic:
             )
         if self.happens():
             k, update = chance.randint(0, len(vehicle.edges)), chance.randint(0, vehicle.sent + 1)
-        if self.happens(0.01):
+        if acts and self.happens(0.01):
             acts[chance.randrange(len(acts))] = chance.choice(('WAITING', 'FINISHED'))
         return k, update, acts
 
@@ -248,6 +249,8 @@ class Traffic:
         stuck = 0.8 if vehicle.rest or loads == vehicle.capacity else 0.3 if loads else 0.002
         if self.happens(stuck):
             return self.help(serial)
+        if self.happens(0.3 if is_in_the_way else 0.05):
+            return self.lead_away(serial)
         if is_in_the_way or vehicle.node not in self.bays or not self.crowded():
             return self.order(serial)
         return self.store() if self.happens(0.1) else self.fetch(serial)
@@ -317,6 +320,20 @@ class Traffic:
         elif answer[0] == 200:
             self.turned_down[serial] = 0
             self.waits.pop(serial, None)
+        return call, answer
+
+    def lead_away(self, serial):
+        """A drive without a load, mostly to a free bay."""
+        chance, streets = self.chance, self.streets
+        free = [node for node in streets.bays if self.sight.holder('node', node) is None]
+        node = self.pick(free if free and self.happens(0.8) else streets.nodes)
+        order = self.name('D')
+        if self.happens():
+            order = self.old.get('order', order)
+        edges = chance.randint(0, 3) if not self.turned_down[serial] else 0
+        call, answer = self.noted(serial, calls.drive(order, node, edges, serial))
+        if answer[0] == 200:
+            self.old['order'] = order
         return call, answer
 
     def look_for_jobs(self):
@@ -427,7 +444,9 @@ class Traffic:
             return self.ask(chance.choice(sight.serials))
         job, load, to = self.name('J'), self.pick(there, self.pick(self.recent)), self.pick(roomy)
         call, answer = self.asked(calls.job(job, load, to))
-        self.waiting += [job] if answer == DONE else []
+        if answer == DONE:
+            self.waiting += [job]
+            self.jobs = self.jobs[-100:] + [job]
         return call, answer
 
     def come(self, load, station):
@@ -462,8 +481,10 @@ class Traffic:
             return self.fetch(serial)
         if turn < 0.7:
             return self.asked(calls.get_vehicle(self.pick([serial])))
-        if turn < 0.88:
+        if turn < 0.84:
             return self.asked(calls.get_load(self.pick(self.recent)))
+        if turn < 0.88:
+            return self.asked(calls.get_job(self.pick(self.jobs)))
         if turn < 0.92:
             return self.asked(calls.HOLD_REPORT)
         if turn < 0.97:

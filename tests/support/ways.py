@@ -1,12 +1,14 @@
 """Random ways of vehicles over small layouts."""
 import collections
 import os
+import random
+from typing import Any
 
 PLENTY = 10**9
 CASES = int(os.environ.get('LOOKS', '3000'))
 
 
-def both_ways(pairs):
+def both_ways(pairs: Any) -> Any:
     found = collections.defaultdict(set)
     for a, b in pairs:
         found[a].add(b)
@@ -14,7 +16,7 @@ def both_ways(pairs):
     return found
 
 
-def random_layout(chance):
+def random_layout(chance: random.Random) -> Any:
     """From each node the nodes to which an edge leads: a one-way ring with bays, a single track
     with passing places, or any graph."""
     found = collections.defaultdict(set)
@@ -44,8 +46,9 @@ def random_layout(chance):
     return {node: sorted(after) for node, after in found.items()}
 
 
-def shortest(layout, start, target):
-    before, row = {start: None}, collections.deque([start])
+def shortest(layout: Any, start: str, target: str) -> Any:
+    before: dict[str, Any] = {start: None}
+    row = collections.deque([start])
     while row:
         at = row.popleft()
         if at == target:
@@ -60,7 +63,7 @@ def shortest(layout, start, target):
     return None
 
 
-def random_case(chance):
+def random_case(chance: random.Random) -> tuple[Any, Any]:
     """Ways of two to four vehicles over one or two stops, and perhaps a wall."""
     layout = random_layout(chance)
     nodes = sorted(set(layout) | {b for after in layout.values() for b in after})

@@ -10,6 +10,7 @@ import subprocess
 import sys
 import tempfile
 import unittest
+from typing import Any
 
 from tests.support.programs import TOOLS
 from tests.support.records import FOLDER
@@ -23,19 +24,24 @@ ME = User.of_this_program()
 OTHER = 'nobody'
 
 
-def told(path, port=None, user=ME):
+def told(path: str, port: int | None = None, user: Any = ME) -> Any:
     return reasons.look(path, port, user, 10**9)
 
 
 class WhyTest(unittest.TestCase):
     """Each test has a folder of its own, in which a file with a row of each kind may be made."""
 
+    above: tempfile.TemporaryDirectory[str]
+    filled: str
+    log: str
+    script = FILLED
+
     @classmethod
-    def setUpClass(cls):
+    def setUpClass(cls) -> None:
         cls.above = tempfile.TemporaryDirectory(dir=FOLDER)
         os.chmod(cls.above.name, 0o755)
         cls.filled = os.path.join(cls.above.name, 'filled.db')
-        status, _, said = run('replay', '--db', cls.filled, '--at', AT, stdin=asked(FILLED))
+        status, _, said = run('replay', '--db', cls.filled, '--at', AT, stdin=asked(cls.script))
         assert (status, said) == (0, b''), said
         cls.log = cls.filled + '-wal'
         shutil.copyfile(cls.filled, cls.filled + '.before')
@@ -44,15 +50,15 @@ class WhyTest(unittest.TestCase):
             base.execute('PRAGMA wal_checkpoint(TRUNCATE)')
 
     @classmethod
-    def tearDownClass(cls):
+    def tearDownClass(cls) -> None:
         cls.above.cleanup()
 
-    def setUp(self):
+    def setUp(self) -> None:
         self.folder = tempfile.mkdtemp(dir=self.above.name)
         os.chmod(self.folder, 0o755)
         self.db = os.path.join(self.folder, 'warehouse.db')
 
-    def fill(self, *statements, log=False):
+    def fill(self, *statements: Any, log: bool = False) -> None:
         """The file with a row of each kind, as it is left when the desk is stopped, and what is
         written into it then."""
         for end in ('', '-wal', '-shm'):
@@ -64,12 +70,12 @@ class WhyTest(unittest.TestCase):
         if statements:
             self.write(*statements)
 
-    def write(self, *statements):
+    def write(self, *statements: str) -> None:
         with contextlib.closing(sqlite3.connect(self.db)) as base:
             for statement in statements:
                 base.executescript(statement)
 
-    def state(self):
+    def state(self) -> Any:
         """All that lies in the folder: names, bytes, rights and times of the last change."""
         found = {}
         for at, _, names in os.walk(self.folder):
@@ -80,7 +86,7 @@ class WhyTest(unittest.TestCase):
                     found[path] = file.read(), status.st_mode, status.st_uid, status.st_mtime_ns
         return found
 
-    def look(self, *words, user=None, expected=1):
+    def look(self, *words: str, user: str | None = None, expected: int = 1) -> Any:
         """What `tools/why` says of the file, which stays as it is, as does all beside it."""
         before = self.state()
         line = [python_of(user), os.path.join(TOOLS, 'why'), '--db', self.db, *words]
@@ -89,7 +95,9 @@ class WhyTest(unittest.TestCase):
         self.assertEqual(self.state(), before)
         return done.stdout
 
-    def check_fault(self, fault, *parts, words=(), user=None, port='0'):
+    def check_fault(
+        self, fault: str, *parts: Any, words: Any = (), user: str | None = None, port: str = '0'
+    ) -> None:
         """The program ends with this fault, and `tools/why` tells each of these parts."""
         line = [DESK, 'serve', '--db', self.db, '--port', port, '--connections', '0']
         done = subprocess.run(line, capture_output=True, text=True, timeout=600, **as_user(user))
@@ -99,7 +107,7 @@ class WhyTest(unittest.TestCase):
             self.assertIn(part, said)
 
 
-def as_user(name):
+def as_user(name: Any) -> Any:
     if name is None:
         return {}
     found = pwd.getpwnam(name)
@@ -107,7 +115,7 @@ def as_user(name):
 
 
 @functools.lru_cache(None)
-def python_of(user):
+def python_of(user: Any) -> Any:
     """A Python that the user may run."""
     for python in (sys.executable, '/usr/bin/python3'):
         with contextlib.suppress(OSError):
@@ -116,6 +124,6 @@ def python_of(user):
     raise unittest.SkipTest(f'the user {user} may run no Python here')
 
 
-def another_user():
+def another_user() -> Any:
     """Somebody whose rights can be taken away: root may do all."""
     return OTHER if os.geteuid() == 0 else None

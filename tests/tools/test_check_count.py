@@ -6,10 +6,10 @@ import os
 import random
 import tempfile
 import unittest
+from typing import Any
 
 from tests.support import programs
 from nulvrader.common.counts import CountFile
-from nulvrader.common.tables import Fault
 from tests.support.programs import ran, within
 from tests.support.desks import AT, Serving, over_sockets, run
 from tests.support.calls import state
@@ -106,7 +106,7 @@ RECORDS = [
 ]
 
 # Rows over these records: what a desk answers, the lines of faults, and what else is told.
-OVER = {
+OVER: dict[str, tuple[str | None, list[str], list[str]]] = {
     'A,L1\n': (None, [], []),
     'C,L2\nC,L3\nB,\n': (None, [], []),
     'C,L3\nC,L4\n': (
@@ -175,14 +175,16 @@ OVER = {
 class Alone(unittest.TestCase):
     """Files by themselves."""
 
-    def test_each_fault(self):
+    def test_each_fault(self) -> None:
         for data, fault in FAULTS.items():
             with self.subTest(data[:60]):
                 count = CountFile(data)
-                self.assertEqual(count.faults[:1], [Fault(*fault)])
-                self.assertEqual(count.answer(), fault[1])
+                line, refusal, rule = fault
+                told = f'line {line}: {refusal}: {rule}' if line else f'{refusal}: {rule}'
+                self.assertEqual(str(count.faults[0]), told)
+                self.assertEqual((count.faults[0].line, count.answer()), (line, refusal))
 
-    def test_line_ends(self):
+    def test_line_ends(self) -> None:
         """LF, CR LF and CR are taken, and the numbers of lines are those of an editor."""
         for end in ('\n', '\r\n', '\r'):
             count = CountFile('\ufeffstation,load{0}{0}A,L1{0}B,'.format(end).encode())
@@ -192,7 +194,7 @@ class Alone(unittest.TestCase):
                 [(3, 'A', 'L1'), (4, 'B', None)],
             )
 
-    def test_what_it_prints(self):
+    def test_what_it_prints(self) -> None:
         with tempfile.TemporaryDirectory() as folder:
             path = os.path.join(folder, 'count.csv')
             for text, status, wanted in (
@@ -227,7 +229,7 @@ class Alone(unittest.TestCase):
 class OverRecords(unittest.TestCase):
     """What the records of a desk say to a file, and what the desk answers to it."""
 
-    def setUp(self):
+    def setUp(self) -> None:
         folder = tempfile.TemporaryDirectory()
         self.addCleanup(folder.cleanup)
         self.db, self.path = os.path.join(folder.name, 'desk.db'), os.path.join(
@@ -238,14 +240,14 @@ class OverRecords(unittest.TestCase):
         )
         self.assertEqual((status, said, out.count(b'HTTP/1.1 200 OK')), (0, b'', len(RECORDS)))
 
-    def told(self, rows, *words):
+    def told(self, rows: Any, *words: str) -> tuple[Any, Any]:
         with open(self.path, 'w') as file:
             file.write(HEAD + rows)
         ends, out, said = within(check_count, self.path, *words)
         self.assertEqual(said, '')
         return ends, out.splitlines()
 
-    def check(self, *words):
+    def check(self, *words: str) -> None:
         for rows, (answer, faults, more) in OVER.items():
             with self.subTest(rows):
                 ends, lines = self.told(rows, *words)
@@ -256,11 +258,11 @@ class OverRecords(unittest.TestCase):
                     )
                 )
 
-    def test_of_a_file(self):
+    def test_of_a_file(self) -> None:
         self.check('--db', self.db)
 
     @over_sockets
-    def test_of_a_desk(self):
+    def test_of_a_desk(self) -> None:
         """Asked of a running desk, it tells the same; and what it says of a file that is refused
         the desk answers."""
         with Serving(self.db) as desk:
@@ -274,7 +276,33 @@ class OverRecords(unittest.TestCase):
                         (status != 200, json.loads(body)['name']), (True, answer), rows
                     )
 
-    def test_moves(self):
+    def test_what_a_page_is_told(self) -> None:
+        """A fault in words for who has no command line: without a program, and without the name of
+        the refusal."""
+        records = check_count.of_file(self.db)
+        for rows, wanted in (
+            (
+                'C,L5\n',
+                'Line 2: load L5 is recorded on vehicle KIT/0001: once it has no live job, correct'
+                ' its place.',
+            ),
+            (
+                'A,\n',
+                'Line 2: load L1 was not found at station A, and would move, but has the live job'
+                ' J1: stop it while it waits.',
+            ),
+            ('A;L1\n', 'Line 2: 1 field, and not the two of station,load: write A,L1.'),
+        ):
+            count = CountFile((HEAD + rows).encode())
+            count.check(records)
+            self.assertEqual([fault.on_page() for fault in count.faults], [wanted])
+        for data in [*FAULTS, *((HEAD + rows).encode() for rows in OVER)]:
+            count = CountFile(data)
+            count.check(records)
+            for fault in count.faults:
+                self.assertNotRegex(fault.on_page(), '`|tools/|: [A-Z][a-z]+[A-Z]\\w*:')
+
+    def test_moves(self) -> None:
         """As many moves and unknown names as a desk tells."""
         for number, (rows, (answer, _, more)) in enumerate(OVER.items()):
             if answer is None:
@@ -290,16 +318,16 @@ class OverRecords(unittest.TestCase):
                     (told['moved'], len(told['unknown'])), (moves, len(more) - moves), rows
                 )
 
-    def test_files_at_random(self):
+    def test_files_at_random(self) -> None:
         """What the check says of random rows is what a desk answers, each over the same records."""
         chance, files = random.Random(1), []
         for _ in range(150):
-            rows = [
+            lines = [
                 f'{chance.choice("AABCCZ")},'
                 f'{chance.choice(["", "L1", "L2", "L3", "L4", "L5", "L6", "L9", "L 1"])}\n'
                 for _ in range(chance.randrange(1, 5))
             ]
-            files.append(''.join(rows))
+            files.append(''.join(lines))
         refused = set()
         records = check_count.of_file(self.db)
         stdin, wanted = b''.join(map(bytes_of, RECORDS)), []

@@ -6,6 +6,7 @@ import os
 import random
 import tempfile
 import unittest
+from typing import Any
 
 from tests.support import calls
 from nulvrader.common.layouts import LayoutFile
@@ -23,7 +24,7 @@ FIRST = 'the first line has to be kind,id,from,to, and is '
 NO_NAME = ', and no name: 1 to 32 of A-Z a-z 0-9 _ . : -'
 
 
-def lines(row, count):
+def lines(row: Any, count: int) -> str:
     """So many rows, each with its number."""
     return ''.join(row % number + '\n' for number in range(count))
 
@@ -89,7 +90,7 @@ FAULTS = {
 }
 
 
-def largest(size):
+def largest(size: int) -> str:
     """The most nodes, edges and stations that there may be, all with names of so many bytes: a
     ring, with two edges more from each node."""
     name = f'%s%0{size - 1}d'
@@ -122,20 +123,20 @@ TAKEN = [
 BYTES = [b'', b'"', b'""', b',', b'\n', b'\r', b'\r\n', b' ', b'0', b'N', b'1', b'\xff', b'\0']
 
 
-def name_of(body):
+def name_of(body: Any) -> Any:
     """The name of a refusal, or none."""
     return None if body in ('{}', b'{}') else json.loads(body)['name']
 
 
 class CheckLayout(unittest.TestCase):
-    def test_each_fault(self):
+    def test_each_fault(self) -> None:
         for text, (line, refusal, rule) in FAULTS.items():
             with self.subTest(text[:80]):
                 layout = LayoutFile(text.encode())
                 self.assertEqual(layout.faults, [Fault(line, refusal, rule)])
                 self.assertEqual(layout.answer(), refusal)
 
-    def test_files_that_are_taken(self):
+    def test_files_that_are_taken(self) -> None:
         for text in TAKEN:
             with self.subTest(text[:80]):
                 layout = LayoutFile(text.encode())
@@ -145,7 +146,7 @@ class CheckLayout(unittest.TestCase):
         self.assertEqual(LayoutFile(largest(7).encode()).size, 65015)
         self.assertEqual(LayoutFile(largest(8).encode()).answer(), 'TooLarge')
 
-    def test_several_faults(self):
+    def test_several_faults(self) -> None:
         """In the order of the lines, with those of the whole file first; the answer is the first
         that a desk looks for. A row of a name that is taken, or that has another fault, still says
         that there is such a node.
@@ -157,13 +158,13 @@ class CheckLayout(unittest.TestCase):
         many = LayoutFile((TWO + 'edge,E,N1,N3\n' * 1501).encode())
         self.assertEqual((many.faults[0].refusal, many.answer()), ('Limit', 'Limit'))
 
-    def test_bytes_that_are_no_text(self):
+    def test_bytes_that_are_no_text(self) -> None:
         layout = LayoutFile(TWO.encode() + b'node,N\xff,,\n')
         self.assertEqual(
             layout.faults, [Fault(4, 'BadCsv', "the name of the node is 'N\\xff'" + NO_NAME)]
         )
 
-    def test_stations_that_no_walk_reaches(self):
+    def test_stations_that_no_walk_reaches(self) -> None:
         text = TWO + (
             'node,N3,,\nedge,E1,N1,N2\nstation,A,N1,1\nstation,B,N2,1\nstation,B2,N2,1\n'
             'station,C,N3,1\n'
@@ -189,7 +190,7 @@ class CheckLayout(unittest.TestCase):
             LayoutFile(alone.encode()).lacking_walks(),
         )
 
-    def test_what_it_prints(self):
+    def test_what_it_prints(self) -> None:
         one_way = TWO + 'edge,E1,N1,N2\nstation,A,N1,1\nstation,B,N2,1\n'
         walks = (
             'line 5: station A: no walk leads to it from B\nline 6: station B: no walk leads from'
@@ -234,26 +235,27 @@ class CheckLayout(unittest.TestCase):
 class OverADesk(unittest.TestCase):
     """What a desk answers to the files, each in memory."""
 
-    def answers(self, *files):
+    def answers(self, *files: Any) -> list[Any]:
         """The answers to these bodies, in one stream."""
         stdin = b''.join(calls.layout(data).to_bytes() for data in files)
         status, out, said = run('replay', '--db', 'memory', '--at', AT, stdin=stdin)
         self.assertEqual((status, said), (0, b''))
         return [name_of(body) for _, body in answers_of(out)]
 
-    def test_files_that_are_taken(self):
+    def test_files_that_are_taken(self) -> None:
         for text in TAKEN:
             self.assertEqual(self.answers(text.encode()), [None], text[:80])
 
-    def test_files_that_are_refused(self):
+    def test_files_that_are_refused(self) -> None:
         for text, (_, refusal, _) in [*FAULTS.items(), (largest(8), (None, 'TooLarge', ''))]:
             self.assertEqual(self.answers(text.encode()), [refusal], text[:80])
 
-    def test_files_at_random(self):
+    def test_files_at_random(self) -> None:
         """The layout of the examples with a few bytes changed. What is refused changes nothing, so
         such files go through one stream; what is taken goes alone."""
         chance = random.Random(1)
-        refused, taken = [], []
+        refused: list[Any] = []
+        taken: list[Any] = []
         for _ in range(FILES):
             data = bytearray(chance.choice(TAKEN[:8]).encode())
             for _ in range(chance.choice((1, 1, 1, 2, 3))):

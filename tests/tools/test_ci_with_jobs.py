@@ -230,7 +230,12 @@ class Kits(unittest.TestCase):
         )
 
     def test_others_run_as_they_are(self) -> None:
-        for kit, more in (('rattle-kit-13b', {}), ('another', {}), (CI.KIT, {'RT_JOBS': '2'})):
+        kits: tuple[tuple[str, dict[str, str]], ...] = (
+            ('rattle-kit-13b', {}),
+            ('another', {}),
+            (CI.KIT, {'RT_JOBS': '2'}),
+        )
+        for kit, more in kits:
             self.assertEqual(self.run_with(kit, **more), (0, "as it is: ['ci']\n"))
             self.assertEqual(
                 self.run_with(kit, 'agv_a', **more), (0, "as it is: ['ci', 'agv_a']\n")

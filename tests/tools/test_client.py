@@ -1,6 +1,7 @@
 """`tools/nulvrader`: the client over the program, by each of its calls; refusals and lost answers;
 what it reads of reports, layouts and messages; and the questions that need several calls."""
 import http.client
+import json
 import os
 import re
 import socket
@@ -9,11 +10,12 @@ import threading
 import time
 import unittest
 from unittest import mock
+from typing import Any
 
 from tests.support import programs
 from nulvrader.common import layouts, names
-from nulvrader.desk import client, exports, questions, refusals, reports, wire
-from tests.support.programs import PATIENCE
+from nulvrader.desk import client, exports, messages, questions, refusals, reports, wire
+from tests.support.programs import PATIENCE, matched
 from tests.support.states import KIT1, KIT2, told
 from tests.support.desks import Serving, over_sockets
 from tests.support.scripts import LAYOUT
@@ -22,9 +24,10 @@ from tests.support.scripts import LAYOUT
 class WithADesk(unittest.TestCase):
     """A desk with the layout, KIT/0001 at N1 and L1 at A, whose jobs and orders each test makes."""
 
-    layout, capacity = LAYOUT, None
+    layout: str = LAYOUT
+    capacity: int | None = None
 
-    def setUp(self):
+    def setUp(self) -> None:
         folder = tempfile.TemporaryDirectory()
         self.addCleanup(folder.cleanup)
         serving = Serving(os.path.join(folder.name, 'desk.db'))
@@ -37,12 +40,12 @@ class WithADesk(unittest.TestCase):
 
 @over_sockets
 class OverADesk(WithADesk):
-    def refused(self, call, *words, **named):
+    def refused(self, call: Any, *words: Any, **named: Any) -> Any:
         with self.assertRaises(client.Refused) as caught:
             call(*words, **named)
         return caught.exception
 
-    def test_each_call(self):
+    def test_each_call(self) -> None:
         """A transport of L1 from A to B, with every call of the client."""
         desk = self.desk
         self.assertTrue(desk.post_state(KIT1, told(1)))
@@ -59,6 +62,7 @@ class OverADesk(WithADesk):
         self.assertIsNone(desk.order_message(KIT1))
         self.assertEqual(desk.start_order('O1', KIT1, job='J1', edges=1), 0)
         message = desk.order_message(KIT1)
+        assert message
         self.assertEqual([node['nodeId'] for node in message['nodes']], ['N1', 'N2', 'N3'])
         desk.post_state(KIT1, told(2, 'O1', statuses=[('O1.0', 'FINISHED')]))
         self.assertEqual(desk.load('L1').place, 'vehicle KIT/0001')
@@ -73,11 +77,18 @@ class OverADesk(WithADesk):
         self.assertEqual(desk.load('L1'), client.Load('L1', 'station B', None))
         self.assertIsNone(desk.instant_actions(KIT1))
         self.assertEqual(desk.pause(KIT1), 'instant-1')
-        self.assertEqual(desk.instant_actions(KIT1)['actions'][0]['actionType'], 'startPause')
+        actions = desk.instant_actions(KIT1)
+        assert actions
+        self.assertEqual(actions['actions'][0]['actionType'], 'startPause')
         desk.post_state(
             KIT1, told(4, 'O1', 1, 'N3', 4, [*both, ('instant-1', 'FINISHED')], paused=True)
         )
         self.assertEqual(desk.resume(KIT1), 'instant-2')
+        self.check_the_rest(desk)
+
+    def check_the_rest(self, desk: client.Desk) -> None:
+        """An order over stops that is cancelled, a vehicle that is placed, and what is told of all
+        loads."""
         desk.place(KIT1, 'R3', 'N2')
         desk.add_job('J2', 'L1', 'A')
         stops = [client.Stop('pick', 'J2'), client.Stop('drop', 'J2')]
@@ -96,7 +107,76 @@ class OverADesk(WithADesk):
         holds = reports.read_holds(desk.hold_report())
         self.assertEqual((holds.nodes, holds.edges, holds.things), ({'N2': KIT1}, {}, 7))
 
-    def test_a_refusal(self):
+    def test_a_drive(self) -> None:
+        """KIT/0001 has L1 from an order that was cancelled, and drives to N3 with it."""
+        desk = self.desk
+        desk.post_state(KIT1, told(1))
+        desk.add_job('J1', 'L1', 'B')
+        desk.start_order('O1', KIT1, job='J1', edges=0)
+        riding = client.JobPhase('J1', 'L1', 'A', 'B', 'riding', KIT1, 'O1')
+        self.assertEqual(desk.job('J1'), riding)
+        desk.cancel(KIT1)
+        over = [('O1.0', 'FINISHED'), ('O1.1', 'FAILED'), ('instant-1', 'FINISHED')]
+        desk.post_state(KIT1, told(2, 'O1', statuses=over))
+        self.assertEqual(desk.job('J1'), client.JobPhase('J1', 'L1', 'A', 'B', 'stopped'))
+        self.assertEqual(desk.start_drive('G1', KIT1, 'N3', 1), 0)
+        message = desk.order_message(KIT1)
+        assert message is not None
+        drive = messages.read_order(message)
+        self.assertEqual((drive.is_drive(), drive.acts(), drive.base_end()), (True, [], 'N2'))
+        (row,) = questions.orders(desk)
+        self.assertEqual(
+            (row.order, row.released_to, row.edges_left, row.acts), ('G1', 'N2', 1, ())
+        )
+        desk.register_vehicle(KIT2, 'N3')
+        wait = questions.BlockedOrder(KIT1, 'G1', 'N2', 'node N3', KIT2, False)
+        self.assertEqual(questions.who_waits(desk), [wait])
+        self.assertEqual(self.refused(desk.advance, KIT1, 'G1', 1, 1).name, 'NotConfirmed')
+        desk.post_state(KIT1, told(3, 'G1', 0, 'N2', 2))
+        desk.place(KIT2, 'R1', 'N1')
+        self.assertEqual(desk.advance(KIT1, 'G1', 1, 1), 1)
+        (row,) = questions.orders(desk)
+        self.assertEqual((row.released_to, row.edges_left, row.acts), ('N3', 0, ()))
+        desk.post_state(KIT1, told(4, 'G1', 1, 'N3', 4))
+        vehicle = desk.vehicle(KIT1)
+        self.assertEqual((vehicle.node, vehicle.order, desk.jobs()), ('N3', None, {}))
+        self.assertEqual(desk.load('L1').place, 'vehicle KIT/0001')
+
+    def test_what_is_refused_of_a_drive(self) -> None:
+        desk = self.desk
+
+        def check(
+            name: str, order: str = 'G9', vehicle: Any = KIT1, to: str = 'N3', edges: int = 1
+        ) -> None:
+            self.assertEqual(self.refused(desk.start_drive, order, vehicle, to, edges).name, name)
+
+        check('NotReady')
+        desk.post_state(KIT1, told(1, 'O7'))
+        check('NoVehicle', vehicle=KIT2)
+        check('NoNode', to='N9')
+        check('OrderKnown', order='O7')
+        check('NoWalk', to='N1')
+        check('Beyond', edges=3)
+        desk.register_vehicle(KIT2, 'N2')
+        check('Held')
+        desk.start_drive('G1', KIT1, 'N2', 0)
+        check('Exists', order='G1')
+        check('Busy')
+        desk.cancel(KIT1)
+        desk.place(KIT2, 'R1', 'N3')
+        desk.post_state(KIT1, told(2, 'G1', statuses=[('instant-1', 'FINISHED')]))
+        desk.start_drive('G2', KIT1, 'N2', 1)
+        desk.cancel(KIT1)
+        desk.post_state(KIT1, told(3, 'G2', statuses=[('instant-2', 'FINISHED')]))
+        check('Astray')
+        self.assertEqual(self.refused(desk.job, 'J9').name, 'NoJob')
+        for order, to, edges in (('D 1', 'N3', 1), ('G1', 'N/3', 1), ('G1', 'N3', -1)):
+            with self.assertRaises(client.BadValue):
+                desk.start_drive(order, KIT1, to, edges)
+        with self.assertRaises(client.BadValue):
+            desk.job('')
+
+    def test_a_refusal(self) -> None:
         fault = self.refused(self.desk.register_load, 'L1')
         self.assertEqual(
             (fault.name, fault.number, fault.status, str(fault)),
@@ -108,7 +188,7 @@ class OverADesk(WithADesk):
         )
         self.assertIn('Wait until', fault.advice)
 
-    def test_one_connection_kept(self):
+    def test_one_connection_kept(self) -> None:
         """A desk that serves one connection and no more is asked three times."""
         with tempfile.TemporaryDirectory() as folder:
             with Serving(os.path.join(folder, 'one.db'), connections=1) as serving:
@@ -123,7 +203,7 @@ class OverADesk(WithADesk):
         self.assertRegex(str(caught.exception), '^http://127.0.0.1:.*no program listens there')
         self.assertFalse(caught.exception.may_be_done)
 
-    def test_questions(self):
+    def test_questions(self) -> None:
         """L1 goes to B by KIT/0001, before which KIT/0002 stands."""
         desk = self.desk
         desk.register_vehicle(KIT2, 'N3')
@@ -138,10 +218,11 @@ class OverADesk(WithADesk):
             [('pick', 'L1', 'A'), ('drop', 'L1', 'B')],
         )
         self.assertEqual(
-            questions.who_waits(desk), [questions.Wait(KIT1, 'O1', 'N2', 'node N3', KIT2, False)]
+            questions.who_waits(desk),
+            [questions.BlockedOrder(KIT1, 'O1', 'N2', 'node N3', KIT2, False)],
         )
 
-    def test_two_that_wait_for_one_another(self):
+    def test_two_that_wait_for_one_another(self) -> None:
         desk = self.desk
         desk.register_vehicle(KIT2, 'N3')
         desk.register_load('L2', 'C')
@@ -163,7 +244,7 @@ class OverADesk(WithADesk):
 class FarBehind(WithADesk):
     layout, capacity = LAYOUT.replace(',1\n', ',3\n'), 2
 
-    def test_a_job_of_which_the_message_no_longer_tells(self):
+    def test_a_job_of_which_the_message_no_longer_tells(self) -> None:
         """KIT/0001 is to carry L1 to B and then L2 to A. All is released to it in three parts while
         it stands at N1, so that the last message has the last act alone. Both jobs ride all the
         same."""
@@ -195,7 +276,7 @@ class FarBehind(WithADesk):
 
 @over_sockets
 class NoLayout(unittest.TestCase):
-    def test_a_desk_without_a_layout(self):
+    def test_a_desk_without_a_layout(self) -> None:
         with tempfile.TemporaryDirectory() as folder, Serving(
             os.path.join(folder, 'new.db')
         ) as serving:
@@ -203,17 +284,54 @@ class NoLayout(unittest.TestCase):
             self.assertEqual((desk.layout(), desk.vehicles(), desk.jobs()), (None, {}, {}))
 
 
+class NoPhase(unittest.TestCase):
+    """What no desk answers to the question for a job."""
+
+    RIDES = {
+        'from': 'A', 'job': 'J1', 'load': 'L1', 'order': 'O1', 'phase': 'riding', 'to': 'B',
+        'vehicle': 'KIT/0001',
+    }  # fmt: skip
+
+    def job(self, **members: object) -> client.JobPhase:
+        answer = client.Answer(200, json.dumps({**self.RIDES, **members}).encode())
+        with mock.patch.object(client.Desk, 'ask', lambda *_: answer):
+            return client.Desk('127.0.0.1:1').job('J1')
+
+    def test_answers(self) -> None:
+        self.assertEqual(self.job(), client.JobPhase('J1', 'L1', 'A', 'B', 'riding', KIT1, 'O1'))
+        for member, values in (
+            ('job', ('J2', None, 1)),
+            ('load', (None, 'L 1')),
+            ('from', (None, '')),
+            ('to', (3, ['B'])),
+            ('phase', ('over', 'Riding', None, ['riding'], {})),
+            ('order', ('', 1, {})),
+            ('vehicle', ('KIT', 'KIT/', '/0001', 'KIT/0001/1', 1, ['KIT/0001'])),
+        ):
+            for value in values:
+                with self.subTest(f'{member} {value!r}'), self.assertRaises(client.NotADesk):
+                    self.job(**{member: value})
+        for phase in ('riding', 'waiting', 'done', 'stopped'):
+            for order, vehicle in ((None, None), ('O1', None), (None, 'KIT/0001'), ('O1', 'K/1')):
+                rides = order is not None and vehicle is not None
+                if rides == (phase == 'riding') and (order is None) == (vehicle is None):
+                    continue
+                with self.subTest(f'{phase} {order} {vehicle}'):
+                    with self.assertRaises(client.NotADesk):
+                        self.job(phase=phase, order=order, vehicle=vehicle)
+
+
 class NoDesk(unittest.TestCase):
     """What answers is no desk, or answers too late, or is cut."""
 
-    def answered(self, data, by_head=False, **named):
+    def answered(self, data: Any, by_head: bool = False, **named: Any) -> Any:
         """What the client says where a server sends these bytes and closes the connection; with
         none, it waits for the client to close it. The request is read to its end, since a
         connection that is closed with bytes unread is reset; or to the end of its head."""
         listener = socket.create_server(('127.0.0.1', 0))
         self.addCleanup(listener.close)
 
-        def serve():
+        def serve() -> None:
             connection, _ = listener.accept()
             with connection, connection.makefile('rb') as request:
                 length = 0
@@ -230,9 +348,8 @@ class NoDesk(unittest.TestCase):
 
         thread = threading.Thread(target=serve)
         thread.start()
-        desk = client.Desk(
-            f'127.0.0.1:{listener.getsockname()[1]}', **{'timeout': PATIENCE, **named}
-        )
+        settings: dict[str, Any] = {'timeout': PATIENCE, **named}
+        desk = client.Desk(f'127.0.0.1:{listener.getsockname()[1]}', **settings)
         try:
             desk.register_load('L1')
         except (client.NoAnswer, client.Refused) as fault:
@@ -240,7 +357,7 @@ class NoDesk(unittest.TestCase):
         finally:
             thread.join()
 
-    def test_bytes(self):
+    def test_bytes(self) -> None:
         for data, words, may_be_done in (
             (b'', 'closed before the answer arrived', True),
             (b'SSH-2.0\r\n', 'no desk: it answers SSH-2.0', True),
@@ -263,14 +380,14 @@ class NoDesk(unittest.TestCase):
                 self.assertIn(words, str(fault))
                 self.assertEqual(fault.may_be_done, may_be_done)
 
-    def test_silence(self):
+    def test_silence(self) -> None:
         self.assertIn('no whole answer came within 2 seconds', str(self.answered(None, timeout=2)))
 
-    def test_an_answer_while_the_body_is_sent(self):
+    def test_an_answer_while_the_body_is_sent(self) -> None:
         """It is told, though the connection is closed before all is sent."""
         send, sent = http.client.HTTPConnection.send, []
 
-        def cut(connection, data):
+        def cut(connection: Any, data: Any) -> None:
             sent.append(data)
             if len(sent) > 1:
                 raise BrokenPipeError
@@ -285,11 +402,11 @@ class NoDesk(unittest.TestCase):
             fault = self.answered(answer, by_head=True)
         self.assertEqual((len(sent), fault.name, fault.status), (2, 'TooLarge', 413))
 
-    def test_a_proxy_refuses(self):
+    def test_a_proxy_refuses(self) -> None:
         fault = self.answered(b'HTTP/1.1 401 Unauthorized\r\nContent-Length: 0\r\n\r\n')
         self.assertEqual((fault.name, fault.number, fault.status), ('Unauthorized', 0, 401))
 
-    def test_addresses(self):
+    def test_addresses(self) -> None:
         for text in (
             'ftp://desk',
             'desk:port',
@@ -313,7 +430,7 @@ class NoDesk(unittest.TestCase):
             at = wire.Place.parse(text)
             self.assertEqual((at.host, at.port, at.path, at.front, at.header()), wanted)
 
-    def test_all_requests_of_a_block(self):
+    def test_all_requests_of_a_block(self) -> None:
         """They have its time together, and each its own again behind it."""
         desk = client.Desk('127.0.0.1:1', timeout=PATIENCE)
         with desk.within(0.001):
@@ -325,7 +442,7 @@ class NoDesk(unittest.TestCase):
 
 
 class Readers(unittest.TestCase):
-    def test_ways(self):
+    def test_ways(self) -> None:
         """Of two ways of the same length that of the least name at the first node where they
         part."""
         rows = 'kind,id,from,to\n' + ''.join(f'node,{node},,\n' for node in 'ABCDE')
@@ -343,10 +460,10 @@ class Readers(unittest.TestCase):
             str(caught.exception), 'line 3: LayoutBad: edge E leads to N2, which is no node'
         )
 
-    def test_the_file_of_a_layout(self):
+    def test_the_file_of_a_layout(self) -> None:
         self.assertEqual(layouts.read_layout(LAYOUT.encode()).csv().decode(), LAYOUT)
 
-    def test_a_bad_report(self):
+    def test_a_bad_report(self) -> None:
         for read, text in (
             (reports.read_stock, b'station A: 1\n'),
             (reports.read_holds, b'zone N1 KIT/0001\n'),
@@ -358,7 +475,7 @@ class Readers(unittest.TestCase):
             with self.assertRaises(reports.BadReport):
                 read(text)
 
-    def test_names(self):
+    def test_names(self) -> None:
         self.assertEqual(str(names.VehicleKey.parse('KIT/0001')), 'KIT/0001')
         for text in ('KIT', 'KIT/', '/1', 'KIT/0001/2', 'K T/1', 'K/' + 33 * 'x'):
             with self.assertRaises(names.BadName, msg=text):
@@ -368,7 +485,7 @@ class Readers(unittest.TestCase):
 
 
 class Refusals(unittest.TestCase):
-    def test_they_are_those_of_the_page(self):
+    def test_they_are_those_of_the_page(self) -> None:
         """Numbers, names, statuses and sentences are those of the table of docs/HTTP.md."""
         with open(os.path.join(programs.ROOT, 'docs', 'HTTP.md')) as file:
             text = file.read()
@@ -381,11 +498,11 @@ class Refusals(unittest.TestCase):
         )
         self.assertGreater(len(table), 50)
 
-    def test_what_to_do(self):
+    def test_what_to_do(self) -> None:
         """docs/OPERATE.md has of each refusal what to do, in the same words; those of one item have
         the same."""
         with open(os.path.join(programs.ROOT, 'docs', 'OPERATE.md')) as file:
-            page = re.search(r'^## Refusals.*?^### ', file.read(), re.S | re.M).group(0)
+            page = matched(r'^## Refusals.*?^### ', file.read(), re.S | re.M)[0]
         found = {}
         for item in re.findall(
             r'^- (\*\*\w+\*\* \(.*?)(?=^$|^- )', re.sub('\n  ', ' ', page), re.S | re.M

@@ -9,7 +9,7 @@ import subprocess
 import unittest
 
 import nulvrader
-from tests.support.desk_tree import REPLAY, Tree
+from tests.support.desk_tree import PRINTED, REPLAY, Tree
 from tests.support.programs import ROOT
 
 PROGRAM = os.path.abspath(os.environ.get('DESK', os.path.join(ROOT, 'build', 'desk')))
@@ -48,6 +48,13 @@ class Built(Tree):
             shutil.rmtree(os.path.join(self.top, 'build'), ignore_errors=True)
         self.assertEqual(self.run_desk('-h'), self.run_desk('--help'))
         self.assertEqual(self.run_desk('help', 'serve'), self.run_desk('serve', '-h'))
+
+    def test_a_current_program_runs_by_a_shell_alone(self) -> None:
+        """Nothing that builds one is needed."""
+        for name in ('python3', 'rt', 'flock'):
+            os.remove(os.path.join(self.bin, name))
+        self.assertEqual(self.run_desk(*REPLAY), (3, PRINTED, ''))
+        self.assertEqual(self.run_desk('migrate', '--db', 'f')[0], 1)
 
     @unittest.skipUnless(os.path.exists(PROGRAM), 'there is no program')
     def test_help_is_the_programs_own(self) -> None:
@@ -323,29 +330,26 @@ class Arguments(Tree):
             self.assertRegex(self.run_desk(*words)[2], r'\Aerror: ')
         self.assertEqual((self.calls(), os.listdir(self.work)), ([], []))
 
+    def run_program(self, words: list[str]) -> subprocess.CompletedProcess[str]:
+        return subprocess.run(
+            [PROGRAM, *words],
+            capture_output=True,
+            text=True,
+            cwd=self.work,
+            stdin=subprocess.DEVNULL,
+        )
+
     @unittest.skipUnless(os.path.exists(PROGRAM), 'there is no program')
     def test_they_are_told_as_the_program_does(self) -> None:
         for words in WRONG:
             with self.subTest(words=words):
-                done = subprocess.run(
-                    [PROGRAM, *words],
-                    capture_output=True,
-                    text=True,
-                    cwd=self.work,
-                    stdin=subprocess.DEVNULL,
-                )
+                done = self.run_program(words)
                 self.assertEqual((done.returncode, done.stdout), (2, ''))
                 if '' not in words:
                     self.assertEqual(self.look(words), (2, done.stderr))
         for words in TAKEN:
             with self.subTest(words=words):
-                done = subprocess.run(
-                    [PROGRAM, *words],
-                    capture_output=True,
-                    text=True,
-                    cwd=self.work,
-                    stdin=subprocess.DEVNULL,
-                )
+                done = self.run_program(words)
                 self.assertIn(done.returncode, (0, 1))
                 self.assertEqual(self.look(words), (0, ''))
 

@@ -150,7 +150,7 @@ class Building(Tree):
         )
         self.assertTrue(said.endswith(ending), said)
         self.assertTrue(self.read('build/log').endswith(ending))
-        self.assertEqual(self.left(), ['crates.new', 'lock', 'log'])
+        self.assertEqual(self.left(), ['lock', 'log'])
         self.want_no_rt()
         os.remove(fails)
         self.assertEqual(self.run_desk(*REPLAY)[:2], (3, PRINTED))
@@ -187,7 +187,7 @@ class Building(Tree):
                 process.send_signal(number)
                 out, _ = process.communicate(timeout=300)
                 self.assertEqual((process.returncode, out), (-number, ''))
-                self.assertEqual(self.left(), ['crates.new', 'lock', 'log'])
+                self.assertEqual(self.left(), ['lock', 'log'])
                 self.want_no_rt()
                 os.remove(os.path.join(self.notes, 'process'))
                 os.remove(slow)
@@ -296,7 +296,7 @@ class Unproved(Tree):
         self.assertEqual(process.returncode, -signal.SIGTERM)
         self.assertEqual(
             sorted(os.listdir(os.path.join(self.top, 'build', 'unproved'))),
-            ['crates.new', 'lock', 'log'],
+            ['lock', 'log'],
         )
 
 

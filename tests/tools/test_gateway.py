@@ -7,6 +7,7 @@ import io
 import json
 import os
 import signal
+import socket
 import sys
 import tempfile
 import time
@@ -18,6 +19,7 @@ from nulvrader.desk import client, states
 from nulvrader.desk.client import Answer, Desk, NoAnswer
 from nulvrader.gateway import broker as brokers
 from nulvrader.gateway import carrier, cli, inbox, log
+from nulvrader.gateway.words import Words as Telling
 from tests.support.programs import PATIENCE, module, ran
 from tests.support.desks import Serving, over_sockets
 from tests.support.scripts import LAYOUT
@@ -190,11 +192,11 @@ TOLD = {
 
 
 class Conversion(unittest.TestCase):
-    def test_each_member_of_the_schema(self):
+    def test_each_member_of_the_schema(self) -> None:
         told = states.read_state(json.dumps(STATE).encode())
         self.assertEqual(json.dumps(told, sort_keys=True), json.dumps(TOLD, sort_keys=True))
 
-    def test_numbers(self):
+    def test_numbers(self) -> None:
         for text, number in (
             ('80.5', 80),
             ('81.5', 82),
@@ -222,7 +224,7 @@ class Conversion(unittest.TestCase):
             told = states.read_state(b'{"x":[%s]}' % text.encode())
             self.assertEqual((told, type(told['x'][0])), ({'x': [number]}, int), text)
 
-    def test_what_is_no_state(self):
+    def test_what_is_no_state(self) -> None:
         for data in (
             b'',
             b'{',
@@ -237,7 +239,7 @@ class Conversion(unittest.TestCase):
             with self.assertRaises(ValueError):
                 states.read_state(data)
 
-    def test_other_kinds_are_left_alone(self):
+    def test_other_kinds_are_left_alone(self) -> None:
         for state in (
             {'nodeStates': None, 'edgeStates': 'x'},
             {'nodeStates': [1, None], 'edgeStates': {'trajectory': 1}},
@@ -245,7 +247,7 @@ class Conversion(unittest.TestCase):
         ):
             self.assertEqual(states.read_state(json.dumps(state).encode()), state)
 
-    def test_a_state_that_is_too_long(self):
+    def test_a_state_that_is_too_long(self) -> None:
         """Only what the desk reads is left of it."""
         long = dict(TOLD, information=[{'infoType': 'x' * 100} for _ in range(1_000)])
         body = json.loads(states.body_of(long))
@@ -273,7 +275,7 @@ class Conversion(unittest.TestCase):
         )
         self.assertEqual(json.loads(states.body_of(TOLD)), TOLD)
 
-    def test_the_name_of_the_instant_list(self):
+    def test_the_name_of_the_instant_list(self) -> None:
         self.assertEqual(
             states.instant_for_vehicle({'headerId': 1, 'actions': [{}]}, 'instantActions'),
             {'headerId': 1, 'instantActions': [{}]},
@@ -394,6 +396,12 @@ def order(name='O1', update=0):
     }
 
 
+def drive(name='G1'):
+    """The members of the message of a drive from N1 to N2, but for the vehicle."""
+    told = order(name)
+    return {**told, 'nodes': [{**node, 'actions': []} for node in told['nodes']]}
+
+
 def instant(number=1):
     return {
         'headerId': number,
@@ -404,7 +412,7 @@ def instant(number=1):
 class BetweenStandIns(unittest.TestCase):
     """A gateway between a stand-in broker and a stand-in desk, whose clock the test has."""
 
-    def setUp(self):
+    def setUp(self) -> None:
         self.desk, self.said, self.now = StandInDesk(), [], 1000.0
         self.gateway = self.new_gateway()
 
@@ -444,7 +452,7 @@ class BetweenStandIns(unittest.TestCase):
 
 
 class Repeats(BetweenStandIns):
-    def test_an_order_until_a_state_names_it(self):
+    def test_an_order_until_a_state_names_it(self) -> None:
         self.desk.has['order'] = order()
         self.count(
             'order',
@@ -477,7 +485,7 @@ class Repeats(BetweenStandIns):
         updates = [json.loads(data)['orderUpdateId'] for data in self.broker.of_topic('order')]
         self.assertEqual((updates, self.said), ([0, 0, 0, 1, 1, 1], []))
 
-    def test_an_instant_action_until_a_state_lists_it(self):
+    def test_an_instant_action_until_a_state_lists_it(self) -> None:
         for name in ('actions', 'instantActions'):
             with self.subTest(name):
                 self.setUp()
@@ -507,7 +515,7 @@ class Repeats(BetweenStandIns):
                 sent = [json.loads(data) for data in self.broker.of_topic('instantActions')]
                 self.assertEqual([message[name] for message in sent], [instant(2)['actions']] * 3)
 
-    def test_a_message_that_does_not_go_out(self):
+    def test_a_message_that_does_not_go_out(self) -> None:
         """It is tried again with each turn, and does not count as published before it goes out."""
         self.broker.refuses = True
         self.desk.has.update(order=order(), instantActions=instant())
@@ -523,7 +531,7 @@ class Repeats(BetweenStandIns):
             ['order', 'instantActions'],
         )
 
-    def test_a_broker_that_is_connected_anew(self):
+    def test_a_broker_that_is_connected_anew(self) -> None:
         """What no state has named is published once more at once, and nothing else."""
         self.desk.has.update(order=order(), instantActions=instant())
         self.come()
@@ -541,7 +549,7 @@ class Repeats(BetweenStandIns):
             [len(self.broker.of_topic(topic)) for topic in ('order', 'instantActions')], [2, 3]
         )
 
-    def test_what_the_desk_no_longer_has(self):
+    def test_what_the_desk_no_longer_has(self) -> None:
         """An order is repeated while the desk has it and can be asked, and not longer."""
         self.desk.has['order'] = order()
         self.count('order', [(0, {}, 1), (5, {}, 2)])
@@ -554,9 +562,16 @@ class Repeats(BetweenStandIns):
         self.desk.has['order'] = order()
         self.count('order', [(0, {'orderId': 'O1'}, 4), (60, None, 4)])
 
+    def test_a_drive(self) -> None:
+        """It is published as any order."""
+        self.desk.has['order'] = drive()
+        self.count('order', [(0, {'orderId': ''}, 1), (60, {'orderId': 'G1'}, 1), (60, None, 1)])
+        (data,) = self.broker.of_topic('order')
+        self.assertEqual([node['actions'] for node in json.loads(data)['nodes']], [[], []])
+
 
 class States(BetweenStandIns):
-    def test_the_newest_state_alone(self):
+    def test_the_newest_state_alone(self) -> None:
         """Of each vehicle one state is posted in a turn, the newest; so it is, too, once a desk is
         up again."""
         for number in range(1, 4):
@@ -584,7 +599,7 @@ class States(BetweenStandIns):
         self.turn()
         self.assertEqual(self.said, [line, line])
 
-    def test_a_state_that_lists_an_action_no_more(self):
+    def test_a_state_that_lists_an_action_no_more(self) -> None:
         """The one before it is posted first: it alone may tell how an action has ended. There are
         at most four."""
         done = [{'actionId': 'instant-1', 'actionStatus': 'FINISHED'}]
@@ -601,7 +616,18 @@ class States(BetweenStandIns):
         self.assertEqual([header for _, header in self.desk.told], [16, 17, 18, 19])
         self.assertEqual(self.said, [f'6 messages were dropped: {carrier.OVERTAKEN}: KIT/0001'])
 
-    def test_an_action_that_was_listed_for_a_moment(self):
+    def test_a_state_that_names_the_order_no_more(self) -> None:
+        """The end of a drive, which has no actions, may be told by the one before it alone, as
+        where the vehicle is started again behind it. One without an order tells nothing more."""
+        for number, name in enumerate(('', 'G1', 'G1', '', 'G2', 'G2'), 1):
+            self.come(headerId=number, orderId=name, actionStates=[])
+        self.turn()
+        self.assertEqual([header for _, header in self.desk.told], [3, 6])
+        for name in ([], {}, None, 5):
+            self.come(headerId=7, orderId=name, actionStates=[])
+        self.turn()
+
+    def test_an_action_that_was_listed_for_a_moment(self) -> None:
         """Its message is not published again, though the last state lists it no more."""
         self.desk.has['instantActions'] = instant()
         self.come()
@@ -612,7 +638,7 @@ class States(BetweenStandIns):
             self.turn(60)
         self.assertEqual(len(self.broker.of_topic('instantActions')), 1)
 
-    def test_what_the_desk_refuses(self):
+    def test_what_the_desk_refuses(self) -> None:
         """It is said once, until the desk answers otherwise; a state stays where a fault of the
         machine is told, and only there."""
         memory, there = Answer(503, b'{"name":"Memory","refusal":90}'), Answer(
@@ -640,7 +666,7 @@ class States(BetweenStandIns):
         for said, line in zip(self.said, lines, strict=True):
             self.assertTrue(said.startswith('KIT/0001: state: ' + line), said)
 
-    def test_names(self):
+    def test_names(self) -> None:
         """What comes by a name that is none to the desk is counted, and nothing is asked about
         it."""
         bad = [
@@ -676,7 +702,7 @@ class States(BetweenStandIns):
         self.assertEqual((len(self.desk.told), len(self.said)), (3 * len(good), 2))
         self.assertTrue(self.said[1].startswith('17 messages were dropped'), self.said)
 
-    def test_what_is_no_state(self):
+    def test_what_is_no_state(self) -> None:
         """It is said once, and neither ends the gateway nor takes the place of a state that
         waits."""
         self.turn()
@@ -707,7 +733,7 @@ class States(BetweenStandIns):
             self.turn()
         self.assertEqual(len(self.said), 2, self.said)
 
-    def test_states_that_are_old(self):
+    def test_states_that_are_old(self) -> None:
         """After three in a row the call is said that makes the desk begin anew; once, until a state
         is accepted."""
         lines = []
@@ -738,7 +764,7 @@ class States(BetweenStandIns):
         self.assertTrue(self.said[0].endswith('tools/ask --desk 127.0.0.1:8080 resync KIT/0001'))
         self.assertIn('forged', self.said[0])
 
-    def test_states_that_are_hardly_old(self):
+    def test_states_that_are_hardly_old(self) -> None:
         """They may have been posted by another gateway."""
         self.desk.answer, self.desk.header = OLD, 12
         for number in (10, 11, 12):
@@ -750,7 +776,7 @@ class States(BetweenStandIns):
             self.said[0],
         )
 
-    def test_a_vehicle_that_the_desk_does_not_have(self):
+    def test_a_vehicle_that_the_desk_does_not_have(self) -> None:
         """Nothing is asked about it, and what it sends is counted; once the desk has it, it is
         served."""
         for _ in range(3):
@@ -764,7 +790,7 @@ class States(BetweenStandIns):
         self.turn(log.SPAN)
         self.assertEqual(self.desk.told, [('/uagv/v2/KIT/0009/state', 44)])
 
-    def test_a_vehicle_that_the_desk_has_no_more(self):
+    def test_a_vehicle_that_the_desk_has_no_more(self) -> None:
         """It is forgotten, and neither polled nor asked about until the desk has it again."""
         self.desk.has['order'] = order()
         self.come()
@@ -785,7 +811,7 @@ class States(BetweenStandIns):
         self.assertEqual(self.desk.told[-1], ('/uagv/v2/KIT/0001/state', 45))
         self.assertEqual(len(self.broker.published), 2)
 
-    def test_a_vehicle_that_is_named_on_the_command_line(self):
+    def test_a_vehicle_that_is_named_on_the_command_line(self) -> None:
         """It is polled before its first state, if the desk has it."""
         self.gateway = self.new_gateway(['KIT/0001', 'KIT/0009'])
         self.desk.has['order'] = order()
@@ -798,7 +824,7 @@ class States(BetweenStandIns):
         self.turn(2)
         self.assertEqual(self.broker.published[-1][0], 'uagv/v2/KIT/0009/order')
 
-    def test_more_vehicles_than_a_desk_can_have(self):
+    def test_more_vehicles_than_a_desk_can_have(self) -> None:
         """A hundred are served."""
         self.desk.vehicles = [f'KIT/{number}' for number in range(1000)]
         for name in self.desk.vehicles[:300]:
@@ -808,7 +834,7 @@ class States(BetweenStandIns):
         self.assertLessEqual(self.desk.asked, 300)
         self.assertIn('the desk has 1000 vehicles, and only 100 of them are served', self.said)
 
-    def test_what_a_vehicle_says_of_its_connection(self):
+    def test_what_a_vehicle_says_of_its_connection(self) -> None:
         """It is said, and the desk is not told."""
         for state in ('ONLINE', 'CONNECTIONBROKEN', 'OFFLINE'):
             data = json.dumps({'headerId': 1, 'connectionState': state}).encode()
@@ -832,7 +858,7 @@ class States(BetweenStandIns):
         )
         self.assertEqual((len(self.said), self.desk.told), (3, []))
 
-    def test_another_front_of_the_topics(self):
+    def test_another_front_of_the_topics(self) -> None:
         """It is that of the broker; the desk's paths stay as they are."""
         self.gateway = self.new_gateway(front='w+1/v2', vehicles=['KIT/0002'])
         self.desk.has['order'] = order()
@@ -863,7 +889,7 @@ class Answers(BetweenStandIns):
         self.turn()
         self.assertEqual(self.desk.told[-1][1], 2)
 
-    def test_no_answer_to_a_state(self):
+    def test_no_answer_to_a_state(self) -> None:
         """It counts as not posted."""
         for status, body in (
             (200, b''),
@@ -893,7 +919,7 @@ class Answers(BetweenStandIns):
         self.turn()
         self.assertEqual(self.desk.told[-1][1], 2)
 
-    def test_no_message(self):
+    def test_no_message(self) -> None:
         """It is not published, whatever it is."""
         good = dict(order(), **key_of('KIT/0001'))
         for body in (
@@ -909,6 +935,8 @@ class Answers(BetweenStandIns):
             json.dumps(dict(good, orderUpdateId=True)).encode(),
             json.dumps(dict(good, orderId=None)).encode(),
             json.dumps(dict(order())).encode(),
+            json.dumps(dict(good, nodes=[good['nodes'][0], drive()['nodes'][1]])).encode(),
+            json.dumps(dict(good, nodes=drive()['nodes'][:1], edges=[])).encode(),
         ):
             with self.subTest(body[:60]):
                 self.setUp()
@@ -923,7 +951,7 @@ class Answers(BetweenStandIns):
                 self.assertEqual(len(self.said), 1, self.said)
                 self.assertTrue(self.said[0].startswith('the desk can not be reached: '), self.said)
 
-    def test_a_hold_report_that_is_none(self):
+    def test_a_hold_report_that_is_none(self) -> None:
         """No vehicle is known by it."""
         for report in (b'<html>', b'node N1 KIT\nheld 1 of 2\n', b'\xff\n'):
             with self.subTest(report):
@@ -935,7 +963,7 @@ class Answers(BetweenStandIns):
                 self.assertEqual((self.desk.asked, len(self.said)), (0, 1))
                 self.assertTrue(self.said[0].startswith('the desk can not be reached: '), self.said)
 
-    def test_a_desk_that_fails_in_the_middle(self):
+    def test_a_desk_that_fails_in_the_middle(self) -> None:
         """With the next turn those come first that were not served."""
         for name in ('KIT/0001', 'KIT/0002', 'KIT/0003'):
             self.come(name)
@@ -954,16 +982,135 @@ class Answers(BetweenStandIns):
         self.assertEqual(set(asked), {'0001', '0002', '0003'})
 
 
+class TellsABoard(BetweenStandIns):
+    """What a board is told of vehicles: over a real socket, by a clock that is set."""
+
+    def setUp(self) -> None:
+        super().setUp()
+        self.folder = self.enterContext(tempfile.TemporaryDirectory())
+        self.path = os.path.join(self.folder, 'words.sock')
+        self.board = None
+        self.lines, self.now = [], 100.0
+        self.told = Telling(self.path, log.Said(self.lines.append), lambda: self.now)
+
+    def listen(self):
+        """A board listens."""
+        self.board = socket.socket(socket.AF_UNIX, socket.SOCK_DGRAM)
+        self.addCleanup(self.board.close)
+        self.board.bind(self.path)
+        self.board.setblocking(False)
+
+    def turn(self, seconds=1.0):
+        """A turn so many seconds later. What the board has heard."""
+        self.now += seconds
+        self.told.turn()
+        found = []
+        with contextlib.suppress(BlockingIOError):
+            while self.board is not None:
+                found.append(json.loads(self.board.recv(20_000)))
+        return found
+
+    def test_a_state(self) -> None:
+        """The members that the desk does not keep, by their names; of actions those that failed."""
+        self.listen()
+        actions = [
+            {'actionId': 'O1.0', 'actionStatus': 'FINISHED'},
+            {'actionId': 'O1.1', 'actionStatus': 'FAILED', 'resultDescription': 'no grip'},
+        ]
+        self.told.state('KIT/0001', json.dumps({**STATE, 'actionStates': actions}).encode())
+        (told,) = self.turn()
+        for name in ('manufacturer', 'serialNumber', 'headerId', 'operatingMode', 'safetyState'):
+            self.assertEqual(told[name], STATE[name], name)
+        self.assertEqual(told['errors'][0]['errorType'], STATE['errors'][0]['errorType'])
+        self.assertEqual(told['agvPosition']['x'], STATE['agvPosition']['x'])
+        self.assertEqual(
+            told['batteryState']['batteryCharge'], STATE['batteryState']['batteryCharge']
+        )
+        self.assertEqual(told['actionStates'], actions[1:])
+        self.assertEqual({'nodeStates', 'loads', 'information'} & told.keys(), set())
+
+    def test_how_often(self) -> None:
+        """At most once a second; what has not changed again after ten; and the last state alone."""
+        self.listen()
+        for second in range(25):
+            self.told.state('KIT/0001', json.dumps({**STATE, 'headerId': second}).encode())
+            self.told.state('KIT/0001', json.dumps({**STATE, 'headerId': 100 + second}).encode())
+            found = [told['headerId'] for told in self.turn(0.5) + self.turn(0.5)]
+            self.assertEqual(found, [100 + second] if second in (0, 10, 20) else [], second)
+
+    def test_a_board_that_is_away(self) -> None:
+        """Each turn ends at once; it is said once; the last state is told once the board is
+        there."""
+        for number in range(30):
+            self.told.state('KIT/0001', json.dumps({**STATE, 'headerId': number}).encode())
+            self.assertEqual(self.turn(), [])
+        self.assertEqual(len(self.lines), 1, self.lines)
+        self.listen()
+        self.assertEqual([told['headerId'] for told in self.turn()], [29])
+
+    def test_a_board_that_takes_nothing(self) -> None:
+        """Its socket fills: no turn waits, and each vehicle is told of once there is room."""
+        self.listen()
+        vehicles = [f'KIT/{number:04d}' for number in range(100)]
+        begun = time.monotonic()
+        heard = set()
+        self.board.close()
+        os.unlink(self.path)
+        self.listen()
+        taken, self.board = self.board, None
+        for _ in range(20):
+            for name in vehicles:
+                self.told.state(name, json.dumps(STATE).encode())
+            self.turn()
+        self.assertLess(time.monotonic() - begun, 30)
+        self.board = taken
+        for _ in range(60):
+            heard |= {told['serialNumber'] for told in self.turn()}
+        self.assertEqual(heard, {name.partition('/')[2] for name in vehicles})
+
+    def test_hostile_states(self) -> None:
+        """None stops it, none is longer than a datagram, and what is no state is not told."""
+        self.listen()
+        text = chr(0x1F600) * 50
+        many = [{'errorType': text, 'errorLevel': 'FATAL', 'errorReferences': [{}] * 9}] * 60
+        for number, state in enumerate(
+            (
+                {**STATE, 'errors': many, 'batteryState': {'batteryCharge': 1e999}},
+                {**STATE, 'safetyState': {text: text, 'eStop': text}, 'operatingMode': [[]]},
+                {**STATE, 'errors': {}, 'actionStates': 7, 'agvPosition': [1]},
+                {'headerId': 10**400},
+            )
+        ):
+            self.told.state('KIT/0001', json.dumps(state).encode())
+            self.assertEqual(len(self.turn(2.0)), 1, number)
+        many = [{'errorType': text, 'errorDescription': text, 'errorHint': text}] * 18
+        self.told.state('KIT/0001', json.dumps({**STATE, 'errors': many}).encode())
+        self.assertEqual(len(self.turn(2.0)[0]['errors']), 8)  # as many as a datagram has room for
+        for data in (b'[]', b'{', b'[' * 60_000, b'\xff', b'{"x":NaN', b'7' * 60_000):
+            self.told.state('KIT/0001', data)
+            self.assertEqual([set(told) for told in self.turn(2.0)], [], data[:10])
+
+    def test_a_connection(self) -> None:
+        """It is told by itself, and with the next state."""
+        self.listen()
+        self.told.connection('KIT/0001', 'ONLINE')
+        self.assertEqual([told['connectionState'] for told in self.turn()], ['ONLINE'])
+        self.told.state('KIT/0001', json.dumps(STATE).encode())
+        self.assertEqual([told['connectionState'] for told in self.turn()], ['ONLINE'])
+        self.told.connection('KIT/0001', 'CONNECTIONBROKEN')
+        self.assertEqual(self.turn()[0]['connectionState'], 'CONNECTIONBROKEN')
+
+
 class Lines(unittest.TestCase):
     """How many lines are said, and what is in them."""
 
-    def setUp(self):
+    def setUp(self) -> None:
         self.said, self.now = [], 0.0
 
     def clock(self):
         return self.now
 
-    def test_a_vehicle_that_changes_all_the_time(self):
+    def test_a_vehicle_that_changes_all_the_time(self) -> None:
         """At most twenty lines a minute are about it, and other vehicles have theirs."""
         made = log.Said(self.said.append, self.clock)
         for number in range(1000):
@@ -978,7 +1125,7 @@ class Lines(unittest.TestCase):
             self.said[-2:], ['KIT/0001: 980 more lines were left out', 'KIT/0001: again']
         )
 
-    def test_a_sum(self):
+    def test_a_sum(self) -> None:
         """It is said at once, and then once a minute."""
         made = log.Tally(self.said.append, self.clock)
         for number in range(2300):
@@ -993,7 +1140,7 @@ class Lines(unittest.TestCase):
             second, '2299 messages were dropped: a reason: K\\x1b[2J/1, K\\x1b[2J/2, K\\x1b[2J/3'
         )
 
-    def test_foreign_text(self):
+    def test_foreign_text(self) -> None:
         """A line is one line, and has nothing that a terminal obeys."""
         with contextlib.redirect_stderr(io.StringIO()) as told:
             log.say('a\x1b[2J\r\n\u202eb\ud800' + 'x' * 5000)
@@ -1006,7 +1153,7 @@ class Lines(unittest.TestCase):
 class Room(unittest.TestCase):
     """The inbox has room for so much, and not for more."""
 
-    def setUp(self):
+    def setUp(self) -> None:
         self.said = []
         self.box = inbox.Inbox(log.Tally(self.said.append))
         self.box.know(frozenset(['KIT/0001']))
@@ -1019,7 +1166,7 @@ class Room(unittest.TestCase):
         queues = [*self.box.queues.values(), *self.box.others.values()]
         return sum(len(data) for queue in queues for data in queue.items)
 
-    def test_strangers(self):
+    def test_strangers(self) -> None:
         """However many there are, a vehicle of the desk has its room."""
         for number in range(3000):
             self.put(f'X/{number}', bytes(10_000))
@@ -1030,7 +1177,7 @@ class Room(unittest.TestCase):
         self.box.drop(self.box.strangers())
         self.assertEqual((self.size(), self.box.size, self.box.strangers()), (0, 0, set()))
 
-    def test_long_messages(self):
+    def test_long_messages(self) -> None:
         """One of more than 250,000 bytes is dropped, and of the others the last ones are kept."""
         self.put('KIT/0001', bytes(250_001))
         self.assertEqual(self.size(), 0)
@@ -1044,7 +1191,7 @@ class Room(unittest.TestCase):
             ([message.data[0] for message in self.box.take()], self.box.size), ([48, 49], 0)
         )
 
-    def test_one_that_sends_much(self):
+    def test_one_that_sends_much(self) -> None:
         """Those that send less are taken before it, in one turn with it where there is room."""
         self.box.know(frozenset(f'KIT/{number}' for number in range(20)))
         for number in range(19):
@@ -1056,7 +1203,7 @@ class Room(unittest.TestCase):
         self.put('KIT/19', b'{}')
         self.assertEqual([len(self.box.take()) for _ in range(3)], [9, 3, 0])
 
-    def test_a_vehicle_that_is_known_no_more(self):
+    def test_a_vehicle_that_is_known_no_more(self) -> None:
         """What it has sent waits with that of strangers."""
         self.put('KIT/0001', b'12')
         self.put('X/1', b'345')
@@ -1191,7 +1338,7 @@ FIRST = 'uagv/v2/KIT/0001/'
 class OverPaho:
     """Class `Broker` over a stand-in of the library, of either version."""
 
-    def setUp(self):
+    def setUp(self) -> None:
         self.library = self.enterContext(Paho(self.version))
         self.said = self.enterContext(contextlib.redirect_stderr(io.StringIO()))
 
@@ -1214,7 +1361,7 @@ class OverPaho:
         made.fleet.known = self.box.known
         return made
 
-    def test_it_subscribes_and_publishes(self):
+    def test_it_subscribes_and_publishes(self) -> None:
         broker, client = self.new_broker()
         self.assertEqual(client.subscribed(), [])
         client.connected()
@@ -1232,7 +1379,7 @@ class OverPaho:
         self.assertEqual(client.published, [(FIRST + 'order', b'{}')])
         self.assertEqual(self.said.getvalue(), 'the broker is connected\n')
 
-    def test_states_that_come_faster_than_they_are_posted(self):
+    def test_states_that_come_faster_than_they_are_posted(self) -> None:
         """One comes with each that is posted: the turn ends all the same, and in it the order goes
         out."""
         broker, client = self.new_broker()
@@ -1253,7 +1400,7 @@ class OverPaho:
         self.assertEqual(desk.told, [('/' + FIRST + 'state', 1)])
         self.assertEqual([topic for topic, _ in client.published], [FIRST + 'order'])
 
-    def test_states_that_come_while_a_desk_is_slow(self):
+    def test_states_that_come_while_a_desk_is_slow(self) -> None:
         """Some of each vehicle wait, and the newest one is posted."""
         broker, client = self.new_broker()
         client.connected()
@@ -1269,7 +1416,7 @@ class OverPaho:
         )
         self.assertEqual(len(said.getvalue().splitlines()), 1, said.getvalue())
 
-    def test_a_retained_state(self):
+    def test_a_retained_state(self) -> None:
         """It is passed over, also where it comes behind one that is not, as it does where the
         broker is connected anew."""
         _, client = self.new_broker()
@@ -1280,7 +1427,7 @@ class OverPaho:
         client.come(FIRST + 'state', dict(STATE, headerId=4_000_000_000), retain=True)
         self.assertEqual([state['headerId'] for _, _, state in self.taken()], [5])
 
-    def test_a_connection_that_is_lost(self):
+    def test_a_connection_that_is_lost(self) -> None:
         """It is said, and once there is one again, the topics are subscribed to and the order goes
         out again."""
         broker, client = self.new_broker()
@@ -1313,7 +1460,7 @@ class OverPaho:
         ]
         self.assertEqual(self.said.getvalue().splitlines(), wanted)
 
-    def test_a_broker_that_is_down(self):
+    def test_a_broker_that_is_down(self) -> None:
         """It is waited for, and this is said once."""
         self.library.is_down = True
         _, client = self.new_broker()
@@ -1323,7 +1470,7 @@ class OverPaho:
         client.connected()
         self.assertEqual(len(client.subscribed()), 2)
 
-    def test_a_wrong_password(self):
+    def test_a_wrong_password(self) -> None:
         """The broker's refusal is said once, however often it is tried again."""
         broker, client = self.new_broker()
         for _ in range(3):
@@ -1377,7 +1524,7 @@ class Words(unittest.TestCase):
         os.kill(os.getpid(), signal.SIGTERM)
         time.sleep(PATIENCE)
 
-    def test_those_of_the_broker(self):
+    def test_those_of_the_broker(self) -> None:
         made = []
 
         def turn(between):
@@ -1422,7 +1569,7 @@ class Words(unittest.TestCase):
         self.assertEqual((between.front, between.fleet.named), ('w/v2', {'KIT/0001'}))
         self.assertEqual(between.desk.address, 'https://desk.example')
 
-    def test_a_password_without_tls(self):
+    def test_a_password_without_tls(self) -> None:
         """This is said, but of a broker on the same machine."""
         with tempfile.TemporaryDirectory() as folder:
             path = os.path.join(folder, 'password')
@@ -1442,7 +1589,7 @@ class Words(unittest.TestCase):
                     (ends[0], ends[1].count('without TLS: give --ca')), (0, said), host
                 )
 
-    def test_those_that_are_refused(self):
+    def test_those_that_are_refused(self) -> None:
         for words, fault in (
             (['--broker', 'nowhere'], "'nowhere' is not HOST:PORT"),
             (['--broker', 'here:0'], "'here:0' is not HOST:PORT"),
@@ -1458,13 +1605,13 @@ class Words(unittest.TestCase):
                 self.assertEqual((ends, library.clients), (2, []))
                 self.assertIn(fault, said)
 
-    def test_a_password_file_that_is_none(self):
+    def test_a_password_file_that_is_none(self) -> None:
         with Paho(1):
             ends, said = self.run_line('--user', 'desk', '--password-file', '/nowhere/password')
         self.assertEqual(ends, 1)
         self.assertTrue(said.startswith('gateway: ') and '/nowhere/password' in said, said)
 
-    def test_what_is_needed(self):
+    def test_what_is_needed(self) -> None:
         """`--help` and the program without the library say how to get it."""
         status, out, _ = ran('gateway', '--help')
         self.assertEqual(status, 0)
@@ -1478,12 +1625,12 @@ class Words(unittest.TestCase):
 class SimulatedVehicle(unittest.TestCase):
     """`examples/vehicle` counts its headers on when it is started again."""
 
-    def test_its_first_header(self):
+    def test_its_first_header(self) -> None:
         before = int(time.time())
         number = vehicle.Vehicle(None, 'KIT', '0001', 'N1').state()['headerId']
         self.assertTrue(before < number <= min(int(time.time()) + 1, 4294967295), number)
 
-    def test_the_last_header_of_the_desk(self):
+    def test_the_last_header_of_the_desk(self) -> None:
         for status, row, more in (
             (200, {'headerId': 4_000_000_000}, None),
             (200, {'headerId': 7}, 0),
@@ -1502,7 +1649,7 @@ class SimulatedVehicle(unittest.TestCase):
 
 @over_sockets
 class Transport(unittest.TestCase):
-    def setUp(self):
+    def setUp(self) -> None:
         self.folder = tempfile.TemporaryDirectory()
         self.desk = Serving(os.path.join(self.folder.name, 'desk.db'))
         self.said, self.now = [], time.monotonic()
@@ -1513,7 +1660,7 @@ class Transport(unittest.TestCase):
         )
         self.vehicle = OnBroker(self.broker, 'N1')
 
-    def tearDown(self):
+    def tearDown(self) -> None:
         self.desk.__exit__()
         self.folder.cleanup()
 
@@ -1543,7 +1690,7 @@ class Transport(unittest.TestCase):
         self.turns(1)
         self.assertEqual(self.vehicle_row()['ready'], True)
 
-    def test_a_whole_transport(self):
+    def test_a_whole_transport(self) -> None:
         self.begin()
         self.assertEqual(self.broker.published, [])
         self.call(
@@ -1588,7 +1735,36 @@ class Transport(unittest.TestCase):
         )
         self.assertEqual(self.said, [])
 
-    def test_a_desk_that_is_started_again(self):
+    def test_a_drive_to_its_end(self) -> None:
+        """The desk is away when the vehicle tells of its end, and the vehicle is started again
+        before the desk: the end is told all the same, and the vehicle gets an order."""
+        self.begin()
+        drive = {'order': 'G1', 'manufacturer': 'KIT', 'serialNumber': '0001', 'to': 'N3'}
+        self.call('POST', '/drives', {**drive, 'edges': 1})
+        self.turns(4)
+        self.assertEqual((self.vehicle.node, self.vehicle_row()['confirmed']), ('N2', 0))
+        body = {'order': 'G1', 'orderUpdateId': 1, 'edges': 1}
+        self.call('POST', '/vehicles/KIT/0001/advance', body)
+        self.gateway.turn()
+        away = NoAnswer('no desk', False)
+        with unittest.mock.patch.object(self.gateway.desk, 'ask', side_effect=away):
+            self.turns(3)
+            self.assertEqual(self.vehicle.node, 'N3')
+            header = self.vehicle.header
+            self.vehicle = OnBroker(self.broker, 'N3')
+            self.vehicle.order, self.vehicle.header = '', header
+            self.broker.inbox.put(
+                'uagv/v2/KIT/0001/state', json.dumps(self.vehicle.state()).encode()
+            )
+            self.gateway.turn()
+        for _ in range(3):
+            self.gateway.turn()
+        row = self.vehicle_row()
+        self.assertEqual((row['order'], row['node'], row['astray']), (None, 'N3', False))
+        self.assertEqual(self.call('GET', '/report/holds'), b'node N3 KIT/0001\nheld 1 of 7\n')
+        self.call('POST', '/orders', {**drive, 'order': 'O1', 'job': 'J1', 'edges': 0})
+
+    def test_a_desk_that_is_started_again(self) -> None:
         """The last state waits for the desk, and is posted to it."""
         self.begin()
         self.desk.__exit__()
@@ -1603,7 +1779,7 @@ class Transport(unittest.TestCase):
         self.gateway.turn()
         self.assertEqual(self.vehicle_row()['headerId'], self.vehicle.header)
 
-    def test_what_is_refused_is_said(self):
+    def test_what_is_refused_is_said(self) -> None:
         self.begin()
         for name, data in (
             ('KIT/0001', b'nothing'),
@@ -1623,7 +1799,7 @@ class Transport(unittest.TestCase):
         )
         self.assertEqual(self.said[3], f'1 message was dropped: {inbox.UNKNOWN}: KIT/0009')
 
-    def test_messages_that_are_lost(self):
+    def test_messages_that_are_lost(self) -> None:
         """An order and an instant action that do not arrive are published again, and the vehicle
         carries them out."""
         self.begin()
@@ -1651,7 +1827,7 @@ class Transport(unittest.TestCase):
         )
         self.assertEqual(self.said, [])
 
-    def test_a_vehicle_that_counts_anew(self):
+    def test_a_vehicle_that_counts_anew(self) -> None:
         """Its states are old until the call that is said."""
         self.begin()
         self.vehicle.header = 0
@@ -1663,7 +1839,7 @@ class Transport(unittest.TestCase):
         self.turns(1)
         self.assertEqual((self.vehicle_row()['headerId'], len(self.said)), (6, 1))
 
-    def test_a_simulated_vehicle_that_is_started_again(self):
+    def test_a_simulated_vehicle_that_is_started_again(self) -> None:
         """Without a gateway; its states are accepted, though it has sent more than one a second."""
         self.begin()
         for _ in range(2):
@@ -1675,7 +1851,7 @@ class Transport(unittest.TestCase):
                 direct.turn()
                 self.assertEqual(self.vehicle_row()['headerId'], direct.header)
 
-    def test_the_desk_takes_what_is_converted_alone(self):
+    def test_the_desk_takes_what_is_converted_alone(self) -> None:
         """The state of the schema is refused as it is, and accepted as it is converted."""
         self.call('PUT', '/layout', LAYOUT)
         self.call(

@@ -16,10 +16,12 @@ import tempfile
 import unittest
 import xml.etree.ElementTree as ElementTree
 from unittest import mock
+from collections.abc import Iterator
+from typing import Any
 
 from nulvrader.common import layouts
 from nulvrader.drawing import svg, positions, warehouse
-from tests.support.programs import ROOT, TOOLS
+from tests.support.programs import ROOT, TOOLS, matched
 from tests.support.openapi import Asked
 from tests.support.desks import AT, Serving, over_sockets, requests_of, run
 from tests.support.calls import state
@@ -40,14 +42,14 @@ LINES = FIRST_EDGE + [
 HELD = {'0001': (['N1', 'N2'], ['E12']), '0002': (['N3'], [])}
 
 
-def drawn(*words):
+def drawn(*words: str) -> Any:
     done = subprocess.run([sys.executable, MAP, *words], capture_output=True, timeout=600)
     if (done.returncode, done.stderr) != (0, b''):
         raise AssertionError(done.stderr.decode())
     return done.stdout
 
 
-def refused(*words):
+def refused(*words: str) -> Any:
     """The line with which the map says why there is no picture."""
     done = subprocess.run(
         [sys.executable, MAP, *words], capture_output=True, text=True, timeout=600
@@ -61,7 +63,7 @@ def refused(*words):
     return done.stderr[len('map: ') : -1]
 
 
-def plain(db, data):
+def plain(db: str, data: bytes) -> Any:
     """Has a plain desk serve these requests on a file."""
     done = subprocess.run(
         [sys.executable, PLAIN, db, AT], input=data, capture_output=True, timeout=600
@@ -71,11 +73,11 @@ def plain(db, data):
     return done.stdout
 
 
-def check_the_picture_of_the_page(test, db):
+def check_the_picture_of_the_page(test: Any, db: str) -> None:
     """The file is drawn as docs/map.svg is: the same of everything, and places that are no pixel
     apart."""
 
-    def apart(one, other):
+    def apart(one: Any, other: Any) -> Any:
         """How far apart the numbers of two texts are that else are the same."""
         number = r'-?\d+\.\d'
         test.assertEqual(re.sub(number, '0', one), re.sub(number, '0', other))
@@ -101,26 +103,29 @@ class Picture:
     """What an SVG shows: of each node its place and its colour, of each edge its colour and its
     line, and the texts of each label."""
 
-    def __init__(self, data):
+    def __init__(self, data: Any) -> None:
         root = ElementTree.fromstring(data)
-        self.nodes, self.edges, self.labels, self.vehicles = {}, {}, [], {}
+        self.nodes: dict[Any, Any] = {}
+        self.edges: dict[Any, Any] = {}
+        self.labels: list[Any] = []
+        self.vehicles: dict[Any, Any] = {}
         self.foot = [text.text for text in root.iter(SVG + 'text') if text.get('class') == 'foot']
         for group in root.iter(SVG + 'g'):
             if group.get('class') == 'node':
-                circle = group.find(SVG + 'circle')
+                circle: Any = group.find(SVG + 'circle')
                 self.nodes[group.get('data-node')] = (
                     (float(circle.get('cx')), float(circle.get('cy'))),
                     circle.get('fill'),
-                    group.find(SVG + 'text').text,
+                    group.findtext(SVG + 'text'),
                 )
             elif group.get('class') == 'edge':
-                line = group.find(SVG + 'line')
+                line: Any = group.find(SVG + 'line')
                 ends = [float(line.get(name)) for name in ('x1', 'y1', 'x2', 'y2')]
                 self.edges[group.get('data-edge')] = (ends[:2], ends[2:]), line.get('stroke')
             else:
                 self.label(group)
 
-    def label(self, group):
+    def label(self, group: Any) -> None:
         first = group.find(SVG + 'rect')
         box = [float(first.get(name)) for name in ('x', 'y', 'width', 'height')]
         self.labels.append((box, [text.text for text in group.iter(SVG + 'text')]))
@@ -131,30 +136,30 @@ class Picture:
             elif part.get('class') == 'vehicle':
                 self.vehicles[part.get('data-vehicle')] = fill
 
-    def nearest(self, box):
+    def nearest(self, box: Any) -> Any:
         """The node that a label is nearest to."""
         left, top, width, height = box
 
-        def away(node):
+        def away(node: str) -> Any:
             (x, y), _, _ = self.nodes[node]
             return max(left - x, 0, x - left - width) ** 2 + max(top - y, 0, y - top - height) ** 2
 
         return min(self.nodes, key=away)
 
 
-def length(one, other):
+def length(one: Any, other: Any) -> Any:
     return ((one[0] - other[0]) ** 2 + (one[1] - other[1]) ** 2) ** 0.5
 
 
 class Map(unittest.TestCase):
-    def setUp(self):
+    def setUp(self) -> None:
         self.folder = tempfile.TemporaryDirectory()
         self.db = os.path.join(self.folder.name, 'map.db')
 
-    def tearDown(self):
+    def tearDown(self) -> None:
         self.folder.cleanup()
 
-    def test_a_small_file(self):
+    def test_a_small_file(self) -> None:
         status, out, said = run(
             'replay', '--db', self.db, '--at', AT, stdin=b''.join(map(bytes_of, LINES))
         )
@@ -179,7 +184,7 @@ class Map(unittest.TestCase):
         )
         self.assertEqual(picture.foot, ['checking place: L4'])
 
-    def check_colours(self, picture):
+    def check_colours(self, picture: Any) -> None:
         """What a vehicle holds has its colour, and nothing else has the colour of one."""
         self.assertEqual(set(picture.vehicles), {'KIT/' + serial for serial in HELD})
         self.assertEqual(len(set(picture.vehicles.values())), len(HELD))
@@ -195,7 +200,7 @@ class Map(unittest.TestCase):
             )
         self.assertEqual(len({stroke for _, stroke in picture.edges.values()}), 2)
 
-    def check_places(self, picture):
+    def check_places(self, picture: Any) -> Any:
         """The three nodes stand in a row, and each edge leads from its start to its end."""
         place = {name: where for name, (where, _, _) in picture.nodes.items()}
         self.assertAlmostEqual(
@@ -206,11 +211,11 @@ class Map(unittest.TestCase):
         )
         for name, ((begin, end), _) in picture.edges.items():
             start, finish = 'N' + name[1], 'N' + name[2]
-            self.assertEqual(min(place, key=lambda node: length(place[node], begin)), start)
-            self.assertEqual(min(place, key=lambda node: length(place[node], end)), finish)
+            self.assertEqual(min(place, key=lambda node: float(length(place[node], begin))), start)
+            self.assertEqual(min(place, key=lambda node: float(length(place[node], end))), finish)
 
     @over_sockets
-    def test_a_running_desk(self):
+    def test_a_running_desk(self) -> None:
         """A running desk and its file, once it is stopped, are drawn alike."""
         with Serving(self.db) as desk:
             for request, body, status, _ in LINES:
@@ -220,17 +225,17 @@ class Map(unittest.TestCase):
         self.assertEqual(running, drawn('--db', self.db))
 
     @over_sockets
-    def test_the_file_of_a_running_desk(self):
+    def test_the_file_of_a_running_desk(self) -> None:
         run('replay', '--db', self.db, '--at', AT, stdin=b''.join(map(bytes_of, LINES)))
         with Serving(self.db):
             self.assertRegex(refused('--db', self.db), ': .*locked: ask the desk that has it open')
         self.assertEqual(len(Picture(drawn('--db', self.db)).vehicles), 2)
 
-    def test_the_picture_of_the_page(self):
+    def test_the_picture_of_the_page(self) -> None:
         """README's two lines make docs/map.svg."""
         with open(os.path.join(ROOT, 'README.md')) as file:
             text = file.read()
-        serve, draw = re.search(
+        serve, draw = matched(
             (
                 r'^(\./desk replay .* < examples/map\.http) > /dev/null\n(tools/map .* >'
                 r' docs/map\.svg)$'
@@ -249,7 +254,7 @@ class Map(unittest.TestCase):
         self.assertEqual(draw.split()[:3], ['tools/map', '--db', 'map.db'])
         check_the_picture_of_the_page(self, self.db)
 
-    def test_parts_that_nothing_joins(self):
+    def test_parts_that_nothing_joins(self) -> None:
         """They are drawn beside one another, and so is a layout of one node, or of none."""
         rows = 'kind,id,from,to\nnode,N1,,\nnode,N2,,\nnode,N3,,\nedge,E12,N1,N2\n'
         run('replay', '--db', self.db, '--at', AT, stdin=bytes_of(('PUT /layout', rows, 200, '{}')))
@@ -271,18 +276,18 @@ class OfAFile(unittest.TestCase):
     """Files that are none of a desk, or a desk's that is open, are told in a line, and are left as
     they are."""
 
-    def setUp(self):
+    def setUp(self) -> None:
         self.folder = tempfile.TemporaryDirectory()
         self.db = os.path.join(self.folder.name, 'map.db')
 
-    def tearDown(self):
+    def tearDown(self) -> None:
         self.folder.cleanup()
 
-    def test_no_file(self):
+    def test_no_file(self) -> None:
         self.assertEqual(refused('--db', self.db), self.db + ': there is no such file')
         self.assertEqual(os.listdir(self.folder.name), [])
 
-    def test_no_tables_of_a_desk(self):
+    def test_no_tables_of_a_desk(self) -> None:
         other = os.path.join(self.folder.name, 'other.db')
         with contextlib.closing(sqlite3.connect(other)) as base:
             base.execute('CREATE TABLE node (name TEXT)')
@@ -297,11 +302,11 @@ class OfAFile(unittest.TestCase):
             with open(self.db, 'rb') as file:
                 self.assertEqual(file.read(), data)
 
-    def test_no_file_to_be_opened(self):
+    def test_no_file_to_be_opened(self) -> None:
         said = refused('--db', self.folder.name)
         self.assertEqual(said, self.folder.name + ': it is a folder, and not a regular file')
 
-    def test_a_file_that_a_desk_has_open(self):
+    def test_a_file_that_a_desk_has_open(self) -> None:
         plain(self.db, b''.join(map(bytes_of, LINES)))
         with contextlib.closing(sqlite3.connect(self.db, isolation_level=None)) as base:
             base.execute('PRAGMA locking_mode = EXCLUSIVE')
@@ -313,12 +318,12 @@ class OfAFile(unittest.TestCase):
             base.execute('ROLLBACK')
         self.assertIn(b'</svg>', drawn('--db', self.db))
 
-    def test_a_name_with_marks_of_an_address(self):
+    def test_a_name_with_marks_of_an_address(self) -> None:
         db = os.path.join(self.folder.name, 'a ?mode=memory#b%20.db')
         plain(db, b''.join(map(bytes_of, LINES)))
         self.assertEqual(set(Picture(drawn('--db', db)).nodes), {'N1', 'N2', 'N3'})
 
-    def test_the_picture_of_the_page(self):
+    def test_the_picture_of_the_page(self) -> None:
         """The file that a plain desk makes of the same requests is drawn so, too."""
         with open(os.path.join(ROOT, 'examples', 'map.http'), 'rb') as file:
             data = file.read()
@@ -328,15 +333,15 @@ class OfAFile(unittest.TestCase):
 
 @over_sockets
 class OfADesk(unittest.TestCase):
-    def setUp(self):
+    def setUp(self) -> None:
         self.folder = tempfile.TemporaryDirectory()
         self.db = os.path.join(self.folder.name, 'map.db')
 
-    def tearDown(self):
+    def tearDown(self) -> None:
         self.folder.cleanup()
 
     @contextlib.contextmanager
-    def serving(self):
+    def serving(self) -> Iterator[Any]:
         """The port of a plain desk that serves one connection and no more."""
         plain(self.db, b''.join(map(bytes_of, LINES)))
         words = [sys.executable, PLAIN, self.db, AT, '0']
@@ -344,18 +349,19 @@ class OfADesk(unittest.TestCase):
             words, stdout=subprocess.PIPE, stderr=subprocess.PIPE, text=True
         ) as desk:
             try:
+                assert desk.stdout and desk.stderr
                 yield int(desk.stdout.readline().rsplit(':')[-1])
                 self.assertEqual((desk.wait(300), desk.stderr.read()), (0, ''))
             finally:
                 desk.kill()
 
-    def test_one_connection(self):
+    def test_one_connection(self) -> None:
         with self.serving() as port:
             running = drawn('--desk', '127.0.0.1:%d' % port)
         self.assertEqual(running, drawn('--db', self.db))
         self.assertEqual(len(Picture(running).vehicles), 2)
 
-    def test_a_page_that_refreshes_itself(self):
+    def test_a_page_that_refreshes_itself(self) -> None:
         """The page has the picture, and says to the browser when to load it again; while no desk
         answers, the last one stands."""
         page = os.path.join(self.folder.name, 'map.html')
@@ -365,6 +371,7 @@ class OfADesk(unittest.TestCase):
                 [sys.executable, MAP, *words], stderr=subprocess.PIPE, text=True
             ) as watching:
                 try:
+                    assert watching.stderr
                     lines = [watching.stderr.readline() for _ in range(2)]
                 finally:
                     watching.send_signal(signal.SIGINT)
@@ -374,10 +381,10 @@ class OfADesk(unittest.TestCase):
         with open(page) as file:
             text = file.read()
         self.assertIn('<meta http-equiv="refresh" content="0.2">', text)
-        picture = re.search('<svg.*</svg>\n', text, re.S).group(0)
+        picture = matched('<svg.*</svg>\n', text, re.S)[0]
         self.assertEqual(picture.encode(), drawn('--db', self.db))
 
-    def test_no_desk(self):
+    def test_no_desk(self) -> None:
         with socket.socket() as taken:
             taken.bind(('127.0.0.1', 0))
             address = '127.0.0.1:%d' % taken.getsockname()[1]
@@ -392,7 +399,7 @@ class OfADesk(unittest.TestCase):
 class Places(unittest.TestCase):
     """Where nodes and labels are put, and how much is done for that."""
 
-    def grid(self, width, height):
+    def grid(self, width: int, height: int) -> Any:
         """A layout of two-way streets, with a station at each node and a vehicle at every fifth."""
         nodes = [f'N{y:02d}-{x:02d}' for y in range(height) for x in range(width)]
         edges = []
@@ -406,10 +413,10 @@ class Places(unittest.TestCase):
         vehicles = {f'KIT/{number:04d}': node for number, node in enumerate(nodes[::5])}
         return warehouse.Warehouse(layouts.of_parts(nodes, edges[:1500], stations), vehicles)
 
-    def plain_box(self, node, width, height, at, edges, boxes):
+    def plain_box(self, node: Any, width: Any, height: Any, at: Any, edges: Any, boxes: Any) -> Any:
         """The box beside a node, chosen by looking at all edges, nodes and boxes."""
-        radius, x, y = svg.RADIUS, *at[node]
-        best = None
+        radius, (x, y) = svg.RADIUS, at[node]
+        best: Any = None
         for turn, (right, down) in enumerate(
             ((0, 1), (0, -1), (1, 0), (-1, 0), (1, 1), (-1, 1), (1, -1), (-1, -1))
         ):
@@ -431,10 +438,11 @@ class Places(unittest.TestCase):
                 best = price, turn, box
         return best[2]
 
-    def test_boxes(self):
+    def test_boxes(self) -> None:
         """They are those that are found by looking at everything."""
         grid = self.grid(7, 5)
-        labels, at, boxes = svg.labels_of(grid), positions.positions(grid.layout), []
+        labels, at = svg.labels_of(grid), positions.positions(grid.layout)
+        boxes: list[Any] = []
         for node, lines in labels.items():
             width = max(len(line.words) for line in lines) * svg.LETTER + 12
             height = svg.LINE * len(lines) + 8
@@ -444,28 +452,28 @@ class Places(unittest.TestCase):
             len({box[0] < at[node][0] < box[2] for node, box in zip(labels, boxes)}), 1
         )
 
-    def test_things_near_a_box(self):
-        grid = svg.Grid()
+    def test_things_near_a_box(self) -> None:
+        grid: svg.Grid[int] = svg.Grid()
         for number in range(20):
             grid.add((number * 60, -500, number * 60 + 30, 500), number)
         self.assertEqual(grid.near((500, 0, 501, 1)) & {8}, {8})
         self.assertLess(len(grid.near((500, 0, 501, 1))), 6)
         self.assertEqual(grid.near((-2000, -600, 2000, 600)), set(range(20)))
 
-    def test_turns(self):
+    def test_turns(self) -> None:
         """Forty for the layouts that most warehouses have, and eight for the largest."""
         self.assertEqual(
             [positions.turns_for(nodes * (nodes - 1) // 2) for nodes in (1, 2, 120, 200, 500)],
             [40, 40, 40, 40, 8],
         )
 
-    def test_the_largest_layout(self):
+    def test_the_largest_layout(self) -> None:
         grid = self.grid(25, 20)
         layout = grid.layout
         self.assertEqual(
             (len(layout.nodes), len(layout.edges), len(layout.stations)), (500, 1500, 500)
         )
-        looked = collections.Counter()
+        looked: Any = collections.Counter()
         crosses = svg.crosses
         with mock.patch.object(
             svg, 'crosses', lambda *words: looked.update('x') or crosses(*words)

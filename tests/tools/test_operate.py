@@ -13,9 +13,10 @@ import subprocess
 import sys
 import tempfile
 import unittest
+from typing import Any
 
 from tests.support import calls
-from tests.support.programs import ROOT
+from tests.support.programs import ROOT, matched
 from tests.support.records import broken, copied, export_of_rows, rows_of
 from tests.support.desks import AT, DESK, Serving, over_sockets, run
 from tests.support.calls import advance, state
@@ -32,18 +33,18 @@ SIDING = 'kind,id,from,to\n%s%sstation,A,N1,3\nstation,B,N3,3\nstation,C,N4,3\n'
 )
 
 
-def text_of(*path):
+def text_of(*path: str) -> Any:
     with open(os.path.join(ROOT, *path)) as file:
         return file.read()
 
 
-def section(page, title):
+def section(page: Any, title: Any) -> Any:
     """The text under a heading, up to the next one of its rank or a higher one."""
-    marks, rest = re.search(fr'^(#+) {re.escape(title)}\n(.*)', text_of(page), re.S | re.M).groups()
+    marks, rest = matched(fr'^(#+) {re.escape(title)}\n(.*)', text_of(page), re.S | re.M).groups()
     return re.split(fr'^#{{1,{len(marks)}}} ', rest, flags=re.M)[0]
 
 
-def texts_of_the_help():
+def texts_of_the_help() -> Any:
     """Of the program and each subcommand the name and the text, as docs/HTTP.md has them."""
     return re.findall(r'^\| `(\w+)` \| (.*) \|$', section('docs/HTTP.md', 'The command line'), re.M)
 
@@ -61,7 +62,7 @@ AGAIN = {
 
 
 class Page(unittest.TestCase):
-    def test_the_faults(self):
+    def test_the_faults(self) -> None:
         """The faults are those of the program, each once."""
         told = re.findall(
             r'^- \*\*`fault: (\w+)`\*\*', section('docs/OPERATE.md', 'Each fault line'), re.M
@@ -71,7 +72,7 @@ class Page(unittest.TestCase):
         )
         self.assertEqual(sorted(told), sorted(set(re.findall(r'"fault: (\w+)\\n"', source))))
 
-    def test_the_refusals(self):
+    def test_the_refusals(self) -> None:
         """Each has its number; and each name in the table of calls that are asked again is one of a
         refusal."""
         page = section('docs/HTTP.md', 'All refusals')
@@ -87,7 +88,7 @@ class Page(unittest.TestCase):
         for answer, _ in AGAIN.values():
             self.assertTrue(answer in numbers or answer.startswith('`'), answer)
 
-    def test_the_calls_that_are_asked_again(self):
+    def test_the_calls_that_are_asked_again(self) -> None:
         """They are all that change something."""
         page = section('docs/HTTP.md', 'The table of calls')
         calls = [
@@ -96,7 +97,7 @@ class Page(unittest.TestCase):
         calls = [call.replace('../../', '../') for call in calls if not call.startswith('GET ')]
         self.assertEqual(sorted(AGAIN), sorted(calls))
 
-    def test_the_files(self):
+    def test_the_files(self) -> None:
         """What the page and README name of this tree is there."""
         for page in (PAGE, text_of('README.md')):
             names = set(re.findall(r'\b(?:examples|docs|tests|bench|tools)/[\w./-]*\w', page))
@@ -105,7 +106,7 @@ class Page(unittest.TestCase):
                 [name for name in names if not os.path.exists(os.path.join(ROOT, name))], []
             )
 
-    def test_the_texts_of_the_help(self):
+    def test_the_texts_of_the_help(self) -> None:
         """docs/HTTP.md has the text of the program and of each subcommand, in their order, as the
         source has them."""
         source = text_of('crates', 'agv_app_line', 'src', 'line.rt')
@@ -122,17 +123,17 @@ class Page(unittest.TestCase):
 
 
 class Program(unittest.TestCase):
-    def setUp(self):
+    def setUp(self) -> None:
         self.folder = tempfile.TemporaryDirectory()
         self.db = os.path.join(self.folder.name, 'warehouse.db')
 
-    def tearDown(self):
+    def tearDown(self) -> None:
         self.folder.cleanup()
 
-    def path(self, *names):
+    def path(self, *names: str) -> Any:
         return os.path.join(self.folder.name, *names)
 
-    def write(self, lines, db=None):
+    def write(self, lines: Any, db: str | None = None) -> None:
         """Has a file served these requests, each answered by 200."""
         status, out, said = run(
             'replay', '--db', db or self.db, '--at', AT, stdin=b''.join(map(bytes_of, lines))
@@ -140,25 +141,25 @@ class Program(unittest.TestCase):
         self.assertEqual((status, said), (0, b''))
         self.assertEqual(out.count(b'HTTP/1.1 200 OK'), len(lines), out.decode())
 
-    def ask(self, desk, request, body=None):
+    def ask(self, desk: Any, request: Any, body: Any = None) -> tuple[Any, Any]:
         """One request: its status, and its body, as JSON where it is."""
         method, target = request.split(' ')
         data = body if isinstance(body, (str, type(None))) else json.dumps(body)
         status, told = desk.ask(method, target, data.encode() if data is not None else b'')
         return status, json.loads(told) if told[:1] == b'{' else told.decode()
 
-    def done(self, desk, *lines):
+    def done(self, desk: Any, *lines: Any) -> None:
         for request, body, *_ in lines:
             status, told = self.ask(desk, request, body)
             self.assertEqual(
                 (status, told == {'accepted': False}), (200, False), (request, body, told)
             )
 
-    def refused(self, desk, line, name, **more):
+    def refused(self, desk: Any, line: Any, name: str, **more: Any) -> None:
         told = self.ask(desk, *line[:2])[1]
         self.assertEqual({key: told[key] for key in ('name', *more)}, {'name': name, **more}, line)
 
-    def seen(self, desk):
+    def seen(self, desk: Any) -> list[Any]:
         """All that can be asked of the desk."""
         paths = [
             '/report/stock',
@@ -171,16 +172,16 @@ class Program(unittest.TestCase):
 
 
 class CommandLine(Program):
-    def test_the_help(self):
+    def test_the_help(self) -> None:
         """Its first line is the text of docs/HTTP.md."""
         for name, text in texts_of_the_help():
             status, _, said = run(*([] if name == 'desk' else [name]), '--help')
             self.assertEqual((status, said.decode().split('\n')[0]), (2, text))
 
-    def test_the_unit(self):
+    def test_the_unit(self) -> None:
         """Its line is taken, over a file here and with no connection."""
         unit = text_of('examples', 'systemd', 'nulvrader-desk.service')
-        words = shlex.split(re.search('^ExecStart=(.*)$', unit, re.M).group(1))
+        words = shlex.split(matched('^ExecStart=(.*)$', unit, re.M)[1])
         self.assertEqual(
             (words[0], words[3], words[5]),
             ('/usr/lib/nulvrader/desk', '${NULVRADER_DB}', '${NULVRADER_PORT}'),
@@ -205,12 +206,12 @@ echo "$* $(ls copies/*.new/copy.db 2>/dev/null | grep -c new)" >> told
 
 
 class Backup(Program):
-    def setUp(self):
+    def setUp(self) -> None:
         super().setUp()
         self.write([ok('PUT /layout', LAYOUT), vehicle('0001', 'N1'), load('L1', 'A'), load('L2')])
         self.systemctl('active')
 
-    def systemctl(self, active, fails='nothing'):
+    def systemctl(self, active: Any, fails: str = 'nothing') -> None:
         for name, text in (
             ('systemctl', SYSTEMCTL),
             ('active', active + '\n'),
@@ -221,7 +222,7 @@ class Backup(Program):
                 file.write(text)
         os.chmod(self.path('systemctl'), 0o755)
 
-    def back_up(self, *words, db=None):
+    def back_up(self, *words: str, db: str | None = None) -> tuple[Any, Any, Any, Any]:
         line = [
             sys.executable,
             os.path.join(TOOLS, 'backup'),
@@ -241,12 +242,12 @@ class Backup(Program):
         with open(self.path('told')) as file:
             return done.returncode, done.stdout, done.stderr, file.read().splitlines()
 
-    def copies(self):
+    def copies(self) -> Any:
         return (
             sorted(os.listdir(self.path('copies'))) if os.path.exists(self.path('copies')) else []
         )
 
-    def test_a_copy(self):
+    def test_a_copy(self) -> None:
         """It has the rows of the file, and is one file; the unit is stopped before it is made, and
         started behind."""
         status, out, said, told = self.back_up('--unit', 'desk.service')
@@ -263,13 +264,13 @@ class Backup(Program):
             run('report', '--db', copy, 'stock'), run('report', '--db', self.db, 'stock')
         )
 
-    def test_a_unit_that_is_stopped(self):
+    def test_a_unit_that_is_stopped(self) -> None:
         self.systemctl('inactive')
         self.assertEqual(
             self.back_up('--unit', 'desk.service')[::3], (0, ['is-active desk.service 0'])
         )
 
-    def test_a_unit_that_does_not_start_or_stop(self):
+    def test_a_unit_that_does_not_start_or_stop(self) -> None:
         for fails, wanted in (('start', 'started again'), ('stop', 'stopped')):
             self.systemctl('active', fails)
             status, out, said, told = self.back_up('--unit', 'desk.service')
@@ -279,7 +280,7 @@ class Backup(Program):
             self.assertEqual(told[-1].split()[0], 'start')
         self.assertEqual([name for name in self.copies() if not name.endswith('.new')], [])
 
-    def test_the_oldest_are_removed(self):
+    def test_the_oldest_are_removed(self) -> None:
         os.mkdir(self.path('copies'))
         others = ['warehouse-20200101T000000Z.db', 'warehouse-20210101T000000Z.db']
         for name in [*others, 'warehouse.txt', 'other-20200101T000000Z.db']:
@@ -289,7 +290,7 @@ class Backup(Program):
         self.assertEqual(len(found), 4)
         self.assertLess({others[1], 'warehouse.txt', 'other-20200101T000000Z.db'}, set(found))
 
-    def test_files_of_which_there_is_no_copy(self):
+    def test_files_of_which_there_is_no_copy(self) -> None:
         """None that isn't there, none of others, and none whose rows break a rule; the unit is
         started all the same."""
         with contextlib.closing(sqlite3.connect(self.path('others.db'))) as base:
@@ -316,7 +317,7 @@ class Backup(Program):
         self.assertEqual(self.copies(), ['unlawful.new'])
 
     @over_sockets
-    def test_a_desk_that_runs(self):
+    def test_a_desk_that_runs(self) -> None:
         with Serving(self.db):
             status, out, said, _ = self.back_up()
         self.assertEqual((status, out, self.copies()), (1, '', []))
@@ -356,7 +357,7 @@ class PutBack(Program):
     # What stands in the warehouse then, L2 and L5 taken elsewhere by hand.
     STOCK = 'station,load\nA,L4\nA,L5\nB,L1\nC,L2\n'
 
-    def setUp(self):
+    def setUp(self) -> None:
         super().setUp()
         self.write(self.BEFORE)
         self.copy = self.path('copy.db')
@@ -370,7 +371,7 @@ class PutBack(Program):
             desk.process.kill()
             desk.process.wait(300)
 
-    def put_back(self):
+    def put_back(self) -> None:
         """As step 3 of the page has it."""
         os.mkdir(self.path('aside'))
         for name in os.listdir(self.folder.name):
@@ -378,7 +379,7 @@ class PutBack(Program):
                 shutil.move(self.path(name), self.path('aside', name))
         shutil.copy(self.copy, self.db)
 
-    def test_a_log_that_was_left(self):
+    def test_a_log_that_was_left(self) -> None:
         """With it beside the copy, others are read than the rows of the copy; without it just
         those."""
         self.assertGreater(os.path.getsize(self.db + '-wal'), 0)
@@ -394,7 +395,7 @@ class PutBack(Program):
         os.remove(self.db + '-wal')
         self.assertEqual(rows_of(self.db), self.rows)
 
-    def test_what_a_gateway_would_fetch(self):
+    def test_what_a_gateway_would_fetch(self) -> None:
         """The order and the pause of the copy, as long as the vehicle isn't placed. And what it
         reports of an earlier instant-1 ends the one of the copy."""
         self.put_back()
@@ -407,7 +408,7 @@ class PutBack(Program):
             self.done(desk, ok('POST /vehicles/KIT/0001/place', {'ref': '1127-R1', 'node': 'N3'}))
             self.assertEqual(self.ask(desk, 'GET /uagv/v2/KIT/0001/order'), (204, ''))
 
-    def test_all_steps(self):
+    def test_all_steps(self) -> None:
         """The vehicles have changed places since: KIT/0001 stands at N4 and KIT/0002 at N1."""
         self.put_back()
         with contextlib.closing(sqlite3.connect(self.db)) as base:
@@ -416,7 +417,7 @@ class PutBack(Program):
         self.assertEqual(waiting, ['J2'])
         refs = (f'1127-R{number}' for number in range(1, 100))
 
-        def place(serial, node):
+        def place(serial: str, node: str) -> Any:
             return ok(f'POST /vehicles/KIT/{serial}/place', {'ref': next(refs), 'node': node})
 
         with Serving(self.db) as desk:
@@ -474,12 +475,14 @@ class AskedAgain(Program):
         ('POST /vehicles/../cancel', f'POST {VEHICLE}/cancel', ''),
         ('POST /vehicles/../place', f'POST {VEHICLE}/place', {'ref': 'R3', 'node': 'N2'}),
         ('POST /vehicles/../resync', f'POST {VEHICLE}/resync', ''),
+        (None, *state(5, node='N2')),
+        ('POST /drives', *calls.drive('G1', 'N3', 0)),
         (None, 'POST /loads/L1/correct', {'ref': 'R4'}),
         ('POST /stocktakes/..', 'POST /stocktakes/R5', 'station,load\nA,\nB,L1\nC,L9\n'),
     ]
     TARGETS = {'`GET /vehicles/..`': 'GET ' + VEHICLE, '`GET /report/stock`': 'GET /report/stock'}
 
-    def test_each_call(self):
+    def test_each_call(self) -> None:
         """Asked again, it is answered as the page has it, and nothing changes; what shows that it
         was done is there."""
         self.assertEqual({call for call, *_ in self.STEPS if call}, set(AGAIN))
@@ -505,9 +508,11 @@ class AskedAgain(Program):
                 (200, {'moved': 0, 'unknown': ['L9']}),
             )
 
-    def check_shown(self, desk, request, body, shown):
+    def check_shown(self, desk: Any, request: str, body: Any, shown: Any) -> None:
         """The question that the page names has the members that it names."""
         target = self.TARGETS.get(shown.split(':')[0].split(' has')[0])
+        if shown.startswith('`GET /jobs/../phase`: '):
+            target = f'GET /jobs/{(body or {}).get("job", "J0")}/phase'
         if target is None:
             self.assertTrue(shown.startswith('`GET /loads/..`: '), shown)
             of_load = re.search('/loads/(L[0-9])', request)
@@ -523,11 +528,11 @@ class AskedAgain(Program):
 
 @over_sockets
 class DayByDay(Program):
-    def holds(self, desk, *lines):
+    def holds(self, desk: Any, *lines: Any) -> None:
         told = self.ask(desk, 'GET /report/holds')[1].splitlines()
         self.assertEqual(told[:-1], list(lines))
 
-    def test_two_vehicles_that_wait_for_one_another(self):
+    def test_two_vehicles_that_wait_for_one_another(self) -> None:
         """KIT/0001 stands at N2 and is to fetch L2 at N3, where KIT/0002 stands and is to come by
         N2."""
         with Serving(self.db) as desk:
@@ -575,7 +580,7 @@ class DayByDay(Program):
             self.refused(desk, job('J1', 'L2', 'A'), 'Exists')
             self.done(desk, job('J4', 'L2', 'A'))
 
-    def test_an_order_that_the_vehicle_rejects(self):
+    def test_an_order_that_the_vehicle_rejects(self) -> None:
         """A cancel doesn't end it, whatever becomes of the cancel; a person who places the vehicle
         does."""
         for status in ('FAILED', 'FINISHED'):
@@ -597,7 +602,7 @@ class DayByDay(Program):
                 self.done(desk, ok('POST /vehicles/KIT/0001/place', {'ref': 'R1', 'node': 'N1'}))
                 self.assertIsNone(self.ask(desk, 'GET /vehicles/KIT/0001')[1]['order'])
 
-    def test_a_vehicle_that_was_restarted(self):
+    def test_a_vehicle_that_was_restarted(self) -> None:
         with Serving(self.db) as desk:
             self.done(
                 desk,
@@ -653,7 +658,7 @@ class NewFile(Program):
         ok('DELETE /jobs/J3'),
     ]
 
-    def carry(self, desk):
+    def carry(self, desk: Any) -> tuple[Any, Any, Any]:
         old = self.path('old.db')
         line = [
             sys.executable,
@@ -666,7 +671,7 @@ class NewFile(Program):
         done = subprocess.run(line, capture_output=True, text=True, timeout=600)
         return done.returncode, done.stdout, done.stderr
 
-    def test_a_new_file(self):
+    def test_a_new_file(self) -> None:
         """It has the layout, the vehicles, the loads that have not left and the jobs that wait;
         carried over once more, nothing changes. What others have put there is told."""
         self.write(self.OLD, self.path('old.db'))
@@ -695,7 +700,7 @@ class NewFile(Program):
         self.assertEqual(export_of_rows(new), wanted)
         self.assertEqual([row[0] for row in new['job']], ['J2'])
 
-    def test_what_is_in_the_way(self):
+    def test_what_is_in_the_way(self) -> None:
         """An order, an instant action, a vehicle astray, and a load on a vehicle: nothing is
         begun."""
         self.write(

@@ -14,16 +14,16 @@ from tests.support.programs import ROOT
 # The most words of a page that has fewer or more than the others may have, and of all pages.
 MOST = {
     'README.md': 1300,
-    'PERFORMANCE.md': 1350,
+    'PERFORMANCE.md': 1440,
     'GATE.md': 900,
-    'HTTP.md': 3600,
-    'DECISIONS.md': 4000,
+    'HTTP.md': 3700,
+    'DECISIONS.md': 4300,
     'MODEL.md': 5000,
-    'OPERATE.md': 7500,
+    'OPERATE.md': 8600,
     'SECURITY.md': 900,
     'TWO_MACHINES.md': 1500,
 }
-MOST_OF_A_PAGE, MOST_OF_ALL = 3500, 39200
+MOST_OF_A_PAGE, MOST_OF_ALL = 3500, 42500
 
 
 def pages() -> dict[str, str]:

@@ -25,7 +25,7 @@ ask = programs.module('ask')
 class Desk(Process):
     """The program on a port that is known before."""
 
-    def __init__(self, db: str, port: int) -> None:
+    def __init__(self, db: str, port: Any) -> None:
         super().__init__(
             [PROGRAM, 'serve', '--db', db, '--port', str(port), '--connections', '1000']
         )

@@ -12,8 +12,9 @@ import subprocess
 import tempfile
 import threading
 import unittest
+from typing import Any
 
-from tests.support.programs import ROOT
+from tests.support.programs import ROOT, matched
 from tests.support.desks import DESK, Serving, over_sockets
 
 PORT = '8080'
@@ -25,15 +26,15 @@ MOMENT = re.compile(
 )
 
 
-def blocks_of(page, title):
+def blocks_of(page: Any, title: Any) -> Any:
     """The fenced blocks of a section: each its language, as `sh` or nothing, and its text."""
     with open(os.path.join(ROOT, page)) as file:
         text = file.read()
-    section = re.search(fr'^## {re.escape(title)}\n(.*?)(?=^## |\Z)', text, re.S | re.M).group(1)
+    section = matched(fr'^## {re.escape(title)}\n(.*?)(?=^## |\Z)', text, re.S | re.M)[1]
     return re.findall(r'^```(\w*)\n(.*?)^```$', section, re.S | re.M)
 
 
-def session_of(blocks):
+def session_of(blocks: Any) -> Any:
     """Each block of commands with the answers that are shown under it."""
     found = []
     for at, (language, text) in enumerate(blocks):
@@ -45,11 +46,11 @@ def session_of(blocks):
     return found
 
 
-def without_moments(text):
+def without_moments(text: str) -> Any:
     return MOMENT.sub('MOMENT', text)
 
 
-def words_of_serving(blocks):
+def words_of_serving(blocks: Any) -> Any:
     """The words behind `./desk` of the section's line that starts the desk."""
     lines = [
         line
@@ -63,15 +64,15 @@ def words_of_serving(blocks):
     return shlex.split(lines[0])[1:]
 
 
-def front_of(data):
+def front_of(data: bytes) -> Any:
     """The request at the front of these bytes, or nothing where it is not whole."""
     head, end, body = data.partition(b'\r\n\r\n')
-    length = re.search(rb'^Content-Length: *([0-9]+)', head, re.I | re.M)
-    length = int(length.group(1)) if length else 0
+    said = re.search(rb'^Content-Length: *([0-9]+)', head, re.I | re.M)
+    length = int(said[1]) if said else 0
     return head + end + body[:length] if end and len(body) >= length else b''
 
 
-def meaning_of(request):
+def meaning_of(request: Any) -> Any:
     """The method, the path and the body of a request; a body of JSON as its value."""
     head, _, body = request.decode().partition('\r\n\r\n')
     try:
@@ -84,17 +85,18 @@ def meaning_of(request):
 class Relay:
     """Hands each request on to the desk, by a connection of its own, and keeps it."""
 
-    def __init__(self, desk):
-        self.desk, self.seen = desk, []
+    def __init__(self, desk: Any) -> None:
+        self.desk = desk
+        self.seen: list[Any] = []
 
-    def __enter__(self):
+    def __enter__(self) -> Any:
         self.listener = socket.create_server(('127.0.0.1', 0))
         self.port = self.listener.getsockname()[1]
         self.thread = threading.Thread(target=self.run)
         self.thread.start()
         return self
 
-    def run(self):
+    def run(self) -> None:
         while True:
             try:
                 conn, _ = self.listener.accept()
@@ -110,7 +112,7 @@ class Relay:
                 while more := desk.recv(65536):
                     conn.sendall(more)
 
-    def __exit__(self, *_):
+    def __exit__(self, *_: str) -> None:
         self.listener.shutdown(socket.SHUT_RDWR)
         self.listener.close()
         self.thread.join()
@@ -118,7 +120,7 @@ class Relay:
 
 @over_sockets
 class Pages(unittest.TestCase):
-    def check(self, page, title):
+    def check(self, page: Any, title: str) -> Any:
         """Runs a section's commands in one shell, and compares what each block writes."""
         self.assertIsNotNone(shutil.which('curl'), 'curl is needed here')
         blocks = blocks_of(page, title)
@@ -145,7 +147,7 @@ class Pages(unittest.TestCase):
                 self.assertEqual(without_moments(found), without_moments(answers), commands)
             return self.questions(folder) if page == 'README.md' else None
 
-    def questions(self, folder):
+    def questions(self, folder: str) -> int:
         """What README asks of the file once the desk is stopped; each line as `sqlite3` writes
         it."""
         ((commands, answers),) = session_of(blocks_of('README.md', 'What is in the file'))
@@ -162,13 +164,13 @@ class Pages(unittest.TestCase):
         self.assertEqual(told, answers.splitlines())
         return len(told)
 
-    def test_readme(self):
+    def test_readme(self) -> None:
         self.assertGreater(self.check('README.md', 'A session'), 0)
 
-    def test_each_call(self):
+    def test_each_call(self) -> None:
         self.check('docs/HTTP.md', 'Each call by an example')
 
-    def test_the_session_is_the_file(self):
+    def test_the_session_is_the_file(self) -> None:
         """What curl sends in the session of docs/HTTP.md are the requests of `examples/calls.http`,
         one after the other."""
         blocks = blocks_of('docs/HTTP.md', 'Each call by an example')
@@ -199,7 +201,7 @@ class Pages(unittest.TestCase):
 
 
 class Statements(unittest.TestCase):
-    def test_plans_are_kept(self):
+    def test_plans_are_kept(self) -> None:
         """The statements that serve have as many texts as docs/DECISIONS.md says, fewer than the
         plans that a connection keeps."""
         texts, folder = set(), os.path.join(ROOT, 'crates', 'agv_store_sql', 'src')
@@ -209,7 +211,7 @@ class Statements(unittest.TestCase):
             texts |= set(re.findall(r'"((?:INSERT|DELETE|UPDATE|SELECT)\b[^"]*)"', code))
         with open(os.path.join(ROOT, 'docs', 'DECISIONS.md')) as file:
             page = ' '.join(file.read().split())
-        said = re.search(
+        said = matched(
             r'What serves has at most (\d+) texts, and a connection keeps (\d+) plans', page
         )
         self.assertEqual(int(said.group(1)), len(texts))
@@ -218,7 +220,7 @@ class Statements(unittest.TestCase):
 
 
 class Lines(unittest.TestCase):
-    def test_pages_keep_their_width(self):
+    def test_pages_keep_their_width(self) -> None:
         """Each line of a page has less than 100 signs, also in a table and in a block."""
         pages = [os.path.join(ROOT, 'README.md')] + [
             os.path.join(ROOT, 'docs', name)
@@ -234,7 +236,7 @@ class Lines(unittest.TestCase):
                     page,
                 )
 
-    def test_the_questions_of_the_page(self):
+    def test_the_questions_of_the_page(self) -> None:
         """Each question of docs/TABLES.md is answered by the file of a desk, here at the end of the
         worked transport: L1 is at B, and the vehicle holds N3 alone."""
         text = blocks_of('docs/TABLES.md', 'Questions that a person may ask')[0][1]
@@ -269,9 +271,9 @@ class Lines(unittest.TestCase):
             ],
         )
 
-    def test_the_command_that_replays(self):
+    def test_the_command_that_replays(self) -> None:
         """That command of README answers each request of the file that it is given."""
-        blocks = blocks_of('README.md', 'With proofs')
+        blocks = blocks_of('README.md', 'The first five minutes')
         (command,) = [text for _, text in blocks if text.startswith('./desk replay')]
         words, file = command.rstrip('\n').split(' < ')
         words = shlex.split(words)

@@ -2,12 +2,16 @@
 `./check` compares it with the program that the gate has built. In a small tree, over a stand-in for
 `rt`."""
 import os
+import pathlib
+import resource
 import shutil
 import subprocess
+import tempfile
 import unittest
+from unittest import mock
 
-from tests.support.desk_tree import ECHO, PRINTED, REPLAY, Tree
-from tests.support.programs import ROOT
+from tests.support.desk_tree import ECHO, PRINTED, REPLAY, TOOLS, Tree
+from tests.support.programs import ROOT, module
 
 RELEASED = 'desk: proved in release 0.1.0, of these sources\n'
 PROGRAM = 'crates/agv_app/out/agv_app'
@@ -189,6 +193,22 @@ class Released(Tree):
         os.remove(os.path.join(self.top, PROGRAM))
         self.assertEqual(self.check(), (1, '5 passed, 1 failed'))
 
+    def test_the_package_has_it(self) -> None:
+        """`dev/make-deb` takes it if it is whole and of these sources, and nothing else."""
+        maker = module('make-deb', 'dev')
+        self.enterContext(mock.patch.object(maker, 'TOP', pathlib.Path(self.top)))
+        self.assertEqual(maker.released(), ECHO.encode())
+        for path, why in (
+            ('release/desk.gz', 'is damaged'),
+            ('release/RELEASE', 'is damaged'),
+            ('crates/agv_app/src/lib.rt', 'of other sources'),
+        ):
+            self.change(path, 3)
+            self.assertRaisesRegex(maker.Fault, why, maker.released)
+            self.change(path, 3)
+        os.remove(os.path.join(self.top, 'release', 'SHA256SUMS'))
+        self.assertRaisesRegex(maker.Fault, 'there is no release', maker.released)
+
     def test_what_is_unpacked_is_looked_at(self) -> None:
         self.run_desk(*REPLAY)
         self.change('build/release/desk')
@@ -226,14 +246,52 @@ class Released(Tree):
         self.assertIn('the file: 1 of %d bytes, the first at 0x4\n' % len(ECHO), said)
 
 
+def why_not() -> str:
+    """Why nothing is asked of the release of this repository; nothing if it is."""
+    if not os.path.exists(os.path.join(ROOT, 'release')):
+        return 'there is no release'
+    with open(os.path.join(ROOT, 'release', 'sources.sha256'), 'rb') as file:
+        listed = file.read()
+    line = [os.path.join(ROOT, 'dev', 'sources')]
+    if subprocess.run(line, stdout=subprocess.PIPE, check=True).stdout != listed:
+        return 'the release is of other sources'
+    return '' if os.path.exists(os.path.join(ROOT, '.git')) else 'this is no repository of git'
+
+
+@unittest.skipIf(why_not(), why_not())
 class OfThisRepository(unittest.TestCase):
-    @unittest.skipUnless(os.path.exists(os.path.join(ROOT, 'release')), 'there is no release')
     def test_it_is_as_it_was_made(self) -> None:
         line = ['sha256sum', '--check', '--strict', '--quiet', 'SHA256SUMS']
         done = subprocess.run(
             line, cwd=os.path.join(ROOT, 'release'), capture_output=True, text=True
         )
         self.assertEqual((done.returncode, done.stdout), (0, ''))
+
+    def test_a_clean_clone_answers_at_once(self) -> None:
+        """Within three seconds of a processor, without the kit, Python or a network: from nothing,
+        and again."""
+        folder = tempfile.mkdtemp()
+        self.addCleanup(shutil.rmtree, folder)
+        subprocess.run(['git', 'clone', '--quiet', ROOT, f'{folder}/clone'], check=True)
+        tools = (*TOOLS, 'cp')
+        os.mkdir(f'{folder}/bin')
+        for tool in (tool for tool in tools if shutil.which(tool)):
+            os.symlink(str(shutil.which(tool)), f'{folder}/bin/{tool}')
+        for _ in range(2):
+            with open(os.path.join(ROOT, 'examples', 'transport.http'), 'rb') as said:
+                before = resource.getrusage(resource.RUSAGE_CHILDREN)
+                done = subprocess.run(
+                    [f'{folder}/clone/desk', 'replay', '--db', 'memory', '--at', '1700000000000'],
+                    stdin=said,
+                    capture_output=True,
+                    text=True,
+                    env={'PATH': f'{folder}/bin'},
+                )
+            after = resource.getrusage(resource.RUSAGE_CHILDREN)
+            self.assertEqual((done.returncode, done.stderr), (0, RELEASED))
+            self.assertTrue(done.stdout.endswith('vehicle KIT/0001: 0\nleft: 0\n'))
+            spent = after.ru_utime + after.ru_stime - before.ru_utime - before.ru_stime
+            self.assertLess(spent, 3)
 
 
 if __name__ == '__main__':

@@ -11,7 +11,7 @@ import unittest
 from tests.support.programs import ROOT
 
 ATTACKS = os.path.join(ROOT, 'tests', 'attacks')
-MOST = 900  # words
+MOST = 1020  # words
 
 
 def page() -> str:

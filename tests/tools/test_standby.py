@@ -414,14 +414,15 @@ class ClusterWords(unittest.TestCase):
 
     def test_properties(self) -> None:
         """Fencing that is off, and a cluster that goes on without a majority, are wrong."""
-        for pairs, wrong in (
+        cases: tuple[tuple[dict[str, str], int], ...] = (
             ({'stonith-enabled': 'true', 'no-quorum-policy': 'stop'}, 0),
             ({}, 0),
             ({'stonith-enabled': 'false'}, 1),
             ({'no-quorum-policy': 'ignore'}, 1),
             ({'stonith-watchdog-timeout': '15s'}, 1),
             ({'stonith-watchdog-timeout': '15s', 'have-watchdog': 'true'}, 0),
-        ):
+        )
+        for pairs, wrong in cases:
             text = ''.join(
                 f'<nvpair name="{one}" value="{value}"/>' for one, value in pairs.items()
             )

@@ -1,5 +1,5 @@
-"""The form of all Python here: what black and flake8 say of it, with the settings of pyproject.toml
-and .flake8; and the files that texts name are there."""
+"""The form of all Python here: what black, flake8 and mypy say of it, with the settings of
+pyproject.toml and .flake8; and the files that texts name are there."""
 from __future__ import annotations
 
 import ast
@@ -13,6 +13,14 @@ from tests.support.programs import ROOT
 
 FOLDERS = ('tools', 'dev', 'tests', 'bench', 'examples')
 PYTHON = '#!/usr/bin/env python3\n'
+MOST_LINES = 50  # of a function
+LONG = {
+    'bench/soak: main',
+    'tests/board/test_board.py: test_a_transport',
+    'tests/board/test_board.py: test_old_rows_are_removed',
+    'tests/board/test_board_page.py: test_an_order',
+    'tests/support/traffic.py: state',
+}
 NAMED = re.compile(r'(?<![\w./-])(?:tools|dev|tests|bench|examples)/[\w/.-]*\w(?![\w/*<{-]|\.\*)')
 MODULE = re.compile(r'(?<![\w./*-])\w+\.py\b')
 
@@ -59,6 +67,30 @@ class Form(unittest.TestCase):
 
     def test_flake8(self) -> None:
         self.check('flake8', '--jobs', '1')
+
+    def test_mypy(self) -> None:
+        """Types are right as `mypy --strict` has it, but for what pyproject.toml names. (A program
+        may have the name of one in another folder.)"""
+        if not shutil.which('mypy'):
+            self.skipTest('mypy is not here')
+        for folder in FOLDERS:
+            with self.subTest(folder):
+                top = os.path.join(ROOT, folder) + os.sep
+                paths = [path for path in files() if path.startswith(top)]
+                done = subprocess.run(
+                    ['mypy', *paths], cwd=ROOT, capture_output=True, text=True, timeout=3600
+                )
+                self.assertEqual(done.returncode, 0, done.stdout + done.stderr)
+
+    def test_functions_are_short(self) -> None:
+        """No function has more than 50 lines, but for those that are named here."""
+        found = set()
+        for path in files():
+            for node in ast.walk(ast.parse(text_of(path))):
+                if isinstance(node, (ast.FunctionDef, ast.AsyncFunctionDef)):
+                    if (node.end_lineno or 0) - node.lineno >= MOST_LINES:
+                        found.add(f'{os.path.relpath(path, ROOT)}: {node.name}')
+        self.assertLessEqual(found, LONG)
 
     def test_no_test_module_takes_from_another(self) -> None:
         """What tests share is in `tests/support`."""

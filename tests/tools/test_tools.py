@@ -11,9 +11,10 @@ import sys
 import tempfile
 import unittest
 from unittest import mock
+from typing import Any
 
 from nulvrader.file import machine
-from tests.support.programs import ROOT, TOOLS, ran
+from tests.support.programs import ROOT, TOOLS, matched, ran
 from tests.support.desks import AT, DESK, Serving, over_sockets, run
 from tests.support.scripts import LAYOUT, bytes_of, load, ok, vehicle
 
@@ -23,18 +24,18 @@ PYTHON = '#!/usr/bin/env python3\n'
 EXAMPLES = os.path.join(ROOT, 'examples')
 
 
-def text_of(path):
+def text_of(path: str) -> Any:
     with open(path) as file:
         return file.read()
 
 
-def programs_in(folder):
+def programs_in(folder: str) -> list[Any]:
     """The programs in Python of a folder, whose names have no ending."""
     paths = [os.path.join(folder, name) for name in sorted(os.listdir(folder)) if '.' not in name]
     return [path for path in paths if os.path.isfile(path) and text_of(path).startswith(PYTHON)]
 
 
-def files_below(folder):
+def files_below(folder: str) -> Any:
     """All files in Python of a folder and those in it."""
     found = []
     for path, _, names in os.walk(folder):
@@ -44,7 +45,7 @@ def files_below(folder):
     return found
 
 
-def command(name):
+def command(name: str) -> Any:
     """How a checker is run: as a module of this Python, or as a program; or None."""
     if importlib.util.find_spec(name):
         return [sys.executable, '-m', name]
@@ -53,7 +54,7 @@ def command(name):
 
 
 class Programs(unittest.TestCase):
-    def test_the_help(self):
+    def test_the_help(self) -> None:
         """It has the text at the head of the program, whose last sentence is whole, and in it an
         example."""
         for path in programs_in(TOOLS) + programs_in(DEV) + programs_in(EXAMPLES):
@@ -64,12 +65,12 @@ class Programs(unittest.TestCase):
                     [sys.executable, path, '--help'], capture_output=True, text=True, timeout=600
                 )
                 self.assertEqual((done.returncode, done.stderr), (0, ''))
-                head = re.search('"""(.*?)"""', text_of(path), re.S).group(1)
+                head = matched('"""(.*?)"""', text_of(path), re.S)[1]
                 self.assertIn(head.strip(), done.stdout)
                 if name != 'tools/nulvrader-cli':
                     self.assertRegex(head, fr'(?m)^    {name} ')
 
-    def test_the_help_of_the_scripts(self):
+    def test_the_help_of_the_scripts(self) -> None:
         """It has the comment at the head of the script, and in it an example; a port that is none
         is told."""
         paths = [
@@ -79,7 +80,7 @@ class Programs(unittest.TestCase):
         ]
         self.assertEqual(len(paths), 1)
         for path in paths:
-            head = re.match(r'#!/bin/sh\n((?:#.*\n)+)', text_of(path)).group(1)
+            head = matched(r'\A#!/bin/sh\n((?:#.*\n)+)', text_of(path))[1]
             for word in ('--help', '-h'):
                 done = subprocess.run([path, word], capture_output=True, text=True, timeout=600)
                 self.assertEqual((done.returncode, done.stderr), (0, ''))
@@ -93,7 +94,7 @@ class Programs(unittest.TestCase):
                 )
 
     @over_sockets
-    def test_a_free_port(self):
+    def test_a_free_port(self) -> None:
         """The system gives it to no connection, and a program may listen on it."""
         for given in (machine.given_ports(), range(1500, 61000)):
             with mock.patch.object(machine, 'given_ports', lambda: given):
@@ -103,10 +104,10 @@ class Programs(unittest.TestCase):
                     with socket.create_server(('127.0.0.1', port)) as listener:
                         self.assertEqual(listener.getsockname()[1], port)
 
-    def test_one_client(self):
+    def test_one_client(self) -> None:
         """Of all files in Python of tools/ and examples/ one alone has a client of HTTP, but for
-        the simulated plant, whose wire is quicker and says why; no other one begins a
-        connection."""
+        the simulated plant, whose wire is quicker and says why, and for what posts to receivers of
+        webhooks, which are no desks; no other one begins a connection."""
         files = files_below(TOOLS) + files_below(EXAMPLES)
         spoken = re.compile(
             (
@@ -116,18 +117,21 @@ class Programs(unittest.TestCase):
             re.M,
         )
         self.assertEqual(
-            [os.path.basename(path) for path in files if spoken.search(text_of(path))],
-            ['client.py'],
+            sorted(os.path.basename(path) for path in files if spoken.search(text_of(path))),
+            ['client.py', 'receiver.py'],
         )
         begun = re.compile(r'\bcreate_connection\(|\.connect\(\(')
         self.assertEqual(
-            [os.path.relpath(path, ROOT) for path in files if begun.search(text_of(path))],
-            ['examples/simulation/desks.py'],
+            sorted(os.path.relpath(path, ROOT) for path in files if begun.search(text_of(path))),
+            [
+                'examples/simulation/desks.py',
+                'tools/nulvrader/board/api/webhooks/receiver.py',  # of UDP: nothing is sent
+            ],
         )
         self.assertGreater(len(files), 20)
 
     @over_sockets
-    def test_a_file_that_is_read_stays_as_it_is(self):
+    def test_a_file_that_is_read_stays_as_it_is(self) -> None:
         """By each tool that reads the file of a stopped desk: no byte of it or of its log is
         another then, and nothing lies beside them."""
         with tempfile.TemporaryDirectory() as folder:
@@ -170,7 +174,7 @@ class Programs(unittest.TestCase):
                         self.assertEqual(self.files_of(at['old']), before)
 
     @staticmethod
-    def files_of(folder):
+    def files_of(folder: str) -> Any:
         """By name the bytes of each file, and when they were last changed."""
         found = {}
         for name in sorted(os.listdir(folder)):
@@ -178,7 +182,7 @@ class Programs(unittest.TestCase):
                 found[name] = file.read(), os.stat(file.fileno()).st_mtime_ns
         return found
 
-    def test_a_file_that_another_sqlite_left_amid_a_change(self):
+    def test_a_file_that_another_sqlite_left_amid_a_change(self) -> None:
         """It is not read: what it has is not what it had."""
         with tempfile.TemporaryDirectory() as folder:
             db = os.path.join(folder, 'warehouse.db')
@@ -195,7 +199,7 @@ class Programs(unittest.TestCase):
             )
 
     @unittest.skipUnless(command('mypy'), 'mypy is not here')
-    def test_types(self):
+    def test_types(self) -> None:
         """`mypy --strict` over the packages and each program."""
         parts = [
             PACKAGE,
@@ -213,11 +217,11 @@ class Programs(unittest.TestCase):
                 cache,
                 *parts,
             ]
-            done = subprocess.run(line, capture_output=True, text=True, cwd=TOOLS, timeout=600)
+            done = subprocess.run(line, capture_output=True, text=True, cwd=ROOT, timeout=600)
         self.assertEqual(done.returncode, 0, done.stdout + done.stderr)
 
     @unittest.skipUnless(command('pyflakes'), 'pyflakes is not here')
-    def test_names(self):
+    def test_names(self) -> None:
         """pyflakes finds no name that is unknown or unused."""
         line = [
             *command('pyflakes'),

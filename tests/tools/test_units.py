@@ -9,7 +9,7 @@ import subprocess
 import tempfile
 import unittest
 
-from nulvrader.admin import conf
+from nulvrader.admin import conf, units
 from tests.support.programs import ROOT, TOOLS
 
 FOLDER = os.path.join(ROOT, 'examples', 'systemd')
@@ -34,6 +34,56 @@ def rows(name: str) -> list[list[str]]:
     return [line.split() for line in text_of(name).splitlines() if line[:1] not in ('', '#')]
 
 
+STANDBY = os.path.join(ROOT, 'examples', 'standby')
+PAGES = ('README.md', 'docs/OPERATE.md', 'docs/TWO_MACHINES.md', 'docs/DECISIONS.md')
+UNIT = r'[\w@-]+\.(?:service|socket|timer|mount)\b'
+# Units of Debian's packages that a page or an example names.
+OF_DEBIAN = {
+    'glusterd.service',
+    'mosquitto.service',
+    'nginx.service',
+    'nftables.service',
+    'systemd-time-wait-sync.service',
+}
+
+
+def named_in(path: str) -> set[str]:
+    """The units that a page or an example names: with their ends, to Pacemaker, and to
+    systemctl."""
+    with open(path, encoding='utf-8') as file:
+        text = file.read()
+    found = set(re.findall(UNIT, text))
+    found |= {f'{name}.service' for name in re.findall(r'\bsystemd:([\w@-]+)', text)}
+    lines = re.findall('`systemctl ([^`]+)`', text) + re.findall(r'\bsystemctl ([^`\n]+)\n', text)
+    for line in lines:
+        _, *words = re.split('[&|#]', line)[0].split()
+        names = [word for word in words if re.fullmatch(r'[a-z][\w@.-]*', word)]
+        found |= {name if '.' in name else f'{name}.service' for name in names}
+    return found
+
+
+class Pages(unittest.TestCase):
+    def test_what_pages_and_examples_name(self) -> None:
+        """Each unit that one of them names is there, so that nobody stops, disables or excludes
+        one in vain."""
+        known = {*NAMES, *os.listdir(STANDBY), *OF_DEBIAN}
+        paths = [os.path.join(ROOT, name) for name in PAGES]
+        paths += [os.path.join(STANDBY, name) for name in os.listdir(STANDBY)]
+        for path in paths:
+            self.assertLessEqual(named_in(path), known, path)
+
+    def test_the_standby_excludes_the_desk(self) -> None:
+        """systemd stops the desk of the package, and what listens on its socket, before that of the
+        standby is started, and the page has it never started on two machines."""
+        wanted = {name for name in NAMES if re.match('nulvrader-(desk|proxy)', name)}
+        with open(os.path.join(STANDBY, 'desk-standby.service'), encoding='utf-8') as file:
+            (line,) = re.findall('^Conflicts=(.*)$', file.read(), re.M)
+        self.assertEqual(set(line.split()), wanted)
+        with open(os.path.join(ROOT, 'docs', 'TWO_MACHINES.md'), encoding='utf-8') as file:
+            (line,) = re.findall('^ *systemctl mask --now (.*)$', file.read(), re.M)
+        self.assertEqual(set(line.split()), wanted)
+
+
 class Names(unittest.TestCase):
     def test_users_and_groups(self) -> None:
         """Each user and group of a unit is made by sysusers.conf, and no other."""
@@ -51,8 +101,12 @@ class Names(unittest.TestCase):
         self.assertLessEqual(owners, users | groups | system)
 
     def test_folders(self) -> None:
-        """tmpfiles.conf makes each folder of a unit, for its user and with its mode."""
+        """tmpfiles.conf makes each folder of a unit, for its user and with its mode, and no other
+        one in /var/lib."""
         made = {path: (mode, user) for _, path, mode, user, _ in rows('tmpfiles.conf')}
+        state = {f'/var/lib/{one}' for name in SERVICES for one in said(name, 'StateDirectory')}
+        found = {path for path in made if path.startswith('/var/lib/nulvrader/')}
+        self.assertEqual(found, state)
         for name in SERVICES:
             for folder in said(name, 'StateDirectory'):
                 (mode,), (user,) = said(name, 'StateDirectoryMode'), said(name, 'User')
@@ -85,6 +139,7 @@ class Names(unittest.TestCase):
         (line,) = said('nulvrader-proxy.service', 'ExecStart')
         self.assertEqual(line.split()[1], '127.0.0.1:${NULVRADER_PORT}')
         self.assertEqual(said('nulvrader-proxy.socket', 'SocketMode'), ['0660'])
+        self.assertEqual(said('nulvrader-proxy.socket', 'RemoveOnStop'), ['yes'])
 
     def test_who_is_in_the_network_of_the_desk(self) -> None:
         """The desk and its proxy join it, and nothing else."""
@@ -95,9 +150,8 @@ class Names(unittest.TestCase):
             self.assertIn('nulvrader-network.service', said(name, 'Requires')[0].split())
             self.assertIn('nulvrader-network.service', said(name, 'After')[0].split())
         private = [name for name in SERVICES if said(name, 'PrivateNetwork') == ['yes']]
-        self.assertEqual(
-            private, [name for name in SERVICES if name != 'nulvrader-gateway.service']
-        )
+        with_network = [f'nulvrader-{name}.service' for name in ('gateway', 'webhooks')]
+        self.assertEqual(private, [name for name in SERVICES if name not in with_network])
 
     def test_they_are_started_again(self) -> None:
         """However often one ends, it is started again; only the desk's own arguments end it for
@@ -108,6 +162,13 @@ class Names(unittest.TestCase):
                 self.assertEqual(said(name, 'StartLimitIntervalSec'), ['0'], name)
                 ends = ['2'] if name == 'nulvrader-desk.service' else []
                 self.assertEqual(said(name, 'RestartPreventExitStatus'), ends, name)
+
+    def test_while_a_copy_is_put_back(self) -> None:
+        """What fetches from the desk, or commands it, is not started then, at a boot either."""
+        wanted = [f'!{units.MARK}']
+        for name in SERVICES:
+            stays = name in [f'nulvrader-{one}.service' for one in ('board', 'dispatch', 'gateway')]
+            self.assertEqual(said(name, 'ConditionPathExists'), wanted if stays else [], name)
 
     def test_nothing_runs_as_root(self) -> None:
         """But for what says why the desk has ended, which has to see the programs of all users."""
@@ -133,9 +194,14 @@ class Names(unittest.TestCase):
                             '/usr/bin/nulvrader', os.path.abspath(f'{TOOLS}/nulvrader-cli')
                         )
                     )
-            units = [os.path.join(folder, name) for name in os.listdir(folder)]
+            standby = os.path.join(STANDBY, 'desk-standby.service')
+            with open(standby, encoding='utf-8') as file:
+                text = file.read().replace('/usr/lib/nulvrader/tools/', f'{TOOLS}/')
+            with open(os.path.join(folder, 'desk-standby.service'), 'w', encoding='utf-8') as file:
+                file.write(text)
+            paths = [os.path.join(folder, name) for name in os.listdir(folder)]
             env = {**os.environ, 'SYSTEMD_UNIT_PATH': f'{folder}:'}
-            line = ['systemd-analyze', 'verify', '--man=no', *units]
+            line = ['systemd-analyze', 'verify', '--man=no', *paths]
             done = subprocess.run(line, capture_output=True, text=True, check=False, env=env)
         lines = [one for one in done.stderr.splitlines() if folder in one or 'nulvrader' in one]
         self.assertEqual(lines, [])

@@ -8,11 +8,12 @@ import re
 import shutil
 import sqlite3
 import unittest
+from typing import Any
 
-from tests.support.breaks import ALONE, BREAKS
+from tests.support.breaks import ALONE, BREAKS, DRIVE_BREAKS
 from nulvrader.file.rows import read_rows
 from nulvrader.file.rules import RULES
-from tests.support.damages import SHAPES, asked, damaged
+from tests.support.damages import DRIVEN, FILLED, SHAPES, asked, damaged
 from tests.support.desks import AT, run
 from tests.support.records import breaches
 from tests.support.scripts import SCRIPTS
@@ -31,8 +32,101 @@ SHAPES_TOLD = [
 DAMAGES = int(os.environ.get('DAMAGES', '28'))  # changes at random, of the database and of the log
 
 
-class Rows(WhyTest):
-    def pairs(self, statements):
+# Tables whose SQL texts say what nothing else of SQLite tells, and what is told of that.
+SAID_BY_TEXTS = (
+    (
+        (
+            'DROP TABLE used; CREATE TABLE used (kind TEXT, id TEXT CHECK (id > 0), PRIMARY'
+            ' KEY (kind, id)) STRICT'
+        ),
+        'the table used has a CHECK',
+    ),
+    (
+        ('DROP TABLE used; CREATE TABLE used (kind TEXT NOT NULL, id TEXT PRIMARY KEY)' ' STRICT'),
+        'has the keys (id), and not (kind, id)',
+    ),
+    (
+        (
+            'DROP TABLE used; CREATE TABLE used (kind TEXT, id TEXT, PRIMARY KEY (kind, id'
+            ' DESC)) STRICT'
+        ),
+        'has the keys (kind, id DESC)',
+    ),
+    (
+        (
+            "DROP TABLE used; CREATE TABLE used (kind TEXT, id TEXT DEFAULT 'a', PRIMARY"
+            " KEY (kind, id)) STRICT"
+        ),
+        "with the default 'a'",
+    ),
+    (
+        'DROP TABLE node; CREATE TABLE node (id TEXT COLLATE NOCASE PRIMARY KEY) STRICT',
+        'the table node has',
+    ),
+    (
+        'DROP TABLE node; CREATE TABLE NODE (id TEXT PRIMARY KEY) STRICT',
+        "the table NODE has a name of a desk's table",
+    ),
+    (
+        (
+            'DROP TABLE meta; CREATE TABLE meta (id INTEGER PRIMARY KEY, schema INTEGER NOT'
+            ' NULL UNIQUE) STRICT; INSERT INTO meta VALUES (1, 2)'
+        ),
+        'the table meta has the keys (id), (schema), and not (id)',
+    ),
+    (
+        'DROP TABLE used; CREATE VIEW used AS SELECT id AS kind, id FROM node',
+        "the view used has a name of a desk's table",
+    ),
+)
+
+# What others put into a file so that a desk reads none of it, and what is told of that.
+PARENT = (
+    'CREATE TABLE above (id INTEGER PRIMARY KEY); CREATE TABLE "be""low" (above INTEGER'
+    ' REFERENCES above); '
+)
+UNREAD: list[tuple[Any, ...]] = [
+    ('CREATE VIRTUAL TABLE mine USING fts5(text)', 'the virtual table mine'),
+    (
+        (
+            'CREATE VIEW mine AS SELECT id FROM load; CREATE TRIGGER more INSTEAD OF INSERT'
+            ' ON mine BEGIN SELECT 1; END'
+        ),
+        'the trigger more on the view mine',
+    ),
+    (
+        ('CREATE TABLE mine (a); CREATE TRIGGER MINE AFTER INSERT ON mine BEGIN SELECT' ' 1; END'),
+        'the trigger MINE with the name of a table',
+    ),
+    (
+        PARENT + 'INSERT INTO "be""low" VALUES (7)',
+        'a row of the table be"low, rowid 1, that refers to no row of above',
+    ),
+    (
+        PARENT + 'CREATE TRIGGER more AFTER INSERT ON "be""low" BEGIN SELECT 1; END',
+        'the table be"low, which refers to another one and has the trigger more',
+    ),
+    (
+        PARENT + 'CREATE INDEX more ON "be""low" (above) WHERE above > 7',
+        'be"low, which refers to another one and has the index more with WHERE',
+    ),
+    (
+        'PRAGMA journal_mode = DELETE; PRAGMA auto_vacuum = FULL; VACUUM',
+        'auto-vacuum',
+        '`PRAGMA auto_vacuum = NONE; VACUUM`',
+    ),
+    (
+        (
+            'CREATE TABLE mine (a); INSERT INTO mine VALUES (1); ALTER TABLE mine ADD'
+            ' COLUMN b DEFAULT 7'
+        ),
+        None,
+    ),
+]
+
+
+class Pairs(WhyTest):
+    def pairs(self, statements: str) -> Any:
         """The rules that a file breaks once this was written into it, each with the rows that are
         told."""
         self.fill(statements)
@@ -50,12 +144,30 @@ class Rows(WhyTest):
                 pairs.add((rule, line.strip().split(': ')[0]))
         return pairs
 
-    def test_each_statement(self):
+
+class Drives(Pairs):
+    """A file with a drive under way, beside an order."""
+
+    script = FILLED + DRIVEN
+
+    def test_nothing_broken(self) -> None:
+        self.fill()
+        self.assertEqual(told(self.db).reasons, [])
+        self.assertIn('has 6 loads, 5 jobs, 3 vehicles and 2 open orders', self.look(expected=0))
+
+    def test_each_statement(self) -> None:
+        for statement, rule, rows in DRIVE_BREAKS:
+            with self.subTest(statement):
+                self.assertIn((rule, rows), self.pairs(statement))
+
+
+class Rows(Pairs):
+    def test_each_statement(self) -> None:
         for statement, rule, rows in BREAKS:
             with self.subTest(statement):
                 self.assertIn((rule, rows), self.pairs(statement))
 
-    def test_each_rule(self):
+    def test_each_rule(self) -> None:
         """One statement for each rule, which breaks no other one, where that can be: what is told
         is all that is broken."""
         self.assertEqual(
@@ -65,7 +177,7 @@ class Rows(WhyTest):
             with self.subTest(rule):
                 self.assertEqual(self.pairs(statement), wanted)
 
-    def test_a_key_twice(self):
+    def test_a_key_twice(self) -> None:
         """SQLite keeps keys apart by their indexes, so that rows with one key are in no sound
         file."""
         with contextlib.closing(sqlite3.connect(self.filled)) as base:
@@ -89,7 +201,7 @@ class Rows(WhyTest):
             {(found.rule.name, found.rows) for found in breaches(other)},
         )
 
-    def test_limits(self):
+    def test_limits(self) -> None:
         with contextlib.closing(sqlite3.connect(self.filled)) as base:
             rows = read_rows(base)
         for table, most, name in (
@@ -105,7 +217,7 @@ class Rows(WhyTest):
                 limits = next(rule for rule in RULES if rule.name == 'limits')
                 self.assertEqual([of for of, _ in limits.check(many)], wanted)
 
-    def test_lawful_files(self):
+    def test_lawful_files(self) -> None:
         """Nothing is told of a file that the program has made, with the log beside it and
         without."""
         for name, script in SCRIPTS.items():
@@ -122,7 +234,7 @@ class Rows(WhyTest):
             self.assertIn('has 6 loads, 5 jobs, 3 vehicles and 1 open orders', said)
             self.assertIn('nothing keeps a desk from starting', said)
 
-    def test_rows_in_the_log(self):
+    def test_rows_in_the_log(self) -> None:
         """What was written last stands in the log alone, and is looked at, too."""
         self.fill(log=True)
         with contextlib.closing(sqlite3.connect(self.db)) as base:
@@ -138,7 +250,7 @@ class Rows(WhyTest):
             '    node N4: vehicle KIT/0001 holds it, and it has no row in `hold`\n', self.look()
         )
 
-    def test_many_rows(self):
+    def test_many_rows(self) -> None:
         """Ten of each rule are told, and all of them by `--all`."""
         self.fill(
             "WITH more (n) AS (VALUES (10) UNION ALL SELECT n + 1 FROM more WHERE n < 40) INSERT"
@@ -149,73 +261,25 @@ class Rows(WhyTest):
         self.assertIn('    and 21 more\n', said)
         self.assertEqual(self.look('--all').count('is no name'), 31)
 
-    def test_names_that_are_no_text(self):
+    def test_names_that_are_no_text(self) -> None:
         self.fill("UPDATE load SET id = CAST(x'ff20' AS TEXT) WHERE id = 'L3'")
         self.assertIn(r"load \xff : '\udcff ' is no name", self.look())
 
 
 class Files(WhyTest):
-    def test_tables_of_another_shape(self):
+    def test_tables_of_another_shape(self) -> None:
         for statements, text in zip(SHAPES, SHAPES_TOLD, strict=True):
             with self.subTest(text):
                 self.fill(statements)
                 self.check_fault('Damaged', text)
 
-    def test_what_sql_texts_say_besides(self):
-        for statements, text in (
-            (
-                (
-                    'DROP TABLE used; CREATE TABLE used (kind TEXT, id TEXT CHECK (id > 0), PRIMARY'
-                    ' KEY (kind, id)) STRICT'
-                ),
-                'the table used has a CHECK',
-            ),
-            (
-                (
-                    'DROP TABLE used; CREATE TABLE used (kind TEXT NOT NULL, id TEXT PRIMARY KEY)'
-                    ' STRICT'
-                ),
-                'has the keys (id), and not (kind, id)',
-            ),
-            (
-                (
-                    'DROP TABLE used; CREATE TABLE used (kind TEXT, id TEXT, PRIMARY KEY (kind, id'
-                    ' DESC)) STRICT'
-                ),
-                'has the keys (kind, id DESC)',
-            ),
-            (
-                (
-                    "DROP TABLE used; CREATE TABLE used (kind TEXT, id TEXT DEFAULT 'a', PRIMARY"
-                    " KEY (kind, id)) STRICT"
-                ),
-                "with the default 'a'",
-            ),
-            (
-                'DROP TABLE node; CREATE TABLE node (id TEXT COLLATE NOCASE PRIMARY KEY) STRICT',
-                'the table node has',
-            ),
-            (
-                'DROP TABLE node; CREATE TABLE NODE (id TEXT PRIMARY KEY) STRICT',
-                "the table NODE has a name of a desk's table",
-            ),
-            (
-                (
-                    'DROP TABLE meta; CREATE TABLE meta (id INTEGER PRIMARY KEY, schema INTEGER NOT'
-                    ' NULL UNIQUE) STRICT; INSERT INTO meta VALUES (1, 2)'
-                ),
-                'the table meta has the keys (id), (schema), and not (id)',
-            ),
-            (
-                'DROP TABLE used; CREATE VIEW used AS SELECT id AS kind, id FROM node',
-                "the view used has a name of a desk's table",
-            ),
-        ):
+    def test_what_sql_texts_say_besides(self) -> None:
+        for statements, text in SAID_BY_TEXTS:
             with self.subTest(text):
                 self.fill(statements)
                 self.check_fault('Damaged', text)
 
-    def test_what_the_tables_may_not_have(self):
+    def test_what_the_tables_may_not_have(self) -> None:
         for statements, text in (
             (
                 'CREATE TRIGGER mine AFTER INSERT ON load BEGIN SELECT 1; END',
@@ -238,53 +302,9 @@ class Files(WhyTest):
                 self.fill(statements)
                 self.check_fault('Damaged', text)
 
-    def test_what_no_file_may_have(self):
+    def test_what_no_file_may_have(self) -> None:
         """Things of others that keep the desk's SQL from reading any of the file."""
-        parent = (
-            'CREATE TABLE above (id INTEGER PRIMARY KEY); CREATE TABLE "be""low" (above INTEGER'
-            ' REFERENCES above); '
-        )
-        for statements, *texts in (
-            ('CREATE VIRTUAL TABLE mine USING fts5(text)', 'the virtual table mine'),
-            (
-                (
-                    'CREATE VIEW mine AS SELECT id FROM load; CREATE TRIGGER more INSTEAD OF INSERT'
-                    ' ON mine BEGIN SELECT 1; END'
-                ),
-                'the trigger more on the view mine',
-            ),
-            (
-                (
-                    'CREATE TABLE mine (a); CREATE TRIGGER MINE AFTER INSERT ON mine BEGIN SELECT'
-                    ' 1; END'
-                ),
-                'the trigger MINE with the name of a table',
-            ),
-            (
-                parent + 'INSERT INTO "be""low" VALUES (7)',
-                'a row of the table be"low, rowid 1, that refers to no row of above',
-            ),
-            (
-                parent + 'CREATE TRIGGER more AFTER INSERT ON "be""low" BEGIN SELECT 1; END',
-                'the table be"low, which refers to another one and has the trigger more',
-            ),
-            (
-                parent + 'CREATE INDEX more ON "be""low" (above) WHERE above > 7',
-                'be"low, which refers to another one and has the index more with WHERE',
-            ),
-            (
-                'PRAGMA journal_mode = DELETE; PRAGMA auto_vacuum = FULL; VACUUM',
-                'auto-vacuum',
-                '`PRAGMA auto_vacuum = NONE; VACUUM`',
-            ),
-            (
-                (
-                    'CREATE TABLE mine (a); INSERT INTO mine VALUES (1); ALTER TABLE mine ADD'
-                    ' COLUMN b DEFAULT 7'
-                ),
-                None,
-            ),
-        ):
+        for statements, *texts in UNREAD:
             with self.subTest(statements):
                 self.fill(statements)
                 self.assertEqual(
@@ -298,12 +318,12 @@ class Files(WhyTest):
                 else:
                     self.check_fault('Storage', *texts)
 
-    def test_a_file_in_utf_16(self):
+    def test_a_file_in_utf_16(self) -> None:
         with contextlib.closing(sqlite3.connect(self.db)) as base:
             base.executescript("PRAGMA encoding = 'UTF-16'; CREATE TABLE mine (a)")
         self.check_fault('Storage', 'its texts in UTF-16')
 
-    def test_what_makes_no_difference(self):
+    def test_what_makes_no_difference(self) -> None:
         """Other ways to write the same tables, and what else may lie beside them."""
         for statements in (
             (
@@ -330,12 +350,12 @@ class Files(WhyTest):
                 self.assertEqual(run('report', '--db', self.db, 'holds')[0], 0)
                 self.assertEqual(told(self.db).reasons, [])
 
-    def test_a_unique_index_of_others(self):
+    def test_a_unique_index_of_others(self) -> None:
         """The desk starts, and fails at a row that the index refuses."""
         self.fill('CREATE UNIQUE INDEX mine ON job (load, phase, origin, target, id)')
         self.assertIn('the unique index mine on the table job', self.look())
 
-    def test_changes_at_random(self):
+    def test_changes_at_random(self) -> None:
         """Wherever the program tells a fault, a reason is told; and no change is too odd to be
         looked at."""
         faults = 0

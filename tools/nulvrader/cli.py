@@ -5,7 +5,7 @@ import os
 import pathlib
 import sys
 
-from .admin import conf
+from .admin import conf, migrate
 from .common import entry
 
 HELP = """usage: nulvrader COMMAND ..
@@ -24,6 +24,7 @@ a desk that runs:
   dispatch      gives its waiting jobs to vehicles
   gateway       carries messages between it and the vehicles of a broker
   map           draws its warehouse
+  webhooks      posts what happens to other programs
 
 files:
   check-layout  names the errors of a layout file
@@ -38,11 +39,13 @@ an installed desk:
   standby       serves its file on a volume that machines share
 
 options:
-  -h, --help    show this help message and exit
-  --version     print the version, and end
+  -h, --help     show this help message and exit
+  -V, --version  print the version, and end
 
-What is not said by options is read from /etc/nulvrader/nulvrader.conf, if that is there."""
+The desk, its file and the folder of the copies are those of /etc/nulvrader/nulvrader.conf, if that
+is there and no option names others."""
 PROGRAM = ('serve', 'replay', 'report', 'migrate')
+VERSION = ('-V', '--version')
 TOOLS = pathlib.Path(__file__).resolve().parent.parent
 WRONG = 2
 
@@ -62,6 +65,9 @@ def run_program(words: list[str]) -> int:
         path = TOOLS.parent / 'docs' / 'help' / f'{words[0]}.txt'
         print(path.read_text(encoding='utf-8'), end='')
         return 0
+    if len(words) == 2 and words[1] in VERSION:
+        print(entry.VERSION)
+        return 0
     if words[0] == 'serve' and not any(word.startswith('--connections') for word in words):
         words = [*words, '--connections', '4294967295']
     try:
@@ -71,17 +77,26 @@ def run_program(words: list[str]) -> int:
         return 1
 
 
+def _names_a_file(words: list[str]) -> bool:
+    return any(word.partition('=')[0] == '--db' for word in words)
+
+
 def run(words: list[str]) -> int:
     """Runs a command, and returns its status."""
+    if words[:1] == ['help'] and words[1:]:
+        words = [words[1], '--help']
     name = words[0] if words else '--help'
     if name in ('-h', '--help', 'help'):
         print(HELP)
         return 0 if words else WRONG
-    if name == '--version':
+    if name in VERSION:
         print(entry.VERSION)
         return 0
     for variable, value in conf.read().items():
         os.environ.setdefault(variable, value)
+    if name == 'migrate' and 'NULVRADER_DB' in os.environ and not _names_a_file(words):
+        sys.argv = [f'{entry.ONE}migrate', *words[1:]]
+        return migrate.run(words[1:])
     if name in PROGRAM:
         return run_program(words)
     path = tool(name)

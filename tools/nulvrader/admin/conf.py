@@ -14,6 +14,7 @@ DEFAULTS = {
     'NULVRADER_LAYOUT': '/etc/nulvrader/layout.csv',
     'NULVRADER_NAME': 'desk.example',
     'NULVRADER_UNITS': 'board dispatch',
+    'NULVRADER_BACKUPS': '/var/backups/nulvrader',
 }
 LINE = re.compile(r'(NULVRADER_[A-Z_]+)=(.*)')
 
@@ -26,7 +27,13 @@ def read() -> dict[str, str]:
         return {}
     lines = data.decode('utf-8', 'replace').splitlines()
     found = (LINE.fullmatch(line.strip()) for line in lines)
-    return {one[1]: one[2].strip() for one in found if one}
+    return {one[1]: _without_quotes(one[2].strip()) for one in found if one}
+
+
+def _without_quotes(value: str) -> str:
+    """A value that is in quotes, without them, as systemd reads it."""
+    is_quoted = len(value) > 1 and value[0] == value[-1] and value[0] in '\'"'
+    return value[1:-1] if is_quoted else value
 
 
 def values() -> dict[str, str]:

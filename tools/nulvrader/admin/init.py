@@ -2,6 +2,7 @@
 from __future__ import annotations
 
 import argparse
+import grp
 import os
 import pwd
 import subprocess
@@ -15,13 +16,14 @@ from ..common.layouts import LayoutFile
 from ..common.plain_files import read_text
 from ..common.text import shown
 from ..desk.client import Answer, Desk, NoAnswer, refused
-from ..file import stopped_file
+from ..file import reasons, stopped_file
 from . import conf, units
 from .units import Fault
 
 TOLD = 10_000  # the most characters of a line
 PATIENCE = 60.0  # seconds until a desk that is started answers
 USER = 'desk'  # the user of the desk
+CLIENTS = 'desk-clients'  # the group that may ask the desk, and so may read its layout
 REQUEST = b'PUT /layout HTTP/1.1\r\nContent-Length: %d\r\nConnection: close\r\n\r\n%s'
 
 
@@ -42,17 +44,24 @@ def read_layout(path: str) -> bytes:
     return data
 
 
-def check_free(db: str) -> None:
-    """A `Fault` if there is a file that init did not begin: a desk's without a layout."""
-    if not os.path.lexists(db):
-        return
+def is_made(db: str, wanted: bytes) -> bool:
+    """Whether an init that was stopped has made the file with this layout, and nothing was done in
+    it since. A `Fault` if there is another file; but one of a desk without a layout gets one, and
+    so does one with nothing in it, as an init leaves it that was killed."""
+    if reasons.look_at_file(db).is_new:
+        return False
     try:
         with stopped_file.opened(db) as base:
-            if not stopped_file.layout_in(base).nodes:
-                return
+            layout = stopped_file.layout_in(base)
+            is_used = any(any(stopped_file.rows_in(base, table)) for table in ('vehicle', 'load'))
     except stopped_file.Unread as fault:
         raise Fault(f'there is a file already: {fault}') from None
-    raise Fault(f'{db} is a desk\'s file with a layout: systemctl start {units.DESK}')
+    if not layout.nodes:
+        return False
+    if is_used or layout.csv() != LayoutFile(wanted).layout().csv():
+        line = f'systemctl enable --now {" ".join(names(conf.values()))}'
+        raise Fault(f"{db} is a desk's file with a layout, and stays as it is. To start it: {line}")
+    return True
 
 
 def make_file(program: str, db: str, layout: bytes) -> None:
@@ -65,19 +74,29 @@ def make_file(program: str, db: str, layout: bytes) -> None:
     )
     head, _, body = done.stdout.partition(b'\r\n\r\n')
     if done.returncode or not head.startswith(b'HTTP/1.1 '):
-        raise Fault(f'{db} can not be made: {done.stderr.decode(errors="replace").strip()}')
+        said = done.stderr.decode(errors='replace').strip()
+        raise Fault(f'{db} can not be made: {said} (nulvrader why --user {USER} says more)')
     status = int(head[9:12])
     if status != 200:
         raise Fault(f'the desk does not take the layout: {refused(Answer(status, body))}')
 
 
-def put(path: str, data: bytes) -> None:
-    """Puts a file in the place of another one, as a whole."""
-    with open(f'{path}.new', 'wb') as file:
+def put(path: str, data: bytes, group: str) -> None:
+    """Puts a file in the place of another one, as a whole. A group may read it, if there is one
+    and root runs this; else nobody but who runs this."""
+    with open(f'{path}.new', 'wb', opener=_private) as file:
         file.write(data)
         os.fsync(file.fileno())
-    os.chmod(f'{path}.new', 0o644)
+        found = [one.gr_gid for one in grp.getgrall() if one.gr_name == group]
+        if found and os.geteuid() == 0:
+            os.fchown(file.fileno(), 0, found[0])
+        os.fchmod(file.fileno(), 0o640)
     os.replace(f'{path}.new', path)
+
+
+def _private(path: str, flags: int) -> int:
+    """Opens a new file that nobody else may read yet."""
+    return os.open(path, flags | os.O_CLOEXEC, 0o600)
 
 
 def wait_for(desk: Desk) -> None:
@@ -93,14 +112,18 @@ def wait_for(desk: Desk) -> None:
         time.sleep(0.2)
 
 
+def names(values: Mapping[str, str]) -> list[str]:
+    """The units of the desk and of what is beside it."""
+    return [units.SOCKET, units.DESK, units.TIMER, *units.beside(dict(values))]
+
+
 def start(values: Mapping[str, str]) -> None:
     """Starts the desk and what is beside it, now and at each boot."""
-    systems = [units.SOCKET, units.DESK, units.TIMER, *units.beside(dict(values))]
     if not units.runs():
-        units.systemctl('enable', *systems)
+        units.systemctl('enable', *names(values))
         print('systemd does not run here: the units are enabled, and not started')
         return
-    units.systemctl('enable', '--now', *systems)
+    units.systemctl('enable', '--now', *names(values))
     wait_for(Desk(values['NULVRADER_DESK']))
     print('the desk answers at', values['NULVRADER_DESK'])
 
@@ -109,9 +132,12 @@ def carry_out(said: argparse.Namespace) -> None:
     """Makes the file, and starts the desk."""
     values = conf.values()
     layout = read_layout(said.layout)
-    check_free(values['NULVRADER_DB'])
-    make_file(said.program, values['NULVRADER_DB'], layout)
-    put(values['NULVRADER_LAYOUT'], layout)
+    if not said.no_start:
+        units.want_root()
+        units.want_no_restore()
+    if not is_made(values['NULVRADER_DB'], layout):
+        make_file(said.program, values['NULVRADER_DB'], layout)
+    put(values['NULVRADER_LAYOUT'], layout, CLIENTS)
     print(f'{values["NULVRADER_DB"]} has the layout of {shown(said.layout, TOLD)}')
     if said.no_start:
         return

@@ -3,11 +3,13 @@ steps of docs/OPERATE.md. It carries out and checks what it can, and asks for th
 from __future__ import annotations
 
 import argparse
+import contextlib
 import os
 import pwd
 import shutil
 import sqlite3
 import sys
+import tempfile
 import time
 from collections.abc import Callable
 from typing import NoReturn
@@ -15,16 +17,15 @@ from typing import NoReturn
 from ..common import entry
 from ..common.counts import CountFile
 from ..common.names import VehicleKey
-from ..common.plain_files import opened, read_text
+from ..common.plain_files import PATH, read_text
 from ..common.text import shown
 from ..desk import questions
 from ..desk.client import Desk, NoAnswer, Refused
-from ..file import stopped_file
-from . import conf, init, units
+from ..file import opening, stopped_file
+from . import conf, copies, init, units
 from .units import Fault
 
 STEPS = 10
-BESIDE = ('', '-wal', '-shm', '-journal')
 ROWS = 1000  # the most rows of a count that are sent at once: 65 bytes each
 STOP = """Stop all vehicles, take their loads off, and clear their orders on them, so that their
 states have an empty orderId and no actionStates. Nothing may move until the end."""
@@ -51,15 +52,38 @@ def want_yes(question: str) -> None:
 class Restore:
     """A copy that is put back: a method for each step."""
 
-    def __init__(self, copy: str, values: dict[str, str], has_systemd: bool) -> None:
-        self.copy, self.db = copy, values['NULVRADER_DB']
+    def __init__(
+        self, copy: str, values: dict[str, str], has_systemd: bool, program: str = entry.PROGRAM
+    ) -> None:
+        self.copy, self.db, self.program = copy, values['NULVRADER_DB'], program
+        self.kept = self._take_copy(copy)
         self.desk = Desk(values['NULVRADER_DESK'], timeout=30)
         self.beside = units.beside(values)
         self.has_systemd = has_systemd
         self.stamp = time.strftime('%Y%m%dT%H%M%S', time.gmtime())
         self.count = 0
-        with stopped_file.opened(copy) as base:
+        with stopped_file.opened(self.kept) as base:
             self._read(base)
+
+    def _take_copy(self, copy: str) -> str:
+        """Makes one file of the copy and its log, where root alone writes, and returns its path.
+        All that is checked, asked and put in place is of this one: the copy may be another one
+        minutes later, and is in the folder of a user who may have been taken over."""
+        place = os.path.dirname(units.MARK)
+        place = place if os.path.isdir(place) else tempfile.gettempdir()
+        self.place = tempfile.TemporaryDirectory(dir=place, prefix='restore-')
+        made, folder = (os.path.join(self.place.name, name) for name in ('made.db', 'taken'))
+        os.mkdir(folder)
+        try:
+            taken = opening.take(copy, folder)
+            copies.make(taken, made)
+        except BlockingIOError:
+            raise Fault(f'{shown(copy, PATH)}: {stopped_file.LOCKED}') from None
+        except copies.Fault as fault:
+            why = str(fault).partition(f'{taken}: ')[2] or str(fault)
+            raise Fault(f'{shown(copy, PATH)}: {why}') from None
+        shutil.rmtree(folder)
+        return made
 
     def _read(self, base: sqlite3.Connection) -> None:
         """What is asked of the copy."""
@@ -86,37 +110,71 @@ class Restore:
 
     def clients_are_stopped(self) -> None:
         """Stop the gateways, the dispatcher, and all other clients."""
-        self.unit('stop', 'nulvrader-gateway.service', *self.beside, units.TIMER)
+        self._mark()
+        self.unit('stop', units.GATEWAY, *self.beside, units.TIMER)
         want_yes('Are the gateways of other machines, and all other clients, stopped?')
+
+    def _mark(self) -> None:
+        """Keeps what asks the desk from being started, whatever happens, until the last step."""
+        if os.path.isdir(os.path.dirname(units.MARK)):
+            init.put(units.MARK, f'{self.copy} is being put back\n'.encode(), init.CLIENTS)
 
     def file_is_replaced(self) -> None:
         """Stop the desk, move its old files away, and put the copy in their place."""
+        new = self._make()
         self.unit('stop', units.DESK)
         self._move_aside()
-        self._put()
+        os.rename(new, self.db)
+        copies.sync(os.path.dirname(self.db))
+        print(f'{self.db} is {self.copy}')
 
-    def _move_aside(self) -> None:
-        aside = os.path.join(os.path.dirname(self.db), f'aside-{self.stamp}')
-        os.mkdir(aside, 0o750)
-        for end in reversed(BESIDE):
-            if os.path.lexists(self.db + end):
-                os.rename(self.db + end, os.path.join(aside, os.path.basename(self.db) + end))
-        print('the old files are in', aside)
-
-    def _put(self) -> None:
+    def _make(self) -> str:
+        """Puts the copy beside the old file, and has the desk read it."""
         new = f'{self.db}.new'
-        if os.path.lexists(new):
-            os.remove(new)
-        with opened(self.copy) as source, open(new, 'xb') as target:
-            os.fchmod(target.fileno(), 0o640)
-            shutil.copyfileobj(source, target)
+        copies.remove(new)
+        try:
+            self._put(new)
+            loads = copies.check(self.program, new, **init.as_the_desk())
+        except (copies.Fault, OSError):
+            copies.remove(new)
+            raise
+        copies.sync(new)
+        print(f'the desk reads the copy: {loads} loads')
+        return new
+
+    def _put(self, new: str) -> None:
+        """Copies the copy to a new file, which is given to the user of the desk. That user may
+        write in the folder, so nothing that is there already is opened."""
+        handle = os.open(new, os.O_WRONLY | os.O_CREAT | os.O_EXCL | os.O_CLOEXEC, 0o600)
+        with open(self.kept, 'rb') as source, os.fdopen(handle, 'wb') as target:
+            shutil.copyfileobj(source, target, 1 << 20)
+            os.fchmod(handle, 0o640)
             if init.as_the_desk():
                 found = pwd.getpwnam(init.USER)
-                os.fchown(target.fileno(), found.pw_uid, found.pw_gid)
-            target.flush()
-            os.fsync(target.fileno())
-        os.rename(new, self.db)
-        print(f'{self.db} is {self.copy}')
+                os.fchown(handle, found.pw_uid, found.pw_gid)
+
+    def _move_aside(self) -> None:
+        """Moves the old files away. Its log goes last: without the file itself no desk starts. Both
+        folders are open meanwhile, so that a link in the place of one leads nowhere."""
+        flags = os.O_RDONLY | os.O_DIRECTORY | os.O_NOFOLLOW | os.O_CLOEXEC
+        with contextlib.ExitStack() as stack:
+            here = os.open(os.path.dirname(self.db), flags & ~os.O_NOFOLLOW)
+            stack.callback(os.close, here)
+            taken = set(os.listdir(here))
+            names = (
+                f'aside-{self.stamp}{more}' for more in ('', *map('-{}'.format, range(2, 100)))
+            )
+            name = next(name for name in names if name not in taken)
+            os.mkdir(name, 0o750, dir_fd=here)
+            aside = os.open(name, flags, dir_fd=here)
+            stack.callback(os.close, aside)
+            found = os.listdir(here)
+            for old in (os.path.basename(self.db) + end for end in copies.BESIDE):
+                if old in found:
+                    os.rename(old, old, src_dir_fd=here, dst_dir_fd=aside)
+            os.fsync(aside)
+            os.fsync(here)
+        print('the old files are in', os.path.join(os.path.dirname(self.db), name))
 
     def jobs_are_noted(self) -> None:
         """Note the jobs that wait in the copy."""
@@ -129,6 +187,7 @@ class Restore:
 
     def vehicles_are_placed(self) -> None:
         """Resync and place each vehicle where it stands."""
+        print('Register a vehicle that the copy does not know: nulvrader ask register-vehicle')
         wanted: dict[VehicleKey, str] = {}
         for key in self.vehicles:
             self.desk.resync(key)
@@ -233,9 +292,16 @@ class Restore:
 
     def clients_are_started(self) -> None:
         """Start the gateways, and what else was stopped."""
-        self.unit('start', *self.beside, units.TIMER)
+        if os.path.lexists(units.MARK):
+            os.remove(units.MARK)
+        self.unit('start', *self._wanted(), units.TIMER)
         print('Once each vehicle has posted a state, orders may be given, by names never used.')
         print('The board knows the newer file: stop it, move its board.db* away, and start it.')
+
+    def _wanted(self) -> list[str]:
+        """The units that run beside the desk."""
+        has_gateway = self.has_systemd and units.is_enabled(units.GATEWAY)
+        return sorted({*self.beside, *([units.GATEWAY] if has_gateway else [])})
 
     def steps(self) -> list[Callable[[], None]]:
         """All steps in their order."""
@@ -257,6 +323,9 @@ def stop_at(step: int, why: str) -> NoReturn:
     """Ends, and says how to go on."""
     print(f'restore: {why}', file=sys.stderr)
     print(f'restore: stopped at step {step}; go on by --from {step}', file=sys.stderr)
+    if os.path.lexists(units.MARK):
+        text = 'until the last step no dispatcher, gateway or board is started, since there is'
+        print(f'restore: {text} {units.MARK}', file=sys.stderr)
     raise SystemExit(1)
 
 
@@ -268,7 +337,7 @@ def carry_out(restore: Restore, first: int) -> None:
         print(f'\n{number}. {step.__doc__}')
         try:
             step()
-        except (Fault, Refused, NoAnswer, OSError) as fault:
+        except (Fault, copies.Fault, Refused, NoAnswer, OSError, sqlite3.Error) as fault:
             stop_at(number, fault.told() if isinstance(fault, Refused) else str(fault))
         except (Ended, KeyboardInterrupt):
             stop_at(number, 'nobody answers')
@@ -281,13 +350,19 @@ def run(words: list[str], text: str) -> int:
     help_text = 'the step with which to go on, 1 to 10 (default: 1)'
     choices = range(1, STEPS + 1)
     line.add_argument(
-        '--from', type=int, dest='first', choices=choices, default=1, metavar='STEP', help=help_text
+        '--from', type=int, dest='first', choices=choices, metavar='STEP', help=help_text
     )
+    help_text = 'the program of the desk (default: that beside this one)'
+    line.add_argument('--program', default=entry.PROGRAM, metavar='FILE', help=help_text)
     said: argparse.Namespace = line.parse_args(words)
     try:
-        restore = Restore(said.copy, conf.values(), units.runs())
-    except (stopped_file.Unread, ValueError) as fault:
+        units.want_root()
+        if said.first is None:
+            units.want_no_restore()
+        restore = Restore(said.copy, conf.values(), units.runs(), said.program)
+    except (Fault, stopped_file.Unread, OSError, ValueError) as fault:
         print(f'restore: {fault}', file=sys.stderr)
         return 1
-    carry_out(restore, said.first)
+    with restore.place:
+        carry_out(restore, said.first or 1)
     return 0

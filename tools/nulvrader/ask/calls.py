@@ -29,7 +29,7 @@ from ..common.counts import CountFile
 from ..common.layouts import LayoutFile
 from ..desk.members import read_object
 from ..desk.messages import read_order
-from ..common.names import LARGEST
+from ..common.names import LARGEST, new_reference
 from ..common.tables import TableFile
 
 CALLS: list[Command] = []
@@ -193,6 +193,33 @@ def order(desk: Desk, said: argparse.Namespace) -> Told:
         said.edges,
     )
     return Told(text, {'orderUpdateId': update})
+
+
+@ask(
+    'KIT/0001 --to N7',
+    VEHICLE,
+    named('--to', 'node', required=True, help='the node where it is to go'),
+    word(
+        '--edges',
+        type=number,
+        metavar='N',
+        default=1,
+        help='how many edges are released (default: 1)',
+    ),
+    named(
+        '--order',
+        'order',
+        help="the order's name, used only once (default: a new one that begins with the day)",
+    ),
+)
+def drive(desk: Desk, said: argparse.Namespace) -> Told:
+    """Sends a vehicle to a node without a job; the loads on it stay there."""
+    said.order = said.order or new_reference()
+    update = desk.start_drive(said.order, said.vehicle, said.to, said.edges)
+    text = f'vehicle {said.vehicle} drives to node {said.to} (order {said.order})'
+    return Told(
+        f'{text}; edges released: {said.edges}', {'order': said.order, 'orderUpdateId': update}
+    )
 
 
 @ask(

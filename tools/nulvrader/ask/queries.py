@@ -145,6 +145,23 @@ def jobs(desk: Desk, said: argparse.Namespace) -> Told:
     )
 
 
+@look('J1', named('job', 'job'))
+def job(desk: Desk, said: argparse.Namespace) -> Told:
+    """A job, ended or not, and which order has it while it rides."""
+    one = desk.job(said.job)
+    row: dict[str, object] = {
+        'job': one.name,
+        'load': one.load,
+        'from': one.origin,
+        'to': one.target,
+        'phase': one.phase,
+        'vehicle': None if one.vehicle is None else str(one.vehicle),
+        'order': one.order,
+    }
+    lines = [[name, value] for name, value in row.items() if name != 'job']
+    return Told(table(['job', one.name], lines), row)
+
+
 @look('')
 def layout(desk: Desk, said: argparse.Namespace) -> Told:
     """Prints the layout, as a file for another desk."""
@@ -153,6 +170,12 @@ def layout(desk: Desk, said: argparse.Namespace) -> Told:
         raise Wrong('the desk has no layout yet')
     text = found.csv().decode()
     return Told(text.rstrip('\n'), text)
+
+
+def stops_of(order: questions.OrderRow) -> tuple[str, ...]:
+    """The stops of an order; of a drive the node where it leads."""
+    stops = tuple(f'{act.kind}:{act.load}@{act.station}' for act in order.acts)
+    return stops or (f'drive@{order.end}',)
 
 
 @look('', cost='1, and 1 for each order')
@@ -167,7 +190,7 @@ def orders(desk: Desk, said: argparse.Namespace) -> Told:
             'confirmed': one.confirmed,
             'released_to': one.released_to,
             'edges_left': one.edges_left,
-            'stops': tuple(f'{act.kind}:{act.load}@{act.station}' for act in one.acts),
+            'stops': stops_of(one),
         }
         for one in questions.orders(desk)
     ]
@@ -251,6 +274,5 @@ def refusal(desk: Desk, said: argparse.Namespace) -> Told:
             f'{quoted(said.name)} is neither the name nor the number of a refusal (docs/HTTP.md)'
         )
     one = named_so[0]
-    return Told(
-        '%s (%d): %s. %s' % (one.name, one.number, one.says, one.advice), dataclasses.asdict(one)
-    )
+    told = {'advice': one.advice, **dataclasses.asdict(one)}
+    return Told(f'{one.name} ({one.number}): {one.says}. {one.advice}', told)

@@ -50,7 +50,7 @@ class CountFile(TableFile):
     """A stocktake file."""
 
     def __init__(self, data: bytes) -> None:
-        super().__init__(data, REFUSALS, ': count some of the stations by another file')
+        super().__init__(data, REFUSALS, 'count some of the stations by another file')
         self.rows: list[Row] = []
         records = records_of(data)
         for line, fields in records[1:] if self.has_header(data, records) else records:
@@ -62,14 +62,14 @@ class CountFile(TableFile):
         line, fields = records[0] if records else (1, [])
         if fields == HEADER:
             return True
-        rule = f'the first line has to be station,load, and is {said(fields)}'
+        rule, remedy = f'the first line has to be station,load, and is {said(fields)}', ''
         if data.startswith((b'\xff\xfe', b'\xfe\xff')):
-            rule = 'the file is UTF-16: save it as CSV in UTF-8'
+            rule, remedy = 'the file is UTF-16', 'save it as CSV in UTF-8'
         elif len(fields) == 1 and b';' in fields[0]:
-            rule += ': write commas for the semicolons, here and in each row'
+            remedy = 'write commas for the semicolons, here and in each row'
         elif len(fields) == 1 and b'\t' in fields[0]:
-            rule += ': write commas for the tabs, here and in each row'
-        self.fault(line, 'BadCsv', rule)
+            remedy = 'write commas for the tabs, here and in each row'
+        self.fault(line, 'BadCsv', rule, remedy)
         is_header = fields[:1] and fields[0].lower() == HEADER[0]
         return bool(
             is_header or len(fields) != len(HEADER) or not is_name(fields[0].decode('latin-1'))
@@ -79,27 +79,17 @@ class CountFile(TableFile):
         """A record that should be a row."""
         if len(fields) != len(HEADER):
             rule = f'{len(fields)} field{"s" * (len(fields) != 1)}, and not the two of station,load'
-            if len(fields) == 1:
-                mark = next((mark for mark in (b';', b'\t') if fields[0].count(mark) == 1), None)
-                if mark is not None:
-                    rule += f': write {shown(fields[0].replace(mark, b","))}'
-                elif is_name(fields[0].decode('latin-1')):
-                    rule += f': write {fields[0].decode() + ","}, where no load was found there'
-            elif any(fields[2:]):
-                rule += ': write one load a row, and nothing behind it'
-            else:
-                rule += f': write {shown(b",".join(fields[:2]))}'
-            self.fault(line, 'BadCsv', rule)
+            self.fault(line, 'BadCsv', rule, two_fields(fields))
             return
         station, load = (one.decode('latin-1') for one in fields)
         for what, text, one in (('station', station, fields[0]), ('load', load, fields[1])):
             if not is_name(text) and not (what == 'load' and text == ''):
-                rule = f'the {what} is {quoted(one)}, and no name: {NAME_RULE}'
+                rule, remedy = f'the {what} is {quoted(one)}, and no name: {NAME_RULE}', ''
                 if is_name(text.strip()):
-                    rule += f': write {text.strip()} without blanks'
+                    remedy = f'write {text.strip()} without blanks'
                 elif b'\n' in one or b'\r' in one:
-                    rule += ': is there a quote in this line that nothing closes?'
-                self.fault(line, 'BadCsv', rule)
+                    remedy = 'is there a quote in this line that nothing closes?'
+                self.fault(line, 'BadCsv', rule, remedy)
                 return
         self.rows.append(Row(line, station, load or None))
 
@@ -110,13 +100,9 @@ class CountFile(TableFile):
             if row.load is not None:
                 before = first.setdefault(row.load, row)
                 if before is not row:
-                    rule = (
-                        'load %s stands in line %d already, at station %s: strike out one of'
-                        ' the two'
-                    )
-                    self.fault(
-                        row.line, 'CountTwice', rule % (row.load, before.line, before.station)
-                    )
+                    where = f'in line {before.line} already, at station {before.station}'
+                    rule = f'load {row.load} stands {where}'
+                    self.fault(row.line, 'CountTwice', rule, 'strike out one of the two')
 
     def stations(self) -> dict[str, int]:
         """The counted stations, each with the line on which it stands first."""
@@ -160,29 +146,33 @@ class CountFile(TableFile):
             if station not in records.capacities:
                 known = ', '.join(sorted(records.capacities, key=natural)[:10])
                 more = ', ..' if len(records.capacities) > 10 else ''
-                self.fault(
-                    line, 'NoStation', f'there is no station {station}: the desk has {known}{more}'
-                )
+                rule = f'there is no station {station}: the desk has {known}{more}'
+                self.fault(line, 'NoStation', rule)
         for load, row in self.found().items():
             place = records.places.get(load, '')
             if place.startswith('vehicle '):
-                rule = (
-                    'load %s is recorded on %s: once it has no live job, `tools/ask correct %s'
-                    ' --station %s`'
-                )
-                self.fault(row.line, 'OnVehicle', rule % (load, place, load, row.station))
+                once = 'once it has no live job, '
+                command = f'{once}`tools/ask correct {load} --station {row.station}`'
+                rule = f'load {load} is recorded on {place}'
+                self.fault(row.line, 'OnVehicle', rule, f'{once}correct its place', command)
         for move in self.moves(records):
             if move.load in records.jobs:
-                job = records.jobs[move.load]
-                where = 'was not found at' if move.line is None else 'is recorded at'
-                rule = (
-                    'load %s %s %s, and would move, but has the live job %s: `tools/ask stop-job'
-                    ' %s` while it waits'
-                )
-                line = move.line or self.stations()[move.before.partition(' ')[2]]
-                self.fault(line, 'InJob', rule % (move.load, where, move.before, job, job))
+                self.check_job(move, records.jobs[move.load])
         self.check_room(records)
         self.faults.sort(key=lambda fault: fault.line or 0)
+
+    def check_job(self, move: Move, job: str) -> None:
+        """A load in a live job would move."""
+        where = 'was not found at' if move.line is None else 'is recorded at'
+        would = f'would move, but has the live job {job}'
+        line = move.line or self.stations()[move.before.partition(' ')[2]]
+        self.fault(
+            line,
+            'InJob',
+            f'load {move.load} {where} {move.before}, and {would}',
+            'stop it while it waits',
+            f'`tools/ask stop-job {job}` while it waits',
+        )
 
     def check_room(self, records: Records) -> None:
         """At a counted station the found loads that the desk has and the live jobs to it have
@@ -196,7 +186,22 @@ class CountFile(TableFile):
             here = sum(1 for load in loads if records.places[str(load)] != 'left')
             coming, capacity = records.reserved.get(station, 0), records.capacities.get(station)
             if capacity is not None and here + coming > capacity:
-                rule = 'station %s has room for %d; found there: %d; live jobs to it: %d: %s'
+                counts = f'found there: {here}; live jobs to it: {coming}'
                 stop = 'stop one of these jobs, or ' if here <= capacity else ''
-                do = stop + 'carry a load elsewhere and write it there'
-                self.fault(line, 'Full', rule % (station, capacity, here, coming, do))
+                remedy = stop + 'carry a load elsewhere and write it there'
+                rule = f'station {station} has room for {capacity}; {counts}'
+                self.fault(line, 'Full', rule, remedy)
+
+
+def two_fields(fields: list[bytes]) -> str:
+    """What to write for a record that has not two fields."""
+    if len(fields) == 1:
+        mark = next((mark for mark in (b';', b'\t') if fields[0].count(mark) == 1), None)
+        if mark is not None:
+            return f'write {shown(fields[0].replace(mark, b","))}'
+        if is_name(fields[0].decode('latin-1')):
+            return f'write {fields[0].decode() + ","}, where no load was found there'
+        return ''
+    if any(fields[2:]):
+        return 'write one load a row, and nothing behind it'
+    return f'write {shown(b",".join(fields[:2]))}'

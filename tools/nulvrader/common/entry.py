@@ -1,10 +1,12 @@
-"""What all programs have in common as commands: their head, `--version`, and a quiet end if nobody
-reads what they print."""
+"""What all programs have in common as commands: their head, `--version`, and how they end if nobody
+reads what they print, if that can not be written, and by Ctrl-C."""
 from __future__ import annotations
 
 import argparse
+import contextlib
 import os
 import pathlib
+import signal
 import sys
 from collections.abc import Callable
 
@@ -30,7 +32,7 @@ def told(text: str) -> str:
 def add_version(parser: argparse.ArgumentParser) -> None:
     """Adds `--version`."""
     text = 'print the version, and end'
-    parser.add_argument('--version', action='version', version=VERSION, help=text)
+    parser.add_argument('-V', '--version', action='version', version=VERSION, help=text)
 
 
 def parser(text: str | None, name: str | None = None) -> argparse.ArgumentParser:
@@ -46,18 +48,36 @@ def parser(text: str | None, name: str | None = None) -> argparse.ArgumentParser
 
 def run(main: Callable[[], int | None]) -> int | str | None:
     """Runs a program and returns its status. If nobody reads what it prints any more it ends
-    without a word."""
-    status: int | str | None
+    without a word; so it does by Ctrl-C."""
+    status: int | str | None = None
     try:
         try:
             status = main()
         except SystemExit as ended:
             status = ended.code
-        sys.stdout.flush()
+        _flush()
     except BrokenPipeError:
-        # Python writes what is left as it ends.
-        nowhere = os.open(os.devnull, os.O_WRONLY)
-        for file in (sys.stdout, sys.stderr):
-            os.dup2(nowhere, file.fileno())
+        _write_nowhere(1, 2)
         return CLOSED
+    except OSError as fault:
+        _write_nowhere(1)
+        return f'{os.path.basename(sys.argv[0])}: {fault}'
+    except KeyboardInterrupt:
+        with contextlib.suppress(OSError):
+            _flush()
+        signal.signal(signal.SIGINT, signal.SIG_DFL)
+        os.kill(os.getpid(), signal.SIGINT)
     return status
+
+
+def _flush() -> None:
+    """Writes what was printed, if standard output wasn't closed from the start."""
+    if sys.stdout is not None:
+        sys.stdout.flush()
+
+
+def _write_nowhere(*files: int) -> None:
+    """Writes nothing of what is left, which Python does as it ends."""
+    nowhere = os.open(os.devnull, os.O_WRONLY)
+    for file in files:
+        os.dup2(nowhere, file)

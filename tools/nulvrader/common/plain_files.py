@@ -40,7 +40,7 @@ def check(path: str) -> None:
         mode = os.stat(path).st_mode
     except FileNotFoundError:
         return
-    _check_mode(path, mode)
+    check_mode(path, mode)
 
 
 def opened(path: str) -> BinaryIO:
@@ -49,7 +49,7 @@ def opened(path: str) -> BinaryIO:
     check(path)
     handle = os.open(path, os.O_RDONLY | os.O_NONBLOCK | os.O_NOCTTY | os.O_CLOEXEC)
     try:
-        _check_mode(path, os.fstat(handle).st_mode)
+        check_mode(path, os.fstat(handle).st_mode)
         return os.fdopen(handle, 'rb')
     except BaseException:
         os.close(handle)
@@ -74,14 +74,15 @@ def _opened_text(path: str) -> BinaryIO:
     try:
         mode = os.fstat(handle).st_mode
         if not (stat.S_ISFIFO(mode) or stat.S_ISSOCK(mode) or os.isatty(handle)):
-            _check_mode(path, mode)
+            check_mode(path, mode)
         return os.fdopen(handle, 'rb')
     except BaseException:
         os.close(handle)
         raise
 
 
-def _check_mode(path: str, mode: int) -> None:
+def check_mode(path: str, mode: int) -> None:
+    """Checks that the mode of what a path led to is that of a regular file."""
     if not stat.S_ISREG(mode):
         kind = KINDS.get(stat.S_IFMT(mode), 'something else')
         raise NotPlain(path, f'it is {kind}, and not a regular file')

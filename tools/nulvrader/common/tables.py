@@ -14,35 +14,48 @@ MARK = b'\xef\xbb\xbf'
 @dataclass(frozen=True)
 class Fault:
     """What is wrong with a file: the number of the line, or none where it is of the whole file, the
-    refusal by which a desk answers it, and the rule in words."""
+    refusal by which a desk answers it, the rule in words, and what to do, if more than the rule
+    says is to be said: `remedy`, and `command` where a program of the command line does it. Its
+    `str()` is for who has the command line."""
 
     line: int | None
     refusal: str
     rule: str
+    remedy: str = ''
+    command: str = ''
 
     def __str__(self) -> str:
-        return '%s%s: %s' % (f'line {self.line}: ' if self.line else '', self.refusal, self.rule)
+        return self._joined(self.refusal, self.rule, self.command or self.remedy)
+
+    def on_page(self) -> str:
+        """The fault for who looks at a page: without the refusal's name, and without programs."""
+        text = self._joined(self.rule, self.remedy)
+        return f'{text[:1].upper()}{text[1:]}.'
+
+    def _joined(self, *parts: str) -> str:
+        """The line and what is told of it."""
+        line = f'line {self.line}' if self.line else ''
+        return ': '.join(part for part in (line, *parts) if part)
 
 
 class TableFile:
     """What a file with a table says, and its faults in the order of their lines. `refusals` are
-    those of such a table, in the order in which a desk looks for them; `advice` is what to do where
-    the file is too large.
+    those of such a table, in the order in which a desk looks for them; `if_large` is what to do
+    where the file is too large.
     """
 
-    def __init__(self, data: bytes, refusals: Sequence[str], advice: str = '') -> None:
+    def __init__(self, data: bytes, refusals: Sequence[str], if_large: str = '') -> None:
         self.size, self.refusals = len(data), refusals
         self.faults: list[Fault] = []
         if self.size > BODY:
-            self.fault(
-                None,
-                'TooLarge',
-                f'the file has {self.size} bytes, and a body at most {BODY}{advice}',
-            )
+            rule = f'the file has {self.size} bytes, and a body at most {BODY}'
+            self.fault(None, 'TooLarge', rule, if_large)
 
-    def fault(self, line: int | None, refusal: str, rule: str) -> None:
+    def fault(
+        self, line: int | None, refusal: str, rule: str, remedy: str = '', command: str = ''
+    ) -> None:
         """Notes one."""
-        self.faults.append(Fault(line, refusal, rule))
+        self.faults.append(Fault(line, refusal, rule, remedy, command))
 
     def answer(self) -> str | None:
         """What a desk answers, one without a layout where this is a layout: the first refusal, or

@@ -19,7 +19,7 @@ from . import exports, refusals, reports, wire
 from .errors import NoAnswer, NotADesk, Refused, told
 from .members import Members, read_object
 from .messages import read_instant_action, read_order
-from .values import Answer, Job, Load, Stocktake, Stop, Vehicle, VehicleRow
+from .values import PHASES, Answer, Job, JobPhase, Load, Stocktake, Stop, Vehicle, VehicleRow
 from ..common.names import (
     BadName,
     BadValue,
@@ -39,6 +39,7 @@ __all__ = [
     'BadValue',
     'Desk',
     'Job',
+    'JobPhase',
     'Load',
     'NoAnswer',
     'NotADesk',
@@ -54,6 +55,9 @@ HEAD = 65_536
 JSON = 1_000_000
 TEXT = 80_000_000
 LONG = ('/report/', '/export/')  # how the paths of answers that are text begin
+# Texts that are short in every warehouse: a layout is as long as the largest body, and its last
+# line end; 2,001 lines of holds and 100 vehicles have less than 300,000 bytes.
+SHORT = {'/export/layout': BODY + 1, '/report/holds': JSON, '/export/vehicles': JSON}
 PROXY = {
     401: ('Unauthorized', 'The proxy requires a user', 'Give a user and the password.'),
     403: (
@@ -88,7 +92,8 @@ def refused(answer: Answer) -> Refused | NotADesk:
     if known is None:
         sentence, advice = f'The desk refuses it: {name}', 'Look into docs/HTTP.md.'
         return Refused(name, number, answer.status, plain, sentence, advice)
-    return Refused(name, number, answer.status, plain, known.sentence(plain), known.advice)
+    sentence = known.sentence(plain)
+    return Refused(name, number, answer.status, plain, sentence, known.advice, known.on_page)
 
 
 class Desk:
@@ -220,7 +225,7 @@ class Desk:
         connection = http.client.HTTPConnection('localhost')
         connection.auto_open = 0
         connection.sock = at
-        most = TEXT if target.startswith(LONG) else JSON
+        most = SHORT.get(target, TEXT if target.startswith(LONG) else JSON)
         try:
             # What answers before it has read the whole body may close the connection meanwhile.
             with contextlib.suppress(BrokenPipeError, ConnectionResetError):
@@ -334,6 +339,17 @@ class Desk:
         )
         return told.number('orderUpdateId')
 
+    def start_drive(self, order: str, vehicle: VehicleKey, to: str, edges: int) -> int:
+        """Gives a vehicle an order without actions, to a node, with so many edges released. Returns
+        the number of its update."""
+        body = {
+            **_key(vehicle),
+            'order': checked(order, 'order'),
+            'to': checked(to, 'node'),
+            'edges': checked_number(edges, 'edges'),
+        }
+        return self._members('POST', '/drives', body).number('orderUpdateId')
+
     def advance(self, vehicle: VehicleKey, order: str, update: int, edges: int) -> int:
         """Releases so many edges more, by the update of this number, and returns the number."""
         body = {
@@ -413,6 +429,23 @@ class Desk:
         told = self._members('GET', f'/loads/{checked(name, "load")}')
         told.same('load', told.name('load'), name)
         return Load(name, told.place('place'), told.name_or_none('job'))
+
+    def job(self, name: str) -> JobPhase:
+        """Returns a job, ended or not, and which vehicle carries it out."""
+        told = self._members('GET', f'/jobs/{checked(name, "job")}/phase')
+        told.same('job', told.name('job'), name)
+        found = JobPhase(
+            name=name,
+            load=told.name('load'),
+            origin=told.name('from'),
+            target=told.name('to'),
+            phase=told.one_of('phase', PHASES),
+            vehicle=told.key_or_none('vehicle'),
+            order=told.name_or_none('order'),
+        )
+        if {found.vehicle is not None, found.order is not None} != {found.phase == 'riding'}:
+            raise NotADesk(f'job {name} is {found.phase}, by order {found.order}')
+        return found
 
     def vehicle(self, vehicle: VehicleKey) -> Vehicle:
         """Returns what the desk knows of a vehicle."""

@@ -31,7 +31,8 @@ class NotADesk(NoAnswer):
 class Refused(Exception):
     """A refusal: its name, its number (0 where a proxy before the desk refuses), the status and the
     members of the answer that are texts, numbers or truth values. Its `str()` is the sentence of
-    what is wrong; `advice` says what to do."""
+    what is wrong; `advice` says what to do on the command line, and `on_page` on a page, where that
+    is not the same."""
 
     def __init__(
         self,
@@ -41,10 +42,11 @@ class Refused(Exception):
         members: Mapping[str, object],
         sentence: str,
         advice: str,
+        on_page: str | None = None,
     ):
         super().__init__(shown(sentence, SENTENCE))
         self.name, self.number, self.status, self.members = name, number, status, dict(members)
-        self.advice = advice
+        self.advice, self.on_page = advice, advice if on_page is None else on_page
 
     def told(self) -> str:
         """Returns all that a person is told: `Held (33): The vehicle KIT/0001 holds node N2. Wait

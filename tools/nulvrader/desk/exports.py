@@ -13,6 +13,7 @@ from .values import Job, VehicleRow
 from ..common.layouts import BadLayout, Layout
 from ..common.layouts import read_layout as read_file
 from ..common.names import LARGEST, VehicleKey
+from ..common.tables import BODY
 
 LOADS_HEADER = 'load,place,at'
 JOBS_HEADER = 'job,load,from,to,phase,manufacturer,serialNumber,order'
@@ -137,8 +138,10 @@ def read_layout(export: bytes) -> Layout | None:
     """Returns the layout, or None where the desk has none yet."""
     if export == f'{LAYOUT_HEADER}\n'.encode():
         return None
+    # The largest file that a desk takes may lack its last line end, which an export has.
+    if len(export) > BODY + 1:
+        raise BadReport(f'an export of the layout has more than {BODY + 1:,} bytes')
     try:
-        # The largest file that a desk takes may lack its last line end, which an export has.
         layout = read_file(export.removesuffix(b'\n'))
     except BadLayout as fault:
         raise BadReport(f'an export of the layout is no layout: {fault}') from None

@@ -3,6 +3,7 @@ from __future__ import annotations
 
 import json
 import re
+from collections.abc import Collection
 from typing import Any, NoReturn
 
 from .errors import NotADesk
@@ -91,6 +92,23 @@ class Members:
     def name_or_none(self, member: str) -> str | None:
         """Returns a name, or None where the member is null."""
         return None if self.any(member) is None else self.name(member)
+
+    def one_of(self, member: str, words: Collection[str]) -> str:
+        """Returns a text that is one of these."""
+        value = self.text(member)
+        if value not in words:
+            raise self.wrong(member, value)
+        return value
+
+    def key_or_none(self, member: str) -> VehicleKey | None:
+        """Returns a vehicle from a text such as `KIT/0001`, or None where the member is null."""
+        value = self.any(member)
+        if value is None:
+            return None
+        try:
+            return VehicleKey.parse(self.text(member))
+        except BadName:
+            raise self.wrong(member, value) from None
 
     def number(self, member: str, least: int = 0, most: int = LARGEST) -> int:
         """Returns a whole number from `least` to `most`."""

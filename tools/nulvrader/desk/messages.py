@@ -45,7 +45,7 @@ class OrderEdge(Edge):
 class Order:
     """The last message of an open order. It begins at the last node that was released before its
     update, so it has the rest of the way alone, and of the acts those on it. The last act of an
-    order stands on the last node."""
+    order stands on the last node; a drive has no acts."""
 
     name: str
     update: int
@@ -56,6 +56,11 @@ class Order:
     def acts(self) -> list[Act]:
         """The acts on the rest of the way, in their order."""
         return [act for node in self.nodes for act in node.acts]
+
+    def is_drive(self) -> bool:
+        """Whether it only leads its vehicle to a node. Any other order has its last act still in
+        the last of its messages."""
+        return not self.acts()
 
     def next_edge(self) -> OrderEdge | None:
         """The first edge that is not released, or None where all is."""
@@ -110,7 +115,7 @@ def read_act(action: Members) -> Act:
 
 def check_way(order: Order) -> None:
     """Raises `NotADesk` where the nodes and edges of an order make no way, what is released is not
-    its beginning, or nothing is done at its end."""
+    its beginning, nothing is done at its end though something before, or a drive leads nowhere."""
     nodes, edges = order.nodes, order.edges
     joins = len(nodes) == len(edges) + 1 <= MOST_EDGES + 1 and all(
         (edge.start, edge.finish) == (before.name, after.name) and edge.released == after.released
@@ -119,8 +124,10 @@ def check_way(order: Order) -> None:
     released = [node.released for node in nodes]
     if not joins or not released[0] or released != sorted(released, reverse=True):
         raise NotADesk(f'the nodes and edges of order {order.name} are no way')
-    if not nodes[-1].acts:
+    if not order.is_drive() and not nodes[-1].acts:
         raise NotADesk(f'the order {order.name} does nothing at its end')
+    if order.is_drive() and not edges:
+        raise NotADesk(f'the order {order.name} does nothing and leads nowhere')
 
 
 def read_instant_action(message: Mapping[str, Any]) -> tuple[VehicleKey, str]:

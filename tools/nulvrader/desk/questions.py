@@ -10,13 +10,15 @@ from .client import Desk, Vehicle
 from .messages import Act, Order, read_order
 from ..common.names import VehicleKey
 from .reports import Holds, Stock, read_holds, read_stock
+from .waits import Thing, circles_of, first_held
 
 
 @dataclass(frozen=True)
 class OrderRow:
     """An open order: its vehicle and where that stands, the numbers of the last update that was
     sent and that is confirmed, the node up to which the way is released, how many edges are not,
-    and what is still to be picked and dropped on the rest of the way, or was just done there."""
+    what is still to be picked and dropped on the rest of the way, or was just done there, and the
+    node of its end. A drive has no acts."""
 
     order: str
     vehicle: VehicleKey
@@ -26,10 +28,11 @@ class OrderRow:
     released_to: str
     edges_left: int
     acts: tuple[Act, ...]
+    end: str
 
 
 @dataclass(frozen=True)
-class Wait:
+class BlockedOrder:
     """A vehicle with an open order whose next edge, or the node behind it, another vehicle holds.
     `in_circle` says that this one waits, over others, for the first: none of them gets free by
     itself."""
@@ -68,50 +71,39 @@ def orders(desk: Desk) -> list[OrderRow]:
         row = rows[order.vehicle]
         left = sum(1 for edge in order.edges if not edge.released)
         numbers = order.update, row.confirmed
-        at = OrderRow(
-            order.name, row.key, row.node, *numbers, order.base_end(), left, tuple(order.acts())
+        acts, end = tuple(order.acts()), order.nodes[-1].name
+        found.append(
+            OrderRow(order.name, row.key, row.node, *numbers, order.base_end(), left, acts, end)
         )
-        found.append(at)
     return sorted(found, key=lambda one: one.order)
 
 
-def who_waits(desk: Desk) -> list[Wait]:
+def who_waits(desk: Desk) -> list[BlockedOrder]:
     """The vehicles whose next edge another vehicle holds. Two requests, and one for each order."""
     with desk.kept():
         opened = open_orders(desk, desk.vehicles().values())
-        holds = held(desk)
+        holders = held(desk).holders()
     waits = [
-        (order, blocked) for order in opened if (blocked := blocked_by(order, holds)) is not None
+        (order, found)
+        for order in opened
+        if (found := first_held(order.vehicle, next_things(order), holders)) is not None
     ]
-    by = {order.vehicle: key for order, (_, key) in waits}
+    circles = circles_of({order.vehicle: by for order, (_, by) in waits})
+    in_circle = {vehicle for circle in circles for vehicle in circle}
     return [
-        Wait(
-            order.vehicle, order.name, order.base_end(), what, key, is_in_circle(order.vehicle, by)
+        BlockedOrder(
+            order.vehicle,
+            order.name,
+            order.base_end(),
+            f'{kind} {name}',
+            by,
+            order.vehicle in in_circle,
         )
-        for order, (what, key) in waits
+        for order, ((kind, name), by) in waits
     ]
 
 
-def blocked_by(order: Order, holds: Holds) -> tuple[str, VehicleKey] | None:
-    """The first of the next edge and the node behind it that another vehicle holds: `edge E12` or
-    `node N2`, and which vehicle that is."""
+def next_things(order: Order) -> list[Thing]:
+    """The next edge of an order, and the node behind it; none where all of it is released."""
     edge = order.next_edge()
-    if edge is None:
-        return None
-    for what, holder in (
-        ('edge ' + edge.name, holds.edges.get(edge.name)),
-        ('node ' + edge.finish, holds.nodes.get(edge.finish)),
-    ):
-        if holder is not None and holder != order.vehicle:
-            return what, holder
-    return None
-
-
-def is_in_circle(key: VehicleKey, by: dict[VehicleKey, VehicleKey]) -> bool:
-    """Whether a vehicle waits, over others, for itself."""
-    at = by.get(key)
-    for _ in by:
-        if at is None or at == key:
-            break
-        at = by.get(at)
-    return at == key
+    return [] if edge is None else [('edge', edge.name), ('node', edge.finish)]

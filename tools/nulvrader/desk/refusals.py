@@ -1,6 +1,5 @@
 """What a desk refuses: of each refusal its number, name and status, what is wrong, and what to do.
-The table of docs/HTTP.md and the lists of docs/OPERATE.md have the same texts, which a test
-compares."""
+The table of docs/HTTP.md and the lists of docs/OPERATE.md have the same texts."""
 from __future__ import annotations
 
 from collections.abc import Mapping
@@ -9,14 +8,16 @@ from dataclasses import dataclass
 
 @dataclass(frozen=True)
 class Refusal:
-    """One refusal. `says` is what is wrong, `advice` what to do, and `told` what is wrong with the
-    members of the answer in braces, where it has any beside name and number."""
+    """One refusal. `says` is what is wrong, and `told` the same with the members of the answer in
+    braces, where it has any beside name and number. `remedy` is what to do, and `command` what a
+    program of the command line has to say besides; one of both may be empty."""
 
     number: int
     name: str
     status: int
     says: str
-    advice: str
+    remedy: str
+    command: str = ''
     told: str = ''
 
     def sentence(self, members: Mapping[str, object]) -> str:
@@ -27,6 +28,16 @@ class Refusal:
         except KeyError:
             return self.says
 
+    @property
+    def advice(self) -> str:
+        """What to do, for who has the command line."""
+        return ' '.join(part for part in (self.remedy, self.command) if part)
+
+    @property
+    def on_page(self) -> str:
+        """What to do, for who looks at a page: without programs, and without marks of code."""
+        return self.remedy.replace('`', '')
+
 
 BAD_REQUEST = 'The client is wrong: docs/HTTP.md says what a request is.'
 UNKNOWN = 'There is nothing of that name. Upper and lower case differ.'
@@ -35,8 +46,9 @@ USED = (
     ' done; else take another name.'
 )
 CSV_LINES = (
+    '',
     '`tools/check-layout` and `tools/check-count` name the line and the rule of each error in a'
-    ' file.'
+    ' file.',
 )
 NOT_RELEASED = (
     "The vehicle reports a node that isn't released to it, or isn't on its way. Stop the vehicle:"
@@ -48,8 +60,8 @@ OUT_OF_TURN = (
     ' correct its loads.'
 )
 STATE_FORM = (
-    'A state has whole numbers, no positions, and the members of docs/PROFILE.md; `tools/gateway`'
-    ' sees to the numbers and positions.'
+    'A state has whole numbers, no positions, and the members of docs/PROFILE.md.',
+    '`tools/gateway` sees to the numbers and positions.',
 )
 
 # Of each refusal a line: number, name, status, and what is wrong.
@@ -115,8 +127,8 @@ TABLE = '''
 90 Memory 503 Out of memory
 91 Storage 503 A fault of the store
 '''
-# What to do, by name.
-ADVICE = {
+# What to do, by name: a text, or two of which the other is about the command line.
+ADVICE: dict[str, str | tuple[str, str]] = {
     'BadHead': BAD_REQUEST,
     'NoLength': 'PUT and POST need `Content-Length`; without a body it is `Content-Length: 0`.',
     'TooLarge': 'Split a stocktake into several; give a layout shorter names.',
@@ -129,7 +141,7 @@ ADVICE = {
     'BadJson': BAD_REQUEST,
     'Fraction': STATE_FORM,
     'Position': STATE_FORM,
-    'BadBody': '`tools/ask call` checks a body and names the member.',
+    'BadBody': ('', '`tools/ask call` checks a body and names the member.'),
     'BadCsv': CSV_LINES,
     'Version': STATE_FORM,
     'BadTimestamp': STATE_FORM,
@@ -146,15 +158,16 @@ ADVICE = {
     'LayoutSet': "The layout can't be changed. Another one needs a new file.",
     'LayoutBad': CSV_LINES,
     'Held': (
-        'Wait until the states of that vehicle have freed it, or release fewer edges. `tools/ask'
-        ' who-waits` shows vehicles that wait for one another; docs/OPERATE.md says how to free'
-        ' them.'
+        'Wait until the states of that vehicle have freed it, or release fewer edges.',
+        '`tools/ask who-waits` shows vehicles that wait for one another; docs/OPERATE.md says how'
+        ' to free them.',
     ),
     'Full': (
-        'The loads at the station and the live jobs to it fill it, as the stock report shows: `1 of'
-        ' 2, reserved 1`. Take another station, or stop a job to it.'
+        'The loads at the station and the live jobs to it fill it. Take another station, or stop a'
+        ' job to it.',
+        'The stock report shows both: `1 of 2, reserved 1`.',
     ),
-    'InJob': "`tools/ask load` names it. Stop the load's job, or wait.",
+    'InJob': ("Stop the load's job, or wait.", '`tools/ask load` names it.'),
     'Elsewhere': (
         'The load has left; or, for a job, it stands at no station: `correct` its place first.'
     ),
@@ -182,15 +195,22 @@ ADVICE = {
         ' the vehicle has rejected the message, as its `errors` say: then clear the order on it and'
         ' `place` it.'
     ),
-    'WrongUpdate': 'Send the number after the last one; `tools/ask advance` finds it by itself.',
-    'Beyond': (
-        'Release fewer edges, and with an update at least one: `tools/ask orders` says how many are'
-        ' left.'
+    'WrongUpdate': (
+        'Send the number after the last one.',
+        '`tools/ask advance` finds it by itself.',
     ),
-    'NoWalk': 'No way leads to the pick or to the drop. `tools/check-layout` names such stations.',
+    'Beyond': (
+        'Release fewer edges, and with an update at least one.',
+        '`tools/ask orders` says how many are left.',
+    ),
+    'NoWalk': (
+        'No way leads to the pick, to the drop, or to the node of a drive; or the vehicle stands'
+        ' there.',
+        '`tools/check-layout` names stations without a way.',
+    ),
     'TooLong': (
-        'Take a vehicle that stands nearer, or carry the load by two jobs, with a station in'
-        ' between.'
+        'Take a vehicle that stands nearer, carry the load by two jobs, with a station in between,'
+        ' or drive to a node in between.'
     ),
     'Spent': 'After 4,294,967,295 messages of a vehicle begin a new file (docs/OPERATE.md).',
     'RefUsed': USED,
@@ -226,9 +246,10 @@ ADVICE = {
         'A vehicle without an order names another node than the desk has, for example because it'
         ' was driven by hand. `place` it there.'
     ),
-    'CountTwice': 'A load stands at one place. `tools/check-count` names both lines.',
+    'CountTwice': ('A load stands at one place.', '`tools/check-count` names both lines.'),
     'OnVehicle': (
-        '`tools/check-count` names it. Once the load has no live job, `correct` it and count again.'
+        'Once the load has no live job, `correct` it and count again.',
+        '`tools/check-count` names it.',
     ),
     'Memory': 'Give the machine or the unit more memory, and ask again.',
     'Storage': (
@@ -246,7 +267,9 @@ TOLD = {
 
 def refusal_of(number: str, name: str, status: str, says: str) -> Refusal:
     """The refusal of a line of the table."""
-    return Refusal(int(number), name, int(status), says, ADVICE[name], TOLD.get(name, ''))
+    advice = ADVICE[name]
+    remedy, command = (advice, '') if isinstance(advice, str) else advice
+    return Refusal(int(number), name, int(status), says, remedy, command, TOLD.get(name, ''))
 
 
 ALL = tuple(refusal_of(*line.split(maxsplit=3)) for line in TABLE.strip().splitlines())

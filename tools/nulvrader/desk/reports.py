@@ -83,6 +83,11 @@ class Holds:
     edges: dict[str, VehicleKey] = field(default_factory=dict)
     things: int = 0
 
+    def holders(self) -> dict[tuple[str, str], VehicleKey]:
+        """Returns the vehicle of each thing that is held, by its kind and its name."""
+        nodes = {('node', name): vehicle for name, vehicle in self.nodes.items()}
+        return nodes | {('edge', name): vehicle for name, vehicle in self.edges.items()}
+
 
 def read_stock(report: bytes) -> Stock:
     """Returns the stock report. It ends with how many loads have left, and lists as many loads at

@@ -6,6 +6,9 @@ from dataclasses import dataclass
 from ..common.names import VehicleKey
 
 
+PHASES = ('waiting', 'riding', 'done', 'stopped')
+
+
 @dataclass(frozen=True)
 class Answer:
     """What was answered: the status and the bytes of the body."""
@@ -47,6 +50,21 @@ class Job:
     def phase(self) -> str:
         """`waiting` or `riding`."""
         return 'waiting' if self.order is None else 'riding'
+
+
+@dataclass(frozen=True)
+class JobPhase:
+    """A job, ended or not: its load, the stations from which and to which it leads, and its phase,
+    one of `PHASES`. While it rides, `vehicle` and `order` name the open order that has it; else
+    both are None."""
+
+    name: str
+    load: str
+    origin: str
+    target: str
+    phase: str
+    vehicle: VehicleKey | None = None
+    order: str | None = None
 
 
 @dataclass(frozen=True)

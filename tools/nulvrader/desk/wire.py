@@ -10,6 +10,7 @@ import ssl
 import threading
 import time
 import urllib.parse
+from collections.abc import Callable
 from dataclasses import dataclass
 from typing import TYPE_CHECKING, Any
 
@@ -137,14 +138,22 @@ def left(ends: float) -> float:
     return seconds
 
 
-def connect(place: Place, context: ssl.SSLContext | None, ends: float) -> Wire:
-    """Returns a connection that was made before a moment, or raises OSError."""
+def connect(
+    place: Place,
+    context: ssl.SSLContext | None,
+    ends: float,
+    check: Callable[[str], None] | None = None,
+) -> Wire:
+    """Returns a connection that was made before a moment, or raises OSError. `check` raises one
+    where an address of the host must not be reached."""
     if place.path is not None:
         sock = socket.socket(socket.AF_UNIX, socket.SOCK_STREAM)
         return Wire(_connected(sock, place.path, ends), ends)
     fault: OSError = ConnectionError('the name has no address')
     for family, kind, protocol, _, at in _addresses(place.host, place.port, ends):
         try:
+            if check is not None:
+                check(str(at[0]))
             sock = _connected(socket.socket(family, kind, protocol), at, ends)
         except OSError as one:
             fault = one

@@ -8,7 +8,7 @@ from ..file import stopped_file
 from ..desk.client import Desk
 from ..common.layouts import Layout, of_parts
 from ..desk.reports import read_holds, read_stock
-from ..file.rows import key_of
+from ..file.tables import key_of
 
 
 @dataclass

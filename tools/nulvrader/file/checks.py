@@ -4,7 +4,8 @@ import dataclasses
 from collections.abc import Callable, Iterator
 
 from ..common.names import is_name
-from .rows import Key, Load, Rows
+from .rows import Rows
+from .tables import Key, Load
 
 SEATS = 4  # the most loads that a vehicle carries at once
 

@@ -14,42 +14,7 @@ import sqlite3
 from collections.abc import Iterator
 from typing import NamedTuple
 
-from .rows import SECOND, TABLES
-
-# The columns of each table: `#` is a whole number and the others are texts; `?` may be NULL. Then
-# its keys, each a list of columns; here the primary one is first, and in a file they may have any
-# order.
-SHAPES: dict[str, tuple[str, list[str]]] = {
-    'meta': ('id# schema#', ['id']),
-    'node': ('id', ['id']),
-    'edge': ('id start finish', ['id']),
-    'station': ('id node capacity#', ['id']),
-    'vehicle': (
-        (
-            'manufacturer serial node rest_edge? rest_node? last_header#? reported? ready# paused#'
-            ' order_header# order_at# instant_header# instant_at# pending?'
-        ),
-        ['manufacturer serial'],
-    ),
-    'trip': (
-        (
-            'order_id manufacturer serial job start first# base# sent# confirmed#? seen# pick_at#'
-            ' drop_at# pick_status drop_status'
-        ),
-        ['order_id', 'manufacturer serial', 'job'],
-    ),
-    'leg': ('order_id k# edge', ['order_id k']),
-    'load': ('id kind station? manufacturer? serial?', ['id']),
-    'job': ('id load origin target phase', ['id']),
-    'hold': ('kind id manufacturer serial', ['kind id']),
-    'used': ('kind id', ['kind id']),
-    'capacity': ('manufacturer serial capacity#', ['manufacturer serial']),
-    'journey': (
-        'order_id manufacturer serial start first# base# sent# confirmed#? seen#',
-        ['order_id', 'manufacturer serial'],
-    ),
-    'act': ('order_id n# job kind place_at# status', ['order_id n', 'job kind']),
-}
+from .tables import KEYS, SECOND, TABLES, columns_of
 
 # The most tables, indexes, views and triggers that are looked at: a desk's file has 37.
 MOST_THINGS = 10_000
@@ -145,7 +110,8 @@ def is_plain(base: sqlite3.Connection, table: Thing) -> bool:
 
 def _quoted(name: str) -> str:
     """A name in an SQL text."""
-    return '"%s"' % name.replace('"', '""')
+    doubled = name.replace('"', '""')
+    return f'"{doubled}"'
 
 
 @dataclasses.dataclass(frozen=True)
@@ -308,27 +274,24 @@ def _indexes_unread(base: sqlite3.Connection, table: str) -> Iterator[str]:
 def _oddities(base: sqlite3.Connection, thing: Thing, things: list[Thing]) -> Iterator[str]:
     """What about a table isn't as the desk makes it."""
     table = thing.name
-    columns, keys = SHAPES[table]
+    columns, keys = columns_of(table), [key.split() for key in KEYS[table]]
     found = base.execute(f'PRAGMA table_xinfo("{table}")').fetchall()
-    names = [column.rstrip('#?') for column in columns.split()]
+    names = [column.name for column in columns]
     if [row[1] for row in found] != names:
         yield f'has the columns {", ".join(row[1] for row in found)}, and not {", ".join(names)}'
         return
-    for (_, name, kind, not_null, default, key, hidden), wanted in zip(found, columns.split()):
-        if kind.upper() not in (('INT', 'INTEGER') if '#' in wanted else ('TEXT',)):
+    for (_, name, kind, not_null, default, key, hidden), wanted in zip(found, columns):
+        if kind.upper() not in (('INT', 'INTEGER') if wanted.is_number else ('TEXT',)):
             yield f'has the column {name} of the type {kind}'
-        if not key and bool(not_null) != ('?' not in wanted):
+        if not key and bool(not_null) == wanted.may_be_null:
             yield f'has the column {name} that {"may not" if not_null else "may"} be NULL'
         if default is not None and default.upper() != 'NULL':
             yield f'has the column {name} with the default {default}'
         if hidden:
             yield f'has the column {name} that is generated'
     written = _keys(base, table)
-    if {frozenset(key) for key in written} != {frozenset(key.split()) for key in keys}:
-        yield 'has the keys %s, and not %s' % tuple(
-            ', '.join(f'({", ".join(key)})' for key in said)
-            for said in (written, [key.split() for key in keys])
-        )
+    if {frozenset(key) for key in written} != {frozenset(key) for key in keys}:
+        yield f'has the keys {_told_keys(written)}, and not {_told_keys(keys)}'
     options = _options(thing)
     if options is None or not options.strict:
         yield "isn't STRICT"
@@ -338,6 +301,11 @@ def _oddities(base: sqlite3.Connection, thing: Thing, things: list[Thing]) -> It
         yield 'has a foreign key'
     yield from _rules_in_text(thing.text)
     yield from _unread_on(base, table, _triggers_of(things))
+
+
+def _told_keys(keys: list[list[str]]) -> str:
+    """Keys as they are told: `(id), (job, kind)`."""
+    return ', '.join(f'({", ".join(key)})' for key in keys)
 
 
 class Options(NamedTuple):
@@ -399,8 +367,10 @@ def _has_check(text: str) -> bool:
 
 def _bare(text: str) -> str:
     """An SQL text without its comments, names in quotes, and texts, and with blanks for byte order
-    marks, as SQLite reads these."""
+    marks, as SQLite reads these. What has no end goes on to that of the text, so that each
+    character is passed once."""
     quoted = (
-        r'--[^\n]*|/\*.*?(?:\*/|\Z)|\'(?:[^\']|\'\')*\'|"(?:[^"]|"")*"|`(?:[^`]|``)*`|\[[^\]]*\]'
+        r'--[^\n]*|/\*.*?(?:\*/|\Z)|\'(?:[^\']|\'\')*+(?:\'|\Z)|"(?:[^"]|"")*+(?:"|\Z)'
+        r'|`(?:[^`]|``)*+(?:`|\Z)|\[[^\]]*+(?:\]|\Z)'
     )
     return re.sub(quoted, ' ', text, flags=re.S).replace('\ufeff', ' ')

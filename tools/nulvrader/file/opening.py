@@ -3,6 +3,7 @@ beside it. What it may cost is bounded by its size."""
 from __future__ import annotations
 
 import contextlib
+import errno
 import fcntl
 import os
 import sqlite3
@@ -77,6 +78,65 @@ def opened(
         stack.callback(base.close)
         bound(base, size)
         yield base
+
+
+def take(path: str, folder: str) -> str:
+    """Copies a file that nobody else writes, and what lies beside it, into a folder by the same
+    name, and returns where the copy is. Each is opened once, by the rights of the user whose folder
+    it is in, and a link is not followed: where others may put a file, root reads none for them that
+    they could not read themselves. The errors are those of `opened` with `alone`."""
+    name = os.path.basename(path)
+    place = os.open(os.path.dirname(path) or '.', os.O_RDONLY | os.O_DIRECTORY | os.O_CLOEXEC)
+    copy = os.path.join(folder, name)
+    with contextlib.ExitStack() as stack:
+        stack.callback(os.close, place)
+        for end in ('', '-journal', '-wal'):
+            try:
+                with _as_the_owner(place):
+                    file = stack.enter_context(_opened_in(place, path + end))
+            except FileNotFoundError:
+                if not end:
+                    raise
+                continue
+            if not end:
+                fcntl.lockf(file, fcntl.LOCK_SH | fcntl.LOCK_NB, *LOCKED)
+            _copy(file, _size(path + end, file), copy + end)
+    return copy
+
+
+@contextlib.contextmanager
+def _as_the_owner(folder: int) -> Iterator[None]:
+    """Has no more rights than the user whose folder this is, if root runs this."""
+    owner, groups = os.fstat(folder), os.getgroups()
+    if os.geteuid() != 0 or owner.st_uid == 0:
+        yield
+        return
+    os.setgroups([])
+    os.setegid(owner.st_gid)
+    os.seteuid(owner.st_uid)
+    try:
+        yield
+    finally:
+        os.seteuid(0)
+        os.setegid(0)
+        os.setgroups(groups)
+
+
+def _opened_in(folder: int, path: str) -> BinaryIO:
+    """Opens a regular file of a folder to be read. A link there is none."""
+    flags = os.O_RDONLY | os.O_NONBLOCK | os.O_NOCTTY | os.O_CLOEXEC | os.O_NOFOLLOW
+    try:
+        handle = os.open(os.path.basename(path), flags, dir_fd=folder)
+    except OSError as fault:
+        if fault.errno == errno.ELOOP:
+            raise NotPlain(path, 'it is a link: name the file itself') from None
+        raise
+    try:
+        plain_files.check_mode(path, os.fstat(handle).st_mode)
+        return os.fdopen(handle, 'rb')
+    except BaseException:
+        os.close(handle)
+        raise
 
 
 def bound(base: sqlite3.Connection, size: int) -> None:

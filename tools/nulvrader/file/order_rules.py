@@ -2,7 +2,8 @@
 import collections
 
 from .checks import SEATS, Found, rule, value_text, vehicle_text
-from .rows import Act, Leg, Rows, key_of
+from .rows import Rows
+from .tables import Act, Leg, key_of
 
 OVER = ('FINISHED', 'FAILED')
 
@@ -64,8 +65,8 @@ def ways_are_walks(rows: Rows) -> Found:
 
 @rule('jobs of an order')
 def orders_pick_and_drop(rows: Rows) -> Found:
-    """An open order is for one job or more, at most as many as its vehicle carries loads, and picks
-    each of them once and, later, drops it once."""
+    """An open order is for at most as many jobs as its vehicle carries loads, and picks each of
+    them once and, later, drops it once. An order for no job is a drive."""
     for key, way in rows.ways.items():
         stops: dict[str, list[str]] = collections.defaultdict(list)
         for act in way.acts:
@@ -73,14 +74,15 @@ def orders_pick_and_drop(rows: Rows) -> Found:
         for job, kinds in stops.items():
             if kinds != ['pick', 'drop']:
                 yield f'{way.journey}, job {job}', 'its acts for the job are: ' + ', '.join(kinds)
-        if not 1 <= len(stops) <= rows.capacities.get(key, SEATS):
+        if len(stops) > rows.capacities.get(key, SEATS):
             yield way.journey, f'it is for {len(stops)} jobs'
 
 
 @rule('places of acts')
 def acts_are_at_stations(rows: Rows) -> Found:
     """Each act of an open order is at the node of its station, which is the origin of its job for a
-    pick and the target for a drop; the acts follow the way, and the last one is at its end."""
+    pick and the target for a drop; the acts follow the way, and the last one, if there is one, is
+    at its end."""
     for way in rows.ways.values():
         for act in way.acts:
             station = _station_of(rows, act)
@@ -158,11 +160,8 @@ def ended_orders_are_gone(rows: Rows) -> Found:
     """An order whose vehicle is at the end of the way, with all acts finished or failed, is not
     open."""
     for way in rows.ways.values():
-        if (
-            way.acts
-            and way.journey.seen == len(way.legs)
-            and all(act.status in OVER for act in way.acts)
-        ):
+        at_end = way.journey.seen == len(way.legs)
+        if at_end and all(act.status in OVER for act in way.acts):
             yield way.journey, 'it has ended'
 
 

@@ -3,7 +3,8 @@ import collections
 
 from .checks import SEATS, Found, rule, value_text, vehicle_text
 from ..common.names import is_name
-from .rows import (
+from .rows import Rows
+from .tables import (
     MANY,
     MOST,
     Act,
@@ -13,7 +14,6 @@ from .rows import (
     Leg,
     Load,
     Node,
-    Rows,
     Station,
     Used,
     Vehicle,

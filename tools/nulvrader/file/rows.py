@@ -1,189 +1,41 @@
-"""The rows of a desk's file as docs/TABLES.md has them: a type for the rows of each table, all rows
-of a file, and what follows from them that more than one rule asks for: the way of each open order,
-and what each vehicle holds. A file may have anything in the place of these rows: they are read one
-by one, and no more than a desk has."""
+"""The rows of a desk's file, and what follows from them that more than one rule asks for: the way
+of each open order, and what each vehicle holds. A file may have anything in the place of these
+rows: they are read one by one, and no more than a desk has."""
 from __future__ import annotations
 
 import collections
 import dataclasses
 import functools
-import itertools
 import sqlite3
-import typing
 from collections.abc import Callable, Iterable, Iterator
-from typing import Any, NamedTuple, TypeVar
+from typing import Any, TypeVar
 
-MANY = 1_000_000  # the most loads, jobs, orders and references, of each
-LIVE = ('waiting', 'riding')
-Of = TypeVar('Of', bound=type[tuple[Any, ...]])
+from .tables import (
+    MOST,
+    SECOND,
+    TABLES,
+    Act,
+    Capacity,
+    Edge,
+    Hold,
+    Job,
+    Journey,
+    Key,
+    Leg,
+    Load,
+    Meta,
+    Node,
+    Row,
+    Station,
+    Trip,
+    Used,
+    Vehicle,
+    columns,
+    key_of,
+    types_of,
+)
 
-
-def told_as(form: str) -> Callable[[Of], Of]:
-    """Has `str()` of a row tell its table and its key, which are its first columns."""
-    columns_told = form.count('%')
-
-    def with_text(of: Of) -> Of:
-        setattr(of, '__str__', lambda row: form % row[:columns_told])
-        return of
-
-    return with_text
-
-
-@told_as('meta %d, %d')
-class Meta(NamedTuple):
-    id: int
-    schema: int
-
-
-@told_as('node %s')
-class Node(NamedTuple):
-    id: str
-
-
-@told_as('edge %s')
-class Edge(NamedTuple):
-    id: str
-    start: str
-    finish: str
-
-
-@told_as('station %s')
-class Station(NamedTuple):
-    id: str
-    node: str
-    capacity: int
-
-
-@told_as('vehicle %s/%s')
-class Vehicle(NamedTuple):
-    manufacturer: str
-    serial: str
-    node: str
-    rest_edge: str | None
-    rest_node: str | None
-    last_header: int | None
-    reported: str | None
-    ready: int
-    paused: int
-    order_header: int
-    order_at: int
-    instant_header: int
-    instant_at: int
-    pending: str | None
-
-
-@told_as('trip %s')
-class Trip(NamedTuple):
-    """An open order as the first schema has it; in the second one this table is empty."""
-
-    order_id: str
-    manufacturer: str
-    serial: str
-    job: str
-    start: str
-    first: int
-    base: int
-    sent: int
-    confirmed: int | None
-    seen: int
-    pick_at: int
-    drop_at: int
-    pick_status: str
-    drop_status: str
-
-
-@told_as('leg %s, %d')
-class Leg(NamedTuple):
-    order_id: str
-    k: int
-    edge: str
-
-
-@told_as('load %s')
-class Load(NamedTuple):
-    id: str
-    kind: str
-    station: str | None
-    manufacturer: str | None
-    serial: str | None
-
-
-@told_as('job %s')
-class Job(NamedTuple):
-    id: str
-    load: str
-    origin: str
-    target: str
-    phase: str
-
-
-@told_as('hold %s %s')
-class Hold(NamedTuple):
-    kind: str
-    id: str
-    manufacturer: str
-    serial: str
-
-
-@told_as('used %s %s')
-class Used(NamedTuple):
-    kind: str
-    id: str
-
-
-@told_as('capacity %s/%s')
-class Capacity(NamedTuple):
-    manufacturer: str
-    serial: str
-    capacity: int
-
-
-@told_as('journey %s')
-class Journey(NamedTuple):
-    order_id: str
-    manufacturer: str
-    serial: str
-    start: str
-    first: int
-    base: int
-    sent: int
-    confirmed: int | None
-    seen: int
-
-
-@told_as('act %s, %d')
-class Act(NamedTuple):
-    order_id: str
-    n: int
-    job: str
-    kind: str
-    place_at: int
-    status: str
-
-
-Row = (
-    Meta
-    | Node
-    | Edge
-    | Station
-    | Vehicle
-    | Trip
-    | Leg
-    | Load
-    | Job
-    | Hold
-    | Used
-    | Capacity
-    | Journey
-    | Act
-)  # a row of any table; its text names the table and the key
-Key = tuple[str, str]  # a vehicle's manufacturer and serial number
 Thing = tuple[str, str]  # `node` or `edge`, and its name
-
-
-def key_of(row: Vehicle | Capacity | Journey | Hold) -> Key:
-    """The vehicle that the row is about."""
-    return row.manufacturer, row.serial
 
 
 @dataclasses.dataclass(frozen=True)
@@ -306,49 +158,6 @@ def _without_order(vehicle: Vehicle) -> Iterator[Thing]:
         yield 'node', vehicle.rest_node
 
 
-TABLES: dict[str, type[Row]] = {
-    'meta': Meta,
-    'node': Node,
-    'edge': Edge,
-    'station': Station,
-    'vehicle': Vehicle,
-    'trip': Trip,
-    'leg': Leg,
-    'load': Load,
-    'job': Job,
-    'hold': Hold,
-    'used': Used,
-    'capacity': Capacity,
-    'journey': Journey,
-    'act': Act,
-}
-SECOND = ('capacity', 'journey', 'act')  # the tables that the first schema lacks
-
-
-def columns(table: str) -> tuple[str, ...]:
-    """The columns of a table, in their order."""
-    return TABLES[table]._fields
-
-
-# The most rows of each table by the limits of README.md.
-MOST = {
-    'meta': 1,
-    'node': 500,
-    'edge': 1500,
-    'station': 500,
-    'vehicle': 100,
-    'trip': 100,
-    'leg': 100 * 200,
-    'load': MANY,
-    'job': MANY,
-    'hold': 500 + 1500,
-    'used': 2 * MANY,
-    'capacity': 100,
-    'journey': 100,
-    'act': 100 * 2 * 4,
-}
-
-
 LONGEST = 64  # the most characters of a text that is read: a name has 32 bytes
 VALUE = 1000  # the most bytes of one that SQLite reads, where it lies in more than a page
 
@@ -364,7 +173,7 @@ def rows_in(base: sqlite3.Connection, table: str, most: int | None = None) -> It
     columns, or one with a text of more than `LONGEST` characters, is a `BadRows`."""
     base.text_factory = any_text
     base.setlimit(sqlite3.SQLITE_LIMIT_LENGTH, VALUE)
-    allowed, make = _types_of(table), TABLES[table]._make
+    allowed, make = types_of(table), TABLES[table]._make
     most = MOST[table] if most is None else most
     names = ', '.join(f'"{name}"' for name in columns(table))
     for number, values in enumerate(base.execute(f'SELECT {names} FROM "{table}" NOT INDEXED')):
@@ -375,13 +184,6 @@ def rows_in(base: sqlite3.Connection, table: str, most: int | None = None) -> It
         if any(isinstance(value, str) and len(value) > LONGEST for value in values):
             raise BadRows(f'the table {table} has a text of more than {LONGEST} characters')
         yield make(values)
-
-
-@functools.cache
-def _types_of(table: str) -> frozenset[tuple[type, ...]]:
-    """The types that the values of a row may have."""
-    hints = typing.get_type_hints(TABLES[table]).values()
-    return frozenset(itertools.product(*(typing.get_args(hint) or (hint,) for hint in hints)))
 
 
 def read_rows(base: sqlite3.Connection) -> Rows:

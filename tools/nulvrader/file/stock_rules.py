@@ -2,7 +2,8 @@
 import collections
 
 from .checks import Found, place_text, rule, value_text, vehicle_text
-from .rows import LIVE, Key, Rows
+from .rows import Rows
+from .tables import LIVE, Key
 
 
 @rule('places of loads')

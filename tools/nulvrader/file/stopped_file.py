@@ -13,8 +13,9 @@ from . import database, opening, rows
 from ..common.layouts import Edge, Layout, Station, of_parts
 from ..common.names import VehicleKey, is_name
 from ..common.plain_files import PATH, NotPlain
-from .rows import BadRows
 from ..common.text import shown
+from .rows import BadRows
+from .tables import LIVE, key_of
 
 SCHEMA = 2
 STOPPED = 'another SQLite was stopped in the middle of a change: tools/why says what to do'
@@ -104,19 +105,17 @@ def places_in(base: sqlite3.Connection) -> dict[str, str]:
 
 def vehicles_in(base: sqlite3.Connection, layout: Layout) -> dict[VehicleKey, tuple[str, int]]:
     """The node and the capacity of each vehicle."""
-    capacities = {rows.key_of(row): row.capacity for row in rows_in(base, 'capacity')}
+    capacities = {key_of(row): row.capacity for row in rows_in(base, 'capacity')}
     found = {}
-    for row in sorted(rows_in(base, 'vehicle'), key=rows.key_of):
-        if row.node not in layout.nodes or rows.key_of(row) not in capacities:
+    for row in sorted(rows_in(base, 'vehicle'), key=key_of):
+        if row.node not in layout.nodes or key_of(row) not in capacities:
             raise BadRows(
                 'a vehicle has no capacity, or stands at a node that the layout does not have'
             )
-        found[VehicleKey(*rows.key_of(row))] = row.node, capacities[rows.key_of(row)]
+        found[VehicleKey(*key_of(row))] = row.node, capacities[key_of(row)]
     return found
 
 
 def live_jobs_in(base: sqlite3.Connection) -> dict[str, tuple[str, str]]:
     """By the load of each live job, the job and its target."""
-    return {
-        job.load: (job.id, job.target) for job in rows_in(base, 'job') if job.phase in rows.LIVE
-    }
+    return {job.load: (job.id, job.target) for job in rows_in(base, 'job') if job.phase in LIVE}

@@ -15,6 +15,7 @@ from .inbox import FRONT, Inbox, Message
 from .log import Clock, Said, Say, Tally, say
 from .owed import INSTANT, ORDER, Owed, read_message
 from .waiting import State, Waiting
+from .words import Words
 
 OLD = 3  # so many states in a row that are old to the desk are said
 FAR = 1000  # a number so far below that of the desk is of another count
@@ -43,11 +44,13 @@ class Gateway:
         *,
         front: str = FRONT,
         instant_list: str = 'actions',
+        words: Words | None = None,
         write: Say = say,
         clock: Clock = time.monotonic,
     ) -> None:
         self.desk, self.broker, self.inbox = desk, broker, inbox
         self.front, self.instant_list, self.clock = front, instant_list, clock
+        self.words = words  # what tells a board of the vehicles, if one is to be told
         self.said = Said(write, clock)
         self.fleet = Fleet(desk, vehicles, self.said, clock)
         self.polled: dict[str, None] = {}  # the vehicles whose messages are fetched, in this order
@@ -64,6 +67,8 @@ class Gateway:
     def turn(self) -> None:
         """Takes what has come, posts what waits, and then fetches once for each vehicle."""
         self.take()
+        if self.words is not None:
+            self.words.turn()
         try:
             self.look()
             for vehicle in list(self.waiting):
@@ -97,6 +102,8 @@ class Gateway:
         self.waiting.pop(vehicle, None)
         self.named.pop(vehicle, None)
         self.old.pop(vehicle, None)
+        if self.words is not None:
+            self.words.forget(vehicle)
         for topic in (ORDER, INSTANT):
             self.owed.pop((vehicle, topic), None)
         self.said.once('vehicles', f'{vehicle}: the desk does not have this vehicle')
@@ -118,6 +125,8 @@ class Gateway:
     def take_state(self, message: Message) -> None:
         """Adds a state to those that wait."""
         state = State.read(message.data)
+        if self.words is not None:
+            self.words.state(message.vehicle, message.data)
         overtaken = self.waiting.setdefault(message.vehicle, Waiting()).add(state)
         if overtaken:
             self.tally.count(OVERTAKEN, message.vehicle, overtaken)
@@ -134,6 +143,8 @@ class Gateway:
         if state not in CONNECTION:
             raise ValueError('no connectionState')
         self.said.of(message.vehicle, 'connection', f'{message.vehicle}: {state}')
+        if self.words is not None:
+            self.words.connection(message.vehicle, str(state))
 
     def ask(
         self, vehicle: str, method: str, topic: str, body: bytes | None = None

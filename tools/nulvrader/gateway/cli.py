@@ -7,6 +7,7 @@ import signal
 import sys
 import threading
 from types import FrameType
+from typing import Any
 
 from ..common import entry
 from ..desk import arguments
@@ -15,6 +16,7 @@ from .broker import Address, Broker, NoLibrary
 from .carrier import Gateway
 from .inbox import FRONT, Inbox
 from .log import Said, Tally, say
+from .words import Words
 
 LOCAL = ('localhost', '127.0.0.1', '::1')
 
@@ -58,6 +60,8 @@ def words(text: str) -> argparse.ArgumentParser:
     add('--vehicle', type=vehicle, action='append', default=[], metavar='VEHICLE', help=told)
     told = 'the name of the list in an instantActions message'
     add('--instant-list', default='actions', metavar='NAME', help=told)
+    told = 'the socket of a board (its --words), which is told what vehicles say of themselves'
+    add('--board', metavar='FILE', help=told)
     told = 'seconds from one turn to the next (default: 1)'
     add('--every', type=arguments.seconds, default=1.0, metavar='SECONDS', help=told)
     return line
@@ -94,7 +98,9 @@ def gateway_of(given: argparse.Namespace) -> Gateway:
     except (NoLibrary, OSError, ValueError) as fault:
         raise Unready(str(fault)) from None
     vehicles = [str(key) for key in given.vehicle]
-    more = {'front': given.front, 'instant_list': given.instant_list}
+    more: dict[str, Any] = {'front': given.front, 'instant_list': given.instant_list}
+    if given.board is not None:
+        more['words'] = Words(given.board, Said(say))
     return Gateway(desk, broker, inbox, vehicles, **more)
 
 

@@ -1,0 +1,238 @@
+"""What is in the file of a desk that does not start: whether a desk can read it, whose its tables
+are, and which of its rows break which rule."""
+from __future__ import annotations
+
+import dataclasses
+import shlex
+import sqlite3
+from collections.abc import Callable
+
+from ..common import plain_files
+from ..common.plain_files import PATH, NotPlain
+from ..common.text import shown
+from . import database, opening
+from .rows import BadRows, read_first_rows, read_rows
+from .rules import Broken, broken_rules
+
+COPY = 'docs/OPERATE.md, "Putting a copy back"'
+OTHER_FILE = f'Name the file of a desk, or put a copy back: {COPY}.'
+NAMES = 1000  # the most characters of a line with names of the file
+
+
+@dataclasses.dataclass
+class Findings:
+    """What was found: the reasons, what else is to be known, whether a desk that is started would
+    begin a new warehouse, and whether it may be another time that nothing could be found."""
+
+    reasons: list[str] = dataclasses.field(default_factory=list)
+    notes: list[str] = dataclasses.field(default_factory=list)
+    is_new: bool = False
+    may_pass: bool = False
+
+    def note_new(self, text: str) -> None:
+        """Notes why a desk would begin a new warehouse."""
+        self.notes.append(text)
+        self.is_new = True
+
+
+def path_text(path: str) -> str:
+    """A path, as it is told."""
+    return shown(path, PATH)
+
+
+def command_text(path: str) -> str:
+    """A path in a command for a shell."""
+    return path_text(shlex.quote(path))
+
+
+def look_at_names(findings: Findings, path: str) -> None:
+    """Whether the tables are a desk's. A log is only read if they are not in the file itself, as
+    those of a young one."""
+    plain_files.check(path)
+    if not _is_database(findings, path):
+        return
+    for has_log in (False, True):
+        try:
+            with opening.opened(path, has_log=has_log) as base:
+                found = database.tables_of(base)
+        except sqlite3.Error:
+            if has_log:
+                raise
+            continue
+        if found.is_second:
+            return
+    if found.is_first:
+        findings.reasons.append(_first(path))
+    else:
+        _look_at_others(findings, path, found)
+
+
+def look_into(findings: Findings, path: str, rows_of_a_rule: int) -> None:
+    """Whether the file has the rows of a lawful desk; nobody has it, and the user of this program
+    may read it."""
+
+    def rows() -> None:
+        if _is_database(findings, path):
+            with opening.opened(path) as base:
+                _look_at_tables(findings, path, base, rows_of_a_rule)
+
+    guarded(findings, path, rows)
+
+
+def guarded(findings: Findings, path: str, look: Callable[[], object]) -> None:
+    """Looks into the file; what keeps from that is a reason."""
+    try:
+        look()
+    except (sqlite3.Error, MemoryError, UnicodeError) as error:
+        findings.reasons.append(
+            f'{path_text(path)} is damaged: {shown(opening.why_unread(error))} (`fault: Storage` or'
+            f' `Damaged`). Put a copy back: {COPY}.'
+        )
+    except BadRows as error:
+        findings.reasons.append(
+            f'{path_text(path)} is damaged: {error} (`fault: Damaged`). Put a copy back: {COPY}.'
+        )
+    except database.TooMany as error:
+        findings.reasons.append(f'{path_text(path)} is not looked into: {error}. {OTHER_FILE}')
+    except NotPlain as error:
+        findings.reasons.append(f'{error}. {OTHER_FILE}')
+    except OSError as error:
+        findings.may_pass = not isinstance(error, PermissionError)
+        findings.reasons.append(
+            f'The rows of {path_text(path)} could not be read: {shown(str(error), PATH)}. Run this'
+            ' as root, with room for a copy of the file in the folder TMPDIR.'
+        )
+
+
+def _is_database(findings: Findings, path: str) -> bool:
+    """Whether the file is a database that may be looked into; else it is told why not."""
+    if opening.has_journal(path):
+        findings.reasons.append(
+            f'{path_text(path)}-journal lies beside the file: another SQLite was stopped in the'
+            ' middle of a change (`fault: Storage`). Roll it back: `sqlite3'
+            f" {command_text(path)} 'SELECT 1 FROM sqlite_master'`."
+        )
+    elif opening.is_empty(path):
+        findings.note_new(
+            f'{path_text(path)} is empty: a desk that is started makes its tables in it.'
+        )
+    elif not opening.has_head(path):
+        findings.reasons.append(
+            f'{path_text(path)} is no database: it begins with {opening.head_of(path)!r} (`fault:'
+            f' Storage`). {OTHER_FILE}'
+        )
+    else:
+        return True
+    return False
+
+
+def _look_at_tables(
+    findings: Findings, path: str, base: sqlite3.Connection, rows_of_a_rule: int
+) -> None:
+    damage = database.integrity(base)
+    if damage:
+        findings.reasons.append(
+            f'{path_text(path)} is damaged, as SQLite says (`fault: Storage` or `Damaged`). Put a'
+            f' copy back: {COPY}.{_lines(damage)}'
+        )
+        return
+    findings.reasons += [
+        f'A desk reads no file that has {shown(what, NAMES)} (`fault: Storage`): {do}.'
+        for what, do in database.unread(base)
+    ]
+    found = database.tables_of(base)
+    if found.others:
+        findings.notes.append(
+            f"Not a desk's: {shown(', '.join(found.others), NAMES)}. If a desk says `fault:"
+            " Storage` for no other reason, its SQL can't read one of these, such as a view in"
+            " words of SQL that it lacks, or rows that are older than a column with a default."
+        )
+    if found.is_first:
+        _look_at_first(findings, path, base, rows_of_a_rule)
+    elif found.is_second:
+        _look_at_second(findings, path, base, rows_of_a_rule)
+    else:
+        _look_at_others(findings, path, found)
+
+
+def _look_at_others(findings: Findings, path: str, found: database.Tables) -> None:
+    """A file whose tables are no desk's."""
+    if found.is_bare:
+        findings.note_new(
+            f'{path_text(path)} is a database without a table: a desk that is started makes its'
+            ' tables in it.'
+        )
+    elif found.is_foreign and found.odd:
+        findings.reasons.append(
+            f"{path_text(path)} is another application's database, in which a desk can't make its"
+            f" tables (`fault: Damaged`): name another file.{_lines(found.odd)}"
+        )
+    elif found.is_foreign:
+        findings.reasons.append(
+            f"{path_text(path)} is another application's database: its tables are"
+            f" {shown(', '.join(found.others), NAMES)}. A desk would make its own tables in it:"
+            " name another file."
+        )
+    else:
+        lines = [f'the table {name} is missing' for name in found.missing] + found.odd
+        findings.reasons.append(
+            f"The tables of {path_text(path)} aren't those of a desk (`fault: Damaged`). Make them"
+            f" those of docs/TABLES.md, or put a copy back: {COPY}.{_lines(lines)}"
+        )
+
+
+def _lines(lines: list[str]) -> str:
+    """The lines below a reason."""
+    return ''.join('\n  ' + shown(line, NAMES) for line in lines)
+
+
+def _look_at_second(
+    findings: Findings, path: str, base: sqlite3.Connection, rows_of_a_rule: int
+) -> None:
+    """A file of the second schema."""
+    rows = read_rows(base)
+    _look_at_rows(findings, path, list(broken_rules(rows, rows_of_a_rule)))
+    findings.reasons += [
+        f'{shown(other, NAMES)} may refuse a row of the desk (`fault: Storage`): drop it.'
+        for other in database.unique_indexes(base)
+    ]
+    findings.notes.append(
+        f'{path_text(path)} is of the second schema, so there is nothing to migrate, and has'
+        f' {len(rows.load)} loads, {len(rows.job)} jobs, {len(rows.vehicle)} vehicles and'
+        f' {len(rows.journey)} open orders.'
+    )
+
+
+def _look_at_first(
+    findings: Findings, path: str, base: sqlite3.Connection, rows_of_a_rule: int
+) -> None:
+    """A file of the first schema: it has to be moved, for which its rows have to keep the rules."""
+    broken = list(broken_rules(read_first_rows(base), rows_of_a_rule))
+    _look_at_rows(findings, path, broken)
+    if not broken:
+        findings.reasons.append(_first(path))
+
+
+def _first(path: str) -> str:
+    return (
+        f'{path_text(path)} is of the first schema, as an earlier desk made it (`fault: Damaged`).'
+        f" Copy it, `sqlite3 {command_text(path)} '.backup before.db'`, and migrate it: `./desk"
+        f' migrate --db {command_text(path)}` (docs/OPERATE.md, *Migrate a file*). With the'
+        ' package `nulvrader migrate` does both.'
+    )
+
+
+def _look_at_rows(findings: Findings, path: str, broken: list[Broken]) -> None:
+    """The breaches, under the rules that they break."""
+    if not broken:
+        return
+    lines = [
+        f'Rows of {path_text(path)} break rules of the desk (`fault: Damaged`). Undo what was'
+        f' written into the file, or put a copy back: {COPY}.'
+    ]
+    for one in broken:
+        lines.append(f'  rule "{one.rule.name}": {one.rule.text}')
+        lines += [f'    {breach}' for breach in one.first]
+        if one.more:
+            lines.append(f'    and {one.more} more')
+    findings.reasons.append('\n'.join(lines))
