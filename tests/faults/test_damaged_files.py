@@ -1,10 +1,12 @@
-"""Database files, and the log beside them, that were changed at random: a byte, a run of bytes, a
-page, or an end that is cut. The files are those of a new desk, of each script in `faults.py`, and
-of one with a row of each kind, each with all in the log, all in the database, and some in either.
-The program tells that the file is damaged or can't be read, or serves rows that break no rule, and
-tells them as they are; of a changed log the calls up to some one. It never ends in another way, and
-never takes long. DAMAGES sets how many changes of the files of each script are tried; the last test
-tries as many of each of two files of the first schema, which are moved by `migrate`."""
+"""Shows that the program, over files and logs that were changed at random, tells that they are
+damaged or can't be read, or serves rows that break no rule, and never ends in another way or
+takes long.
+
+A change is of a byte, a run of bytes, a page, or an end that is cut. The files are those of a
+new desk, of each script in `faults.py`, and of one with a row of each kind, each with all in
+the log, all in the database, and some in either; of a changed log the calls up to some one are
+served. The last test changes two files of the first schema, which `migrate` moves. DAMAGES sets
+how many changes of each are tried."""
 import os
 import random
 import sqlite3
@@ -12,9 +14,11 @@ import tempfile
 import unittest
 from typing import Any
 
-from tests.support.breaks import BREAKS, DRIVE_BREAKS
+from tests.support.breaks_alone import DRIVE_BREAKS
+from tests.support.breaks import BREAKS
 from tests.support.calls import REPORTS, request
-from tests.support.faults import ALL, STORAGE, Script, full_log, lines, remove, scripts
+from tests.support.fault_files import ALL, remove
+from tests.support.faults import STORAGE, Script, full_log, lines, scripts
 from nulvrader.file.tables import SECOND, TABLES
 from tests.support.records import FOLDER, answers_of_rows, broken, copied, rows_of
 from tests.support.damages import DRIVEN, FILLED, FINISHED, SHAPES, asked, damaged
@@ -23,7 +27,7 @@ from tests.support.first_schema import BEGUN, FIRST, committed
 from tests.support.first_schema import LAYOUT as NO_VEHICLE
 from tests.support.desks import AT, run
 from tests.support.calls import advance, state
-from tests.support.scripts import drive, job, load, ok, order
+from tests.support.script_calls import drive, job, load, ok, order
 
 DAMAGES = int(os.environ.get('DAMAGES', '28'))
 SECONDS = 10
@@ -48,11 +52,11 @@ WRITES = [
 def reads_of(rows: Any) -> list[Any]:
     """What is asked of a file: the reports, the exports, each vehicle with its messages, loads and
     jobs of which there are some, and one of each that isn't."""
-    keys = ['%s/%s' % (row[0], row[1]) for row in rows['vehicle']]
+    keys = [f'{row[0]}/{row[1]}' for row in rows['vehicle']]
     return [
         *[call.target for call in REPORTS],
         *['/vehicles/' + key for key in keys],
-        *['/uagv/v2/%s/%s' % (key, topic) for key in keys for topic in ('order', 'instantActions')],
+        *[f'/uagv/v2/{key}/{topic}' for key in keys for topic in ('order', 'instantActions')],
         *['/loads/' + row[0] for row in rows['load'][:8]],
         '/loads/no',
         *[f'/jobs/{row[0]}/phase' for row in rows['job'][:8]],
@@ -342,9 +346,9 @@ class BeforeAMove(FilesTest):
             if ALL:
                 print(
                     '\n'.join(
-                        'a move of %s: %s: %d' % (*met, count)
-                        for met, count in sorted(told.items())
-                        if met[0] == name
+                        f'a move of {moved}: {what}: {count}'
+                        for (moved, what), count in sorted(told.items())
+                        if moved == name
                     )
                 )
         for what in ('moved, the same', 'fault: Storage'):

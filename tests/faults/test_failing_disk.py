@@ -1,8 +1,10 @@
-"""A disk whose calls fail from the n-th on, or at the n-th alone, and one that reads and writes in
-small parts. No failure is passed over: what was asked before it is answered as it should be, and
-the call at which it comes by the fault of the store, which ends the program; and the file, on a
-disk that works again, has each answered call and the failed one whole or not at all. A move to the
-second schema leaves it as before or moved whole, and a report is told whole or not at all."""
+"""Shows that no failure of the disk is passed over: the call at which it comes is answered by
+the fault of the store, which ends the program, and the file has each answered call, and the
+failed one whole or not at all.
+
+The calls of the disk fail from the n-th on, or at the n-th alone, or read and write in small
+parts. A move to the second schema leaves the file as before or moved whole, and a report is
+told whole or not at all."""
 import collections
 import errno
 import os
@@ -10,8 +12,9 @@ import sqlite3
 import unittest
 from typing import Any
 
-from tests.support import tracing
-from tests.support.faults import ALL, STORAGE, Move, check_kept, moves, sample, scripts
+from tests.support import system_calls, tracing
+from tests.support.fault_files import ALL, sample
+from tests.support.faults import STORAGE, Move, check_kept, moves, scripts
 from tests.support.desks import AT, DESK, run
 from tests.support.fault_test import FULL, LACKS, FaultTest
 
@@ -50,7 +53,7 @@ def works(number: int, call: Any) -> None:
 def fails(n: int, error: Any, once: Any) -> Any:
     """What each call is told where the n-th fails, by itself or with all behind it."""
     return lambda number, call: (
-        tracing.Fails(error) if number == n or number > n and not once else None
+        system_calls.Fails(error) if number == n or number > n and not once else None
     )
 
 
@@ -148,10 +151,8 @@ class FailingDisk(FaultTest):
                         )
                         met[move.check(self, self.db, False)] += 1
         if ALL:
-            print(
-                'a call of a move that failed:'
-                f' {", ".join("refused, %s: %d" % one for one in sorted(met.items()))}'
-            )
+            counts = [f'refused, {when}: {count}' for when, count in sorted(met.items())]
+            print('a call of a move that failed: ' + ', '.join(counts))
         self.assertGreater(met['before'], 20)
 
     def large(self) -> Any:
@@ -164,9 +165,8 @@ class FailingDisk(FaultTest):
         base.executemany("INSERT INTO load VALUES (?, 'checking', NULL, NULL, NULL)", zip(loads))
         base.execute('COMMIT')
         base.close()
-        whole = (
-            'checking: %d\n%sleft: 0\n' % (len(loads), ''.join(f'  {load}\n' for load in loads))
-        ).encode()
+        lines = [f'checking: {len(loads)}\n', *(f'  {load}\n' for load in loads), 'left: 0\n']
+        whole = ''.join(lines).encode()
         self.assertEqual(run('report', '--db', self.db, 'stock'), (0, whole, b''))
         return whole
 
@@ -201,7 +201,7 @@ class FailingDisk(FaultTest):
             for size in (1000, 4095) if not ALL else (64, 511, 512, 1000, 4095, 70_000):
                 with self.subTest(name, size=size):
                     ended, seen = self.serve(
-                        script, {'write', 'pwrite64'}, lambda number, call: tracing.Short(size)
+                        script, {'write', 'pwrite64'}, lambda number, call: system_calls.Short(size)
                     )
                     self.assertEqual((ended.status, ended.out, ended.said), (0, script.out, b''))
                     self.assertGreater(len(seen), 2 * len(script.requests))
@@ -216,8 +216,8 @@ class FailingDisk(FaultTest):
             parts = {'pread64', 'pwrite64'}
             _, seen = self.serve(script, parts, works)
             for n in sample(range(1, len(seen) + 1), 7):
-                for told in (tracing.Gives(0), tracing.Short(7)):
-                    if isinstance(told, tracing.Short) and seen[n - 1] == 'pwrite64':
+                for told in (system_calls.Gives(0), system_calls.Short(7)):
+                    if isinstance(told, system_calls.Short) and seen[n - 1] == 'pwrite64':
                         continue
                     with self.subTest(name, n=n, call=seen[n - 1], told=vars(told)):
                         ended, _ = self.serve(

@@ -1,24 +1,18 @@
-"""Standard input that fails at its n-th read, or ends there, and standard output that fails at its
-n-th write, or takes nothing or one byte. The program ends as docs/HTTP.md says; the bytes that it
-has written are a front of the whole answers, and what stands in the file is what was answered, with
-the call whose answer was cut. Connections that fail so end alone, and so does one whose waits can't
-be limited; one that can't be had ends the program."""
+"""Shows that the program ends as docs/HTTP.md says where standard input or standard output
+fails, and that what stands in the file is what was answered, with the call whose answer was
+cut.
+
+Standard input fails at its n-th read, or ends there; standard output fails at its n-th write,
+or takes nothing or one byte. A connection that fails so ends alone, and so does one whose waits
+can't be limited; one that can't be had ends the program."""
 import errno
 import socket
 import unittest
 from typing import Any
 
-from tests.support import tracing
-from tests.support.faults import (
-    ALL,
-    asks,
-    check_kept,
-    port_of,
-    remove,
-    sample,
-    scripts,
-    without_clock,
-)
+from tests.support import system_calls, tracing
+from tests.support.fault_files import ALL, remove, sample, without_clock
+from tests.support.faults import asks, check_kept, port_of, scripts
 from tests.support.records import rows_of
 from tests.support.desks import over_sockets, without_moments
 from tests.support.fault_test import LACKS, FaultTest
@@ -44,7 +38,7 @@ class FailingStreams(FaultTest):
             if call.name in ('read', 'readv') and call.file == 0:
                 reads.append(call)
                 told = told_read(len(reads)) if told_read else None
-                return told or tracing.Short(PART)
+                return told or system_calls.Short(PART)
             if call.name in ('write', 'writev') and call.file == 1:
                 writes.append(call)
                 return told_write(len(writes)) if told_write else None
@@ -72,7 +66,8 @@ class FailingStreams(FaultTest):
                 for error in (errno.EIO, errno.EINTR):
                     with self.subTest(name, n=n, error=error):
                         ended, _, _ = self.serve(
-                            script, lambda number: tracing.Fails(error) if number == n else None
+                            script,
+                            lambda number: system_calls.Fails(error) if number == n else None,
                         )
                         whole, _ = script.begun((n - 1) * PART)
                         self.assertEqual((ended.status, ended.said), (1, b'fault: Read\n'))
@@ -94,7 +89,7 @@ class FailingStreams(FaultTest):
             for n in sample(range(1, reads + 1), 15):
                 with self.subTest(name, n=n):
                     ended, _, _ = self.serve(
-                        script, lambda number: tracing.Gives(0) if number >= n else None
+                        script, lambda number: system_calls.Gives(0) if number >= n else None
                     )
                     whole, more = script.begun(min((n - 1) * PART, len(script.input)))
                     self.assertEqual((ended.status, ended.said), (0, b''))
@@ -112,8 +107,8 @@ class FailingStreams(FaultTest):
         made again."""
         failed = 0
         faults = [
-            *map(tracing.Fails, (errno.EIO, errno.EPIPE, errno.ENOSPC, errno.EINTR)),
-            tracing.Gives(0),
+            *map(system_calls.Fails, (errno.EIO, errno.EPIPE, errno.ENOSPC, errno.EINTR)),
+            system_calls.Gives(0),
         ]
         for name in scripts():
             script = self.played(name)
@@ -147,16 +142,16 @@ class FailingStreams(FaultTest):
             for n in sample(range(1, len(writes) + 1), 4):
                 with self.subTest(name, n=n):
                     ended, _, _ = self.serve(
-                        script, None, lambda number: tracing.Short(1) if number == n else None
+                        script, None, lambda number: system_calls.Short(1) if number == n else None
                     )
                     self.assertEqual((ended.status, ended.out, ended.said), (0, script.out, b''))
                     ended, _, _ = self.serve(
                         script,
                         None,
                         lambda number: (
-                            tracing.Short(1)
+                            system_calls.Short(1)
                             if n <= number < n + 40
-                            else tracing.Fails(errno.EIO)
+                            else system_calls.Fails(errno.EIO)
                             if number == n + 40
                             else None
                         ),
@@ -169,7 +164,7 @@ class FailingStreams(FaultTest):
                     self.assertEqual(rows_of(self.db), script.rows[answered + 1])
                     check_kept(self, script, self.db, answered)
                     cut += 1
-            ended, _, _ = self.serve(script, None, lambda number: tracing.Short(1))
+            ended, _, _ = self.serve(script, None, lambda number: system_calls.Short(1))
             self.assertEqual((ended.status, ended.out, ended.said), (0, script.out, b''))
         self.tell('%d answers cut within', cut)
         self.assertGreater(cut, 10)
@@ -237,7 +232,7 @@ class FailingConnections(FaultTest):
                         )
                         self.assertLessEqual(len(lost), 1)
                         met['lost' if lost else 'whole'] += 1
-                        if isinstance(fault, tracing.Fails):
+                        if isinstance(fault, system_calls.Fails):
                             of_errors.add(tuple(lost))
                 self.assertEqual(len(of_errors), 1, (title, n))
         if ALL:
@@ -249,8 +244,8 @@ class FailingConnections(FaultTest):
         self.check(
             'recvfrom',
             5,
-            (tracing.Fails(errno.EIO), tracing.Gives(0)),
-            [tracing.Fails(errno.EINTR)],
+            (system_calls.Fails(errno.EIO), system_calls.Gives(0)),
+            [system_calls.Fails(errno.EINTR)],
         )
 
     def test_writes_that_fail(self) -> None:
@@ -258,13 +253,15 @@ class FailingConnections(FaultTest):
         self.check(
             'sendto',
             4,
-            (tracing.Fails(errno.EPIPE), tracing.Gives(0), tracing.Short(1)),
-            [tracing.Fails(errno.EINTR)],
+            (system_calls.Fails(errno.EPIPE), system_calls.Gives(0), system_calls.Short(1)),
+            [system_calls.Fails(errno.EINTR)],
         )
 
     def test_waits_that_can_not_be_limited(self) -> None:
         """The connection ends before anything is read of it, and the next one is served."""
-        self.check('setsockopt', 4, (tracing.Fails(errno.ENOMEM), tracing.Fails(errno.EINVAL)))
+        self.check(
+            'setsockopt', 4, (system_calls.Fails(errno.ENOMEM), system_calls.Fails(errno.EINVAL))
+        )
 
     def lack(self, script: Any, n: Any) -> tuple[Any, Any, Any]:
         """The program has one descriptor too few at its n-th connection. How it ends, what those
@@ -275,7 +272,7 @@ class FailingConnections(FaultTest):
 
         def on_call(call: Any) -> Any:
             seen.append(call)
-            return tracing.Fails(errno.EMFILE) if len(seen) == n else None
+            return system_calls.Fails(errno.EMFILE) if len(seen) == n else None
 
         def beside(process: Any) -> None:
             port = port_of(process)

@@ -1,6 +1,6 @@
-"""The program in so little memory that it lacks some: a call that lacks it is answered by the
-refusal for want of memory, which ends the stream, and nothing is lost: a stocktake that was
-answered is kept, and one that wasn't has moved nothing."""
+"""Shows that a call which lacks memory is answered by the refusal for want of memory, which
+ends the stream, and that a stocktake that was answered is kept, and one that was not has moved
+nothing."""
 import os
 import resource
 import subprocess
@@ -10,7 +10,8 @@ from typing import Any
 
 from tests.support import calls
 from tests.support.calls import request
-from tests.support.faults import ALL, MEMORY, asks
+from tests.support.fault_files import ALL
+from tests.support.faults import MEMORY, asks
 from tests.support.records import FOLDER
 from tests.support.answers import answers_of
 from tests.support.desks import AT, DESK, over_sockets, run
@@ -46,11 +47,11 @@ def stocktake(turn: Any) -> Any:
 
 def export(turn: Any) -> bytes:
     """The export after so many stocktakes."""
-    lines = (
-        'L%05d,%s\n' % (number, f'station,S{station_of(number, turn)}' if turn else 'checking,')
-        for number in range(COUNTED)
-    )
-    return ('load,place,at\n' + ''.join(lines)).encode()
+    lines = ['load,place,at']
+    for number in range(COUNTED):
+        place = f'station,S{station_of(number, turn)}' if turn else 'checking,'
+        lines.append(f'L{number:05d},{place}')
+    return '\n'.join([*lines, '']).encode()
 
 
 def report(turn: Any) -> bytes:

@@ -1,32 +1,21 @@
-"""Each allocation of the program is refused in turn: its calls of the C library's heap are counted,
-and the k-th gets no memory, or none from the k-th on. The calls before are answered, the one that
-lacks memory by the refusal for want of memory, and it changes nothing; a further run, or the next
-connection, goes on from there. A move to the second schema leaves the file as before, and a report
-is told whole or not at all. What a program takes by other ways than `malloc` and its like isn't
-reached."""
+"""Shows, by refusing each allocation of the program in turn, that the call which lacks memory
+is answered by the refusal for want of memory and changes nothing, and that the next run or
+connection goes on from there.
+
+The calls of the C library's heap are counted, and the k-th gets no memory, or none from the
+k-th on. A move to the second schema leaves the file as before, and a report is told whole or
+not at all. What a program takes by other ways than `malloc` and its like isn't reached."""
 import collections
 import unittest
 from typing import Any
 
 from tests.support import tracing
 from tests.support.heap import Heap, slots_of
-from tests.support.faults import (
-    ALL,
-    MEMORY,
-    STORAGE,
-    Move,
-    asks,
-    check_kept,
-    moves,
-    port_of,
-    remove,
-    sample,
-    scripts,
-    without_clock,
-)
+from tests.support.fault_files import ALL, remove, sample, without_clock
+from tests.support.faults import MEMORY, Move, asks, check_kept, moves, port_of, scripts
 from tests.support.records import rows_of
 from tests.support.desks import AT, DESK, over_sockets, run, without_moments
-from tests.support.scripts import bytes_of, load
+from tests.support.script_calls import bytes_of, load
 from tests.support.fault_test import FULL, LACKS, FaultTest
 
 
@@ -68,12 +57,9 @@ class RefusedMemory(FaultTest):
         return range(1 if name in ('a first load', FULL) else opening + 1, ended.asked + 1)
 
     def check(self, db: str, times: Any, most: int) -> None:
-        """A refusal at each call of the heap. Of a run in memory nothing is kept, and what its
-        files there lack is told of the store."""
+        """A refusal at each call of the heap, also for the files of a run in memory, of which
+        nothing is kept."""
         met = {'not opened': 0, 'refused': 0, 'served': 0}
-        faults = {MEMORY: b'fault: Memory\n'}
-        if db == 'memory':
-            faults[STORAGE] = b'fault: Storage\n'
         for name in scripts() if db == 'memory' else [*scripts(), FULL]:
             script = self.played(name)
             calls = self.calls(name, script, db)
@@ -87,17 +73,13 @@ class RefusedMemory(FaultTest):
                         self.assertEqual((ended.out, ended.said), (script.out, b''))
                         met['served'] += 1
                     elif not ended.out:
-                        self.assertEqual(ended.status, 1)
-                        self.assertIn(ended.said, faults.values())
+                        self.assertEqual((ended.status, ended.said), (1, b'fault: Memory\n'))
                         answered = 0
                         met['not opened'] += 1
                     else:
-                        answer = next(
-                            (answer for answer in faults if ended.out.endswith(answer)), None
-                        )
-                        assert answer is not None, ended.out[-200:]
-                        self.assertEqual((ended.status, ended.said), (1, faults[answer]))
-                        front = ended.out[: -len(answer)]
+                        self.assertEqual((ended.status, ended.said), (1, b'fault: Memory\n'))
+                        self.assertTrue(ended.out.endswith(MEMORY), ended.out[-200:])
+                        front = ended.out[: -len(MEMORY)]
                         answered = script.whole(front)
                         self.assertEqual(front, b''.join(script.answers[:answered]))
                         met['refused'] += 1
@@ -161,7 +143,8 @@ class RefusedMemory(FaultTest):
             *self.words[1:], stdin=b''.join(bytes_of(load(name)) for name in loads)
         )
         self.assertEqual((status, said), (0, b''))
-        whole = 'checking: %d\n%sleft: 0\n' % (len(loads), ''.join(f'  {name}\n' for name in loads))
+        lines = [f'checking: {len(loads)}\n', *(f'  {name}\n' for name in loads), 'left: 0\n']
+        whole = ''.join(lines)
         stock, holds = ([DESK, 'report', '--db', self.db, kind] for kind in ('stock', 'holds'))
         fewer, ended = tracing.run(holds, heap=Heap(DESK)), tracing.run(stock, heap=Heap(DESK))
         self.assertEqual((fewer.status, fewer.out, fewer.said), (0, b'held 0 of 0\n', b''))

@@ -1,8 +1,9 @@
-"""The program is ended before each of its writes to the file, and the power fails at each moment:
-what was synced stays, and of what was not any part may be lost. Whatever is left, the file has each
-call that was answered, the call that was being served whole or not at all, and the rest of the
-script leads to the same rows. So it is amid a move to the second schema: the file is as before or
-moved whole."""
+"""Shows that, wherever the program is ended before a write or the power fails, the file has
+each call that was answered, the one that was being served whole or not at all, and that the
+rest of the script leads to the same rows.
+
+What was synced stays, and of what was not any part may be lost. So it is amid a move to the
+second schema: the file is as before or moved whole."""
 import collections
 import os
 import random
@@ -10,7 +11,8 @@ import unittest
 from typing import Any
 
 from tests.support import tracing
-from tests.support.faults import ALL, Move, check_kept, moves, put, sample, scripts
+from tests.support.fault_files import ALL, put, sample
+from tests.support.faults import Move, check_kept, moves, scripts
 from tests.support.fault_test import FULL, FaultTest, LACKS
 
 WRITES = [

@@ -1,3 +1,4 @@
 pub mod FoundDatabases
+pub mod FullMemory
 pub mod MemoryFiles
 pub mod MemoryStores

@@ -1,5 +1,5 @@
 //! A file in memory.
-ghost use Rattle.std.specs.Prelude.{◌≡◌, [], length, true, false, refl, is_ok, IsTrue, OnOk};
+ghost use Rattle.std.specs.Prelude.{◌≡◌, [], length, true, false, refl, is_ok, is_err, IsTrue, OnOk};
 ghost use Rattle.sqlite_disk.specs.Disk.{CountsFault, Cut, Holds, Torn};
 ghost use Rattle.sqlite_disk.specs.Refusal.{finds_no_room};
 
@@ -10,15 +10,18 @@ use std::io;
 /// A file in memory, for a database that lasts for this run only.
 ///
 /// It keeps what was written and no history, so that a sync has nothing to do, and the cost of a write is that of its
-/// bytes. A write or an extension for which there is no memory is a fault of the file (`ErrorKind::OutOfMemory`), like
-/// a write to a full disk for a file of the system; the file stays usable. Nothing survives the end of the program. The
-/// contract of `Disk` about a crash is met for a crash that leaves the memory as it is.
+/// bytes. A write or an extension for which there is no memory finds no room (`ErrorKind::StorageFull`), like a write to
+/// a full disk for a file of the system, and changes nothing; the file stays usable. [`InMemory`](crate::InMemory)
+/// answers it as out of memory. Nothing survives the end of the program. The contract of `Disk` about a crash is met for
+/// a crash that leaves the memory as it is.
 #[derive(Drop)]
 pub struct MemoryFile {
     bytes: Vec<u8>,
     faults: u64,
     /// The reads whose bytes did not match their digest.
     mismatches: u64,
+    /// The writes and extensions for which there was no memory.
+    refused: u64,
 }
 
 impl MemoryFile {
@@ -32,6 +35,7 @@ impl MemoryFile {
             bytes: Vec::new(alloc),
             faults: 0,
             mismatches: 0,
+            refused: 0,
         }
     }
 }
@@ -47,7 +51,7 @@ impl Disk for MemoryFile {
 
     ghost is_clean = { λ _. true };
 
-    ghost tally_of = { λ file. record { caught = file.mismatches; refused = 0 } };
+    ghost tally_of = { λ file. record { caught = file.mismatches; refused = file.refused } };
 
     ghost key_of = { λ _. 0 };
 
@@ -69,7 +73,7 @@ impl Disk for MemoryFile {
     fn tally(&self) -> Tally {
         Tally {
             caught: self.mismatches,
-            refused: 0,
+            refused: self.refused,
         }
     }
 
@@ -101,12 +105,12 @@ impl Disk for MemoryFile {
 
     fn write_at(&mut self, at: usize, bytes: &[u8]) -> io::Result<()> {
         let written = put(&mut self.bytes, at, bytes);
-        note_fault(written, &mut self.faults)
+        note_fault(written, &mut self.faults, &mut self.refused)
     }
 
     fn set_len(&mut self, len: usize) -> io::Result<()> {
         let set = resize(&mut self.bytes, len);
-        note_fault(set, &mut self.faults)
+        note_fault(set, &mut self.faults, &mut self.refused)
     }
 
     fn sync(&mut self) -> io::Result<()> {
@@ -146,17 +150,23 @@ fn resize(bytes: &mut Vec<u8>, len: usize) -> Result<(), AllocError>
     bytes.resize(len, 0)
 }
 
-/// Returns running out of memory as an error of the file, and counts it.
-fn note_fault(outcome: Result<(), AllocError>, faults: &mut u64) -> io::Result<()>
+/// Returns running out of memory as a file's finding no room, and counts it.
+fn note_fault(
+    outcome: Result<(), AllocError>,
+    faults: &mut u64,
+    refused: &mut u64,
+) -> io::Result<()>
     ensures variant { is_ok result ≡ is_ok outcome }
-    ensures kind { finds_no_room result ≡ false }
+    ensures kind { finds_no_room result ≡ is_err outcome }
     ensures faults { CountsFault result faults.old faults.new }
+    ensures refused { CountsFault result refused.old refused.new }
 {
     match outcome {
         Ok(()) => Ok(()),
         Err(AllocError) => {
             *faults = faults.saturating_add(1);
-            Err(io::ErrorKind::OutOfMemory.into())
+            *refused = refused.saturating_add(1);
+            Err(io::ErrorKind::StorageFull.into())
         }
     }
 }

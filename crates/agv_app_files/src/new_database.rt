@@ -48,7 +48,10 @@ pub fn new_database<D: Disk + Drop>(
 }
 
 /// Creates an empty store over these files.
-fn new_store<D: Disk + Drop>(
+///
+/// # Errors
+/// As [`new_database`].
+pub fn new_store<D: Disk + Drop>(
     alloc: Global,
     files: Files<D>,
     options: Options,

@@ -3,13 +3,14 @@
 ghost use Rattle.std.specs.Prelude.{◌≡◌, IfOk, codes};
 ghost use Rattle.sqlite.specs.Files.{over_files};
 ghost use Rattle.sqlite.specs.Held.{IsNew};
+ghost use Rattle.agv_app_files.specs.FullMemory.{in_memory};
 ghost use Rattle.agv_app_run.specs.Runs.{IsCarriedOut, IsNewDatabase, IsReplayedAnew, IsReplayedInMemory, IsRun, IsTold, status_of};
 
 use crate::connections::serve;
 use crate::desks::{desk_of, migrate, replay, report};
 use crate::outcome::RunFault;
 use agv_app_files::laws::stores_in_memory_are_clean;
-use agv_app_files::{open_file, open_in_memory};
+use agv_app_files::{InMemory, open_file, open_in_memory};
 use agv_app_line::Line;
 use agv_face::{CountingIo, write_whole};
 use sqlite::{Alter, Connection, Error, FileStore};
@@ -141,16 +142,16 @@ fn replay_in_memory<R: Read, W: Write>(
     replay_over(alloc, open_in_memory(alloc), at, reader, writer)
 }
 
-/// Serves the reader's requests by the desk of this database over files.
+/// Serves the reader's requests by the desk of this database over files in memory.
 fn replay_over<D: Disk + Drop, R: Read, W: Write>(
     alloc: Global,
-    opened: Result<Connection<FileStore<D>>, Error>,
+    opened: Result<Connection<InMemory<FileStore<D>>>, Error>,
     at: u64,
     reader: &mut CountingIo<R>,
     writer: &mut CountingIo<W>,
 ) -> Result<(), RunFault>
     requires { IfOk opened IsNew }
-    ensures { IsNewDatabase (over_files {g = D.Disk}) opened → IsReplayedAnew R.remaining W.contents reader.old reader.new writer.old writer.new (over_files {g = D.Disk}) at result }
+    ensures { IsNewDatabase (in_memory (over_files {g = D.Disk})) opened → IsReplayedAnew R.remaining W.contents reader.old reader.new writer.old writer.new (in_memory (over_files {g = D.Disk})) at result }
 {
     replay(alloc, opened, at, reader, writer)
 }

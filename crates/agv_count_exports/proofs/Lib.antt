@@ -1,1 +1,1 @@
-mod RidersOfWorlds
+mod CarriersOfWorlds

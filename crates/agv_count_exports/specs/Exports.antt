@@ -8,9 +8,9 @@ use Rattle.agv_message_core.specs.Instant.{instant_name}
 use Rattle.agv_count.specs.Reports.{line}
 use Rattle.agv_order.specs.declared.trip.Trip.{Trip}
 use Rattle.agv_stock.specs.Phase.{is_live, phase_name}
-use Rattle.agv_world_core.specs.Riders.{has_drop_of}
+use Rattle.agv_world_core.specs.Carriers.{has_drop_of}
 use Rattle.agv_world_core.specs.Worlds.{Vehicle, World}
-use Rattle.agv_world_core.specs.declared.floor.Rider.{Rider}
+use Rattle.agv_world_core.specs.declared.floor.Carrier.{Carrier}
 use Rattle.agv_world_core.specs.declared.row.JobRow.{JobRow}
 use Rattle.agv_world_core.specs.declared.row.VehicleRow.{VehicleRow}
 use Rattle.agv_count_exports.specs.declared.told.VehicleTold.{VehicleTold}
@@ -44,11 +44,11 @@ truth_word false = codes "false"
 -- ---- jobs
 
 -- the vehicle whose open trip has an unfinished drop of the job, if any: the first one of the list
-abbrev pub rider_of : List VehicleTold → List ℕ → Option VehicleTold
-rider_of vehicles job = find (λ (vehicle : VehicleTold). has_drop_of job vehicle.trip) vehicles
+abbrev pub carrier_of : List VehicleTold → List ℕ → Option VehicleTold
+carrier_of vehicles job = find (λ (vehicle : VehicleTold). has_drop_of job vehicle.trip) vehicles
 
 -- the vehicle, with the name of its open trip's order; none if it has no open trip
-abbrev pub ride_of : VehicleTold → Option Rider
+abbrev pub ride_of : VehicleTold → Option Carrier
 ride_of vehicle = option_map (λ (trip : Trip). record { vehicle = vehicle.key; order = trip.order }) vehicle.trip
 
 -- the name of a trip's order, if there is a trip
@@ -56,9 +56,9 @@ abbrev pub order_name : Option Trip → List ℕ
 order_name held = or_empty (λ (trip : Trip). trip.order) held
 
 -- the fields `manufacturer,serialNumber,order` of a job: empty without a vehicle
-abbrev pub rider_text : Option VehicleTold → List ℕ
-rider_text None = codes ",,"
-rider_text (Some vehicle) = vehicle.key.manufacturer ++ (after_comma vehicle.key.serial ++ after_comma (order_name vehicle.trip))
+abbrev pub carrier_text : Option VehicleTold → List ℕ
+carrier_text None = codes ",,"
+carrier_text (Some vehicle) = vehicle.key.manufacturer ++ (after_comma vehicle.key.serial ++ after_comma (order_name vehicle.trip))
 
 -- the fields of a job that its row has, as `J1,L1,A,B,riding`
 abbrev pub job_text : List ℕ × JobRow → List ℕ
@@ -66,7 +66,7 @@ job_text job = job.0 ++ (after_comma job.1.load ++ (after_comma job.1.origin ++ 
 
 -- the line of a job, as `J1,L1,A,B,riding,KIT,0001,O1` or `J2,L2,A,B,waiting,,,`
 abbrev pub job_line : List VehicleTold → List ℕ × JobRow → List ℕ
-job_line vehicles job = line (job_text job ++ after_comma (rider_text (rider_of vehicles job.0)))
+job_line vehicles job = line (job_text job ++ after_comma (carrier_text (carrier_of vehicles job.0)))
 
 -- the export of jobs: the header, and a line for each job
 abbrev pub jobs_text : List (List ℕ × JobRow) → List VehicleTold → List ℕ

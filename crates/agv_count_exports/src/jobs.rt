@@ -1,10 +1,10 @@
 //! The export of jobs.
 ghost use Rattle.std.specs.Prelude.{◌≡◌, ◌++◌, IfOk, OnOk, string_bytes};
 ghost use Rattle.std.specs.Option.{option_copied};
-ghost use Rattle.agv_count_exports.specs.Exports.{job_line, job_text, jobs_text, order_name, rider_of, rider_text};
+ghost use Rattle.agv_count_exports.specs.Exports.{job_line, job_text, jobs_text, order_name, carrier_of, carrier_text};
 
 use crate::VehicleTold;
-use crate::riders::rider_of;
+use crate::carriers::carrier_of;
 use agv_header::{Memory, Name};
 use agv_order::Trip;
 use agv_world_core::JobRow;
@@ -45,7 +45,7 @@ fn write_job(
 {
     write_row(out, job, row)?;
     write!(out, ",")?;
-    write_rider(out, rider_of(vehicles, job))?;
+    write_carrier(out, carrier_of(vehicles, job))?;
     writeln!(out)?;
     Ok(())
 }
@@ -61,10 +61,10 @@ fn write_row(out: &mut String, job: Name, row: JobRow) -> Result<(), Memory>
 }
 
 /// Writes the fields of a job's vehicle and of its order, which are empty without a vehicle.
-fn write_rider(out: &mut String, rider: Option<&VehicleTold>) -> Result<(), Memory>
-    ensures { OnOk result (string_bytes out.new ≡ string_bytes out.old ++ rider_text (option_copied rider.entry)) }
+fn write_carrier(out: &mut String, carrier: Option<&VehicleTold>) -> Result<(), Memory>
+    ensures { OnOk result (string_bytes out.new ≡ string_bytes out.old ++ carrier_text (option_copied carrier.entry)) }
 {
-    match rider {
+    match carrier {
         Some(vehicle) => {
             write!(out, "{},{},", vehicle.key.manufacturer, vehicle.key.serial)?;
             write_order(out, &vehicle.trip)?;

@@ -1,3 +1,4 @@
 -- What the exports of jobs and vehicles tell of a world.
+pub mod CarriersTold
+pub mod JobTold
 pub mod JobsTold
-pub mod RidersTold

@@ -3,6 +3,7 @@ pub mod CausedMoves
 pub mod CountSteps
 pub mod DecisionEnds
 pub mod Deciding
+pub mod DrivenVehicle
 pub mod EffectParts
 pub mod Grown
 pub mod Keeping

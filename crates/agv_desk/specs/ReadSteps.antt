@@ -11,9 +11,9 @@ use Rattle.agv_order.specs.declared.trip.Trip.{Trip}
 use Rattle.agv_world_core.specs.Questions.{row_of, trip_of, job_of}
 use Rattle.agv_stock.specs.declared.job.Phase.{Phase}
 use Rattle.agv_stock.specs.declared.job.Phase.TheVariants as phase
-use Rattle.agv_world_core.specs.Riders.{rider_of}
+use Rattle.agv_world_core.specs.Carriers.{carrier_of}
 use Rattle.agv_world_core.specs.Worlds.{World}
-use Rattle.agv_world_core.specs.declared.floor.Rider.{Rider}
+use Rattle.agv_world_core.specs.declared.floor.Carrier.{Carrier}
 use Rattle.agv_world_core.specs.declared.row.JobRow.{JobRow}
 use Rattle.agv_world_core.specs.declared.row.Sent.{Sent}
 use Rattle.agv_world_core.specs.declared.row.VehicleRow.{VehicleRow}
@@ -60,14 +60,14 @@ is_riding phase.Riding = true
 is_riding _ = false
 
 -- the vehicle that carries the job out, with the name of its order: of a riding job
-abbrev pub rider_told : World → List ℕ → JobRow → Option Rider
-rider_told world job row = if is_riding row.phase then rider_of world job else None
+abbrev pub carrier_told : World → List ℕ → JobRow → Option Carrier
+carrier_told world job row = if is_riding row.phase then carrier_of world job else None
 
 -- GET /jobs/{job}/phase: NoJob
 abbrev pub get_job : World → List ℕ → Outcome
 get_job world job =
     refuse_if_none (finite.get world.jobs job) refusal.NoJob (λ row.
-    Made (answer_only (answer.Job job row (rider_told world job row))))
+    Made (answer_only (answer.Job job row (carrier_told world job row))))
 
 -- the open order of a trip
 abbrev pub open_order : Trip → OpenOrder

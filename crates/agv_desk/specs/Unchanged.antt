@@ -1,5 +1,7 @@
--- Calls that change nothing: those that only read, and states that are no newer than the last one that was accepted (VDA 5050 2.0, headerId; this project's profile).
-use Rattle.std.specs.Prelude.{◌≡◌, ◌≤◌, ℕ, Bool, true, false, [], Some}
+-- Calls that change nothing: those that only read, and states that are no newer than the last one that was accepted (VDA 5050 2.0, headerId; this project's profile). And what a call leaves that concerns one vehicle.
+use Rattle.std.specs.Prelude.{◌≡◌, ◌≢◌, ◌≤◌, ℕ, Bool, true, false, List, [], Some}
+use Rattle.std.specs.FinMap as finite
+use Rattle.std.specs.FinSet as set
 use Rattle.agv_header.specs.declared.key.VehicleKey.{VehicleKey}
 use Rattle.agv_message_core.specs.declared.state.StateMessage.{StateMessage}
 use Rattle.agv_world_core.specs.Questions.{row_of}
@@ -30,3 +32,12 @@ pub record IsOld (world : World) (key : VehicleKey) (state : StateMessage) : Typ
 -- the world is unchanged, and no row changes
 abbrev pub ChangesNothing : World → Outcome → Type 0
 ChangesNothing world outcome = (after world outcome ≡ world) × ((decided outcome).changes ≡ [])
+
+-- of a world only the row and the trip of this vehicle have changed, and whether this name of an order was used
+pub record ChangesOnly (key : VehicleKey) (order : List ℕ) (old new : World) : Type 0 where
+  pub layout : new.layout ≡ old.layout
+  pub vehicles : (other : VehicleKey) → other ≢ key → finite.get new.vehicles other ≡ finite.get old.vehicles other
+  pub places : new.places ≡ old.places
+  pub jobs : new.jobs ≡ old.jobs
+  pub orders : (name : List ℕ) → name ≢ order → set.contains new.orders name ≡ set.contains old.orders name
+  pub references : new.references ≡ old.references

@@ -4,7 +4,7 @@ use crate::report::Report;
 use agv_header::{Name, Refusal, VehicleKey};
 use agv_message_core::{Header, InstantMessage, OrderMessage, Sequence};
 use agv_stock::Place;
-use agv_world_core::{Change, JobRow, Rider, VehicleRow};
+use agv_world_core::{Carrier, Change, JobRow, VehicleRow};
 
 /// The answer to a call.
 #[derive(Debug, Drop)]
@@ -47,7 +47,7 @@ pub enum Answer {
     Job {
         job: Name,
         row: JobRow,
-        rider: Option<Rider>,
+        carrier: Option<Carrier>,
     },
     /// A vehicle's row, and its open order.
     Vehicle {

@@ -7,12 +7,14 @@
 //! - [`lawful`]: a lawful world stays lawful after each call. It has two halves: [`vehicles`], of the layout, the
 //!   vehicles and their trips, and [`stock`], of the loads and the jobs.
 //! - [`histories`]: of lists of calls from a lawful world.
+//! - [`jobs`]: of what is told of a job that is asked for.
 //! - [`reports`]: of the exports: the layout's is read back as it is, and that of jobs has exactly the live jobs, each
 //!   with the vehicle that carries it out.
 
 pub mod calls;
 pub mod counts;
 pub mod histories;
+pub mod jobs;
 pub mod lawful;
 pub mod reports;
 pub mod stock;

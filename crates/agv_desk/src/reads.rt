@@ -3,7 +3,7 @@ ghost use Rattle.std.specs.Prelude.{◌≡◌, [], IfOk};
 ghost use Rattle.agv_world_core.specs.Asks.{Asks};
 ghost use Rattle.agv_world_core.specs.Questions.{trip_of};
 ghost use Rattle.agv_desk.specs.Outcomes.{decided, Made, answer_only};
-ghost use Rattle.agv_desk.specs.ReadSteps.{last_header, instant_told, open_order, order_told, rider_told, get_order, get_instant, get_load, get_job, get_vehicle};
+ghost use Rattle.agv_desk.specs.ReadSteps.{last_header, instant_told, open_order, order_told, carrier_told, get_order, get_instant, get_load, get_job, get_vehicle};
 ghost use Rattle.agv_desk.specs.Sizes.{IsOfSize};
 ghost use Rattle.agv_desk.specs.declared.answer.Answer.TheVariants as answer;
 
@@ -14,7 +14,7 @@ use agv_header::{Memory, Name, Refusal, VehicleKey};
 use agv_message_core::{Header, InstantKind, InstantMessage, Sequence};
 use agv_order::Trip;
 use agv_stock::Phase;
-use agv_world_core::{Fault, Floor, JobRow, Rider, Sent, VehicleRow};
+use agv_world_core::{Carrier, Fault, Floor, JobRow, Sent, VehicleRow};
 use std::alloc::Global;
 
 /// Returns the last order message of the vehicle's open order. A trip larger than any of a lawful
@@ -115,16 +115,16 @@ pub(crate) fn get_job<F: Floor>(alloc: Global, floor: &mut F, job: Name) -> Resu
     let Some(row) = floor.job(job)? else {
         return Ok(refused(alloc, Refusal::NoJob));
     };
-    let rider = rider_told(floor, job, &row)?;
-    Ok(answer_only(alloc, Answer::Job { job, row, rider }))
+    let carrier = carrier_told(floor, job, &row)?;
+    Ok(answer_only(alloc, Answer::Job { job, row, carrier }))
 }
 
 /// Returns the vehicle that carries out the job of this row, if the job rides.
-fn rider_told<F: Floor>(floor: &mut F, job: Name, row: &JobRow) -> Result<Option<Rider>, Fault>
-    ensures { Asks F.facts floor.old floor.new result (λ world rider. rider ≡ rider_told world job row.now) }
+fn carrier_told<F: Floor>(floor: &mut F, job: Name, row: &JobRow) -> Result<Option<Carrier>, Fault>
+    ensures { Asks F.facts floor.old floor.new result (λ world carrier. carrier ≡ carrier_told world job row.now) }
 {
     match row.phase {
-        Phase::Riding => floor.rider(job),
+        Phase::Riding => floor.carrier(job),
         _ => Ok(None),
     }
 }

@@ -45,8 +45,10 @@ module _ (vehicle : VehicleKey) (order : List ℕ) (at : List ℕ) (base : ℕ) 
 abbrev pub drive_planned : Layout → VehicleKey → List ℕ → List ℕ → List ℕ → ℕ → Result Trip PlanFault
 drive_planned layout vehicle order at to base = drive_along vehicle order at base (drive_edges layout at to)
 
--- the trip drives from a node to another one by the layout's route, over at most 200 edges, of which the first `base` are released, and does nothing else
-pub record IsDriveTo (layout : Layout) (at to : List ℕ) (base : ℕ) (trip : Trip) : Type 0 where
+-- the trip is a new one of the vehicle and the order: it drives from a node to another one by the layout's route, over at most 200 edges, of which the first `base` are released, and does nothing else; nothing of it is confirmed or driven
+pub record IsDriveTo (layout : Layout) (vehicle : VehicleKey) (order at to : List ℕ) (base : ℕ) (trip : Trip) : Type 0 where
+  pub named : trip.order ≡ order
+  pub driver : trip.vehicle ≡ vehicle
   pub start : trip.start ≡ at
   pub route : IsRoute layout at to (ids_of trip.edges)
   pub known : All (IsEdgeOf layout) trip.edges
@@ -54,3 +56,7 @@ pub record IsDriveTo (layout : Layout) (at to : List ℕ) (base : ℕ) (trip : T
   pub short : length trip.edges ≤ 200
   pub released : trip.base ≡ base
   pub within : base ≤ length trip.edges
+  pub first : trip.first ≡ 0
+  pub sent : trip.sent ≡ 0
+  pub confirmed : trip.confirmed ≡ None
+  pub seen : trip.seen ≡ 0

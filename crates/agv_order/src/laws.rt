@@ -11,7 +11,7 @@ ghost use Rattle.agv_layout.specs.Walk.{IsRoute};
 ghost use Rattle.agv_order.specs.Drives.{drive_planned, IsDriveTo};
 ghost use Rattle.agv_order.specs.Plans.{planned};
 ghost use Rattle.agv_order.specs.Tours.{MakesStops, IsPlanOf};
-ghost use Rattle.agv_order.specs.WellFormed.{ids_of, IsWellFormed};
+ghost use Rattle.agv_order.specs.WellFormed.{IsWellFormed};
 ghost use Rattle.agv_order.specs.WellFormedTest.{is_well_formed};
 ghost use Rattle.agv_order.specs.declared.joins.Joined.TheVariants.{Taken, Same};
 ghost use Rattle.agv_order.specs.declared.joins.JoinRefusal.TheVariants as refusal;
@@ -74,13 +74,21 @@ pub fn stops_twice()
 {}
 
 /// Proves what a drive is by the layout's routes: it leads from the vehicle's node to the other one by the route, over
-/// at least one edge, without an act. If there is no plan because no walk leads there, no route with an edge does.
+/// at least one edge, without an act; and there is one if the route has 1 to 200 edges, and as many as are to be
+/// released. It proves of each refusal exactly when it comes.
 pub fn drives_go_by_the_route()
     ensures goes { (layout : LayoutOf) (vehicle : KeyOf) (order at to : NameOf) (base : ℕ) (trip : TripOf)
-        → drive_planned layout vehicle order at to base ≡ Ok trip → IsDriveTo layout at to base trip × (0 < length trip.edges) }
+        → drive_planned layout vehicle order at to base ≡ Ok trip → IsDriveTo layout vehicle order at to base trip × (0 < length trip.edges) }
+    ensures made { (layout : LayoutOf) (vehicle : KeyOf) (order at to : NameOf) (base : ℕ) (ids : List NameOf)
+        → IsRoute layout at to ids → 0 < length ids → length ids ≤ 200 → base ≤ length ids
+        → (trip : TripOf) × (drive_planned layout vehicle order at to base ≡ Ok trip) }
     ensures none { (layout : LayoutOf) (vehicle : KeyOf) (order at to : NameOf) (base : ℕ)
-        → drive_planned layout vehicle order at to base ≡ Err fault.NoWalk
-        → (edges : List EdgeOf) → IsRoute layout at to (ids_of edges) → edges ≡ [] }
+        → (drive_planned layout vehicle order at to base ≡ Err fault.NoWalk) ↔ ((ids : List NameOf) → IsRoute layout at to ids → ids ≡ []) }
+    ensures long { (layout : LayoutOf) (vehicle : KeyOf) (order at to : NameOf) (base : ℕ)
+        → (drive_planned layout vehicle order at to base ≡ Err fault.TooLong) ↔ ((ids : List NameOf) × IsRoute layout at to ids × (200 < length ids)) }
+    ensures beyond { (layout : LayoutOf) (vehicle : KeyOf) (order at to : NameOf) (base : ℕ)
+        → (drive_planned layout vehicle order at to base ≡ Err fault.Beyond)
+        ↔ ((ids : List NameOf) × IsRoute layout at to ids × (0 < length ids) × (length ids ≤ 200) × (length ids < base)) }
 {}
 
 /// Proves that a drive that is planned is well formed.

@@ -1,5 +1,5 @@
 -- What an opening finds after a crash.
-use Rattle.std.proofs.Common.{◌≡◌, ◌⊎◌, ℕ, IsTrue, inl, inr, refl, sym, ap, ◌∙◌}
+use Rattle.std.proofs.Common.{◌≡◌, ◌⊎◌, ℕ, IsTrue, inl, inr, refl, sym, ap, subst, ◌∙◌}
 use Rattle.sqlite_trees.specs.declared.store.Store.{Ghosts}
 use Rattle.sqlite_trees.specs.Tree.{Trees}
 use Rattle.sqlite.specs.Effect.{Database, IsDatabase}
@@ -8,8 +8,9 @@ use Rattle.sqlite.specs.State.{Survives}
 use Rattle.agv_world_core.specs.Worlds.{World, empty_world}
 use Rattle.agv_desk.specs.declared.call.Call.{Call}
 use Rattle.agv_store_create.specs.DeskTables.{LeavesDesk}
+use Rattle.agv_store_read.specs.WorldAnswers.{HasNoWorld, HasWorld}
 use Rattle.agv_store_read_tables.specs.NewWorld.{KnowsNothing}
-use Rattle.agv_store_create.specs.NewDesk.{MadeDesksStand, StandsNew}
+use Rattle.agv_store_create.specs.NewDesk.{MadeDesksStand, StandsNew, TreesTellSchemas}
 use Rattle.agv_store_schema.specs.Connections.{IsClean, IsOpen}
 use Rattle.agv_store_floor.specs.Floors.{Knows, world_at}
 use Rattle.agv_store.specs.Migration.{FirstFound, LeavesMigrated}
@@ -20,6 +21,29 @@ use Rattle.agv_store.specs.Serving.{FoundIn, LeavesCall, world_after}
 -- what holds of each database that is so
 pub has_weaker : {One Other : Database → Type 0} {trees : Trees} → ((found : Database) → One found → Other found) → HasDatabase One trees → HasDatabase Other trees
 has_weaker more has = record { found = has.found; listed = has.listed; trees_are = has.trees_are; is_so = more has.found has.is_so }
+
+-- ---- databases with the same trees
+
+module _ (tells : TreesTellSchemas) where
+  same_database : (found other : Database) → IsDatabase found → IsDatabase other → other.trees ≡ found.trees → other ≡ found
+  same_database found other listed also trees_are =
+      let schema = tells found other listed also trees_are in
+      λ i. record { schema = schema i; trees = trees_are i }
+
+  -- the one that was found, or one with its trees
+  pub is_one : (old other : Database) → IsDatabase other → HasDatabase (λ found. found ≡ old) other.trees → other ≡ old
+  is_one old other also has = same_database has.found other has.listed also (sym has.trees_are) ∙ has.is_so
+
+  pub undamaged : (old other : Database) (Left : Database → Type 0) → ((found : Database) → Left found → (world : World) × FoundIn found world) → IsDatabase other
+      → HasDatabase (λ found. (found ≡ old) ⊎ Left found) other.trees → (other ≡ old) ⊎ (¬ HasNoWorld other)
+  undamaged old other Left worlds also has =
+      let same = same_database has.found other has.listed also (sym has.trees_are) in
+      elim has.is_so [
+        | inl before ↦ inl (same ∙ before)
+        | inr left ↦
+            let found = worlds has.found left in
+            inr (λ none. none found.1.0 found.0 (subst (λ db. HasWorld found.1.0 db found.0) (sym same) found.1.1))
+      ]
 
 module _ {S : Type 0} (g : Ghosts S) (only_committed : (s : S) (db : Trees) → IsTrue (g.view s).is_open → g.recovers s db → db ≡ (g.view s).committed) where
   -- trees that an open connection at rest may leave are those that it has

@@ -12,6 +12,7 @@ ghost use Rattle.agv_world_core.specs.declared.fault.Fault.{Fault};
 ghost use Rattle.agv_desk.specs.declared.answer.Answer.{Answer};
 ghost use Rattle.agv_desk.specs.declared.call.Call.{Call};
 ghost use Rattle.agv_store_create.specs.DeskTables.{LeavesDesk};
+ghost use Rattle.agv_store_read.specs.WorldAnswers.{HasNoWorld};
 ghost use Rattle.agv_store_schema.specs.Connections.{IsClean, IsOpen, MoreFaults};
 ghost use Rattle.agv_store_floor.specs.Floors.{Knows, world_at};
 ghost use Rattle.agv_store.specs.Migration.{FirstFound, LeavesMigrated};
@@ -67,6 +68,30 @@ pub fn crashes_leave_what_is_only_read<S: Alter>()
         → IsClean S.Store new → Survives (state S.Store old) (state S.Store new) (λ _. ⊥)
         → (trees : Trees) → (state S.Store new).may_leave trees → HasDatabase (λ found. found ≡ (state S.Store old).now) trees }
 {}
+
+/// Proves that a crash damages nothing: after one during [`Desk::create`](crate::Desk::create) (`made`),
+/// [`Desk::open`](crate::Desk::open) (`opened`), [`Desk::adopt`](crate::Desk::adopt) (`adopted`) or
+/// [`Desk::migrate`](crate::Desk::migrate) (`migrated`), each database with the trees that are left is the one from
+/// before the call, or has the rows of a lawful world, so that adopting it is not `Damaged`. The connection was open and
+/// outside a transaction.
+pub fn crashes_damage_nothing<S: Alter>()
+    ensures made { (old new : Held S) → IsOpen S.Store old → (state S.Store old).committed ≡ (state S.Store old).now → IsDatabase (state S.Store old).now
+        → CanBeMade (state S.Store old).now.schema → IsClean S.Store new → Survives (state S.Store old) (state S.Store new) (LeavesDesk (state S.Store old).now)
+        → (found : Database) → IsDatabase found → (state S.Store new).may_leave found.trees → (found ≡ (state S.Store old).now) ⊎ (¬ HasNoWorld found) }
+    ensures opened { (old new : Held S) → IsOpen S.Store old → (state S.Store old).committed ≡ (state S.Store old).now → IsDatabase (state S.Store old).now
+        → IsClean S.Store new → Survives (state S.Store old) (state S.Store new) (λ trees. CanBeMade (state S.Store old).now.schema × LeavesDesk (state S.Store old).now trees)
+        → (found : Database) → IsDatabase found → (state S.Store new).may_leave found.trees → (found ≡ (state S.Store old).now) ⊎ (¬ HasNoWorld found) }
+    ensures adopted { (old new : Held S) → IsOpen S.Store old → (state S.Store old).committed ≡ (state S.Store old).now → IsDatabase (state S.Store old).now
+        → IsClean S.Store new → Survives (state S.Store old) (state S.Store new) (λ _. ⊥)
+        → (found : Database) → IsDatabase found → (state S.Store new).may_leave found.trees → found ≡ (state S.Store old).now }
+    ensures migrated { (old new : Held S) → IsOpen S.Store old → (state S.Store old).committed ≡ (state S.Store old).now → IsDatabase (state S.Store old).now
+        → IsClean S.Store new → Survives (state S.Store old) (state S.Store new) (LeavesMigrated (state S.Store old).now)
+        → (found : Database) → IsDatabase found → (state S.Store new).may_leave found.trees → (found ≡ (state S.Store old).now) ⊎ (¬ HasNoWorld found) }
+{
+    made_desks_stand();
+    new_desks_know_nothing();
+    trees_tell_schemas();
+}
 
 /// Proves that trees determine the world whose rows they have: all databases with the same trees have the same world,
 /// so [`Desk::adopt`](crate::Desk::adopt) doesn't find what a crash left damaged.

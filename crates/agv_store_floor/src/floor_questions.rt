@@ -8,7 +8,7 @@
 
 use crate::flags::note;
 use crate::keyed_floor::KeyedFloor;
-use agv_count_exports::rider;
+use agv_count_exports::carrier;
 use agv_header::{Name, Thing, VehicleKey};
 use agv_layout::{Layout, StationSite};
 use agv_message_core::Sequence;
@@ -20,7 +20,7 @@ use agv_store_ask::key_queries::{
 use agv_store_ask::load_queries::{query_job_of, query_loads_on, query_reserved, query_room};
 use agv_store_ask::station_loads::query_loads_at;
 use agv_store_schema::DESK_SEATS;
-use agv_world_core::{Counted, Fault, Floor, JobRow, Rider, UseKey, UseKind, VehicleRow};
+use agv_world_core::{Carrier, Counted, Fault, Floor, JobRow, UseKey, UseKind, VehicleRow};
 use sqlite::Alter;
 
 impl<S: Alter + Drop> Floor for KeyedFloor<S> {
@@ -95,9 +95,9 @@ impl<S: Alter + Drop> Floor for KeyedFloor<S> {
         note(&mut self.failed, &mut self.in_doubt, asked)
     }
 
-    fn rider(&mut self, job: Name) -> Result<Option<Rider>, Fault> {
+    fn carrier(&mut self, job: Name) -> Result<Option<Carrier>, Fault> {
         let vehicles = self.vehicles_with_trips_told()?;
-        Ok(rider(&vehicles, job))
+        Ok(carrier(&vehicles, job))
     }
 
     fn room(&mut self, station: Name) -> Result<Option<u32>, Fault> {

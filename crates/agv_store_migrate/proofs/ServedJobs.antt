@@ -6,9 +6,7 @@ use Rattle.std.specs.FinMap as finite
 use Rattle.sqlite_value.specs.Order.{Row}
 use Rattle.agv_header.specs.KeyOrder.{key_cmp-IsAntisymmetric, key_cmp-total}
 use Rattle.agv_header.specs.Name.{name_cmp}
-use Rattle.agv_header.specs.declared.key.VehicleKey.{VehicleKey}
 use Rattle.agv_order.specs.declared.trip.Trip.{Trip}
-use Rattle.agv_world_core.specs.ConsistentTrips.{HasTrip}
 use Rattle.agv_world_core.specs.Kept.{Keeps}
 use Rattle.agv_world_core.specs.Lawful.{IsLawful}
 use Rattle.agv_world_core.specs.Maps.{maps_of, rows_of_trip, trip_row, trip_rows}

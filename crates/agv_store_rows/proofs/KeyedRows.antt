@@ -2,17 +2,16 @@
 use Rattle.std.proofs.Common.{◌≡◌, ℕ, zero, suc, not, Bool, true, false, cond, List, [], ◌∷◌, ◌++◌, Option, Some, None, Ordering, IsPermutation, filter, flat_map, map, refl, sym, ap, ap₂, subst, ◌∙◌}
 use Rattle.std.proofs.lemmas.List.{append-nil, map-append}
 use Rattle.std.proofs.lemmas.List.Elements.{filter-append}
-use Rattle.std.proofs.lemmas.List.Sorted.{IsPermutation-append_right, IsPermutation-map, IsPermutation-middle, IsPermutation-refl, IsPermutation-sym, IsPermutation-trans, length_permutation}
+use Rattle.std.proofs.lemmas.List.Sorted.{IsPermutation-append_right, IsPermutation-map, IsPermutation-sym, IsPermutation-trans, length_permutation}
 use Rattle.std.specs.Cmp.{IsTotalOrder}
 use Rattle.std.specs.FinMap.{FinMap, IsAntisymmetric, get, insert, remove, entries, same_map}
 use Rattle.std.specs.List.{AllByRecursion, AllZip}
 use Rattle.std.specs.Ordering.{eq_by_cmp}
 use Rattle.sqlite_trees.proofs.ListLemmas.{all_of, filter-map, filter_same, all_weaker, filter_all, filter_none, flat_map-map, flat_map-one, IsPermutation-filter, IsPermutation-flat_map}
 use Rattle.sqlite_value.specs.Order.{Row}
-use Rattle.agv_store_schema.specs.DeskRows.{on_table, place_of, table_at, with_row, with_rows}
+use Rattle.agv_store_schema.specs.DeskRows.{on_table, table_at}
 use Rattle.sqlite.proofs.Callers.{one_permutation}
 use Rattle.agv_store_rows.specs.Rows.{ShowEntries, rows_in}
-use Rattle.agv_store_schema.specs.declared.table_name.TableName.{TableName}
 use Rattle.agv_store_schema.proofs.MapEntries.{at_key, entries-remove, entries-insert-permuted, entries-at_key}
 
 -- where all that an element gives passes as the element does, what passes is what the elements that pass give

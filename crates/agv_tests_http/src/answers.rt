@@ -7,7 +7,7 @@ use agv_face_http::{answer_bytes, memory_answer, put_answer, storage_answer};
 use agv_header::{Name, Refusal, Thing, VehicleKey, Verb};
 use agv_message::Sequence;
 use agv_stock::{Phase, Place};
-use agv_world_core::{JobRow, Rider};
+use agv_world_core::{Carrier, JobRow};
 use std::alloc::Global;
 use std::process::Abort;
 use std::str;
@@ -80,8 +80,8 @@ fn checked(load: Name) -> Answer {
 }
 
 /// Returns the answer for a job of L1 from A to B that waits; or rides, if a vehicle carries it out.
-fn told_job(job: Name, load: Name, origin: Name, target: Name, rider: Option<Rider>) -> Answer {
-    let phase = match rider {
+fn told_job(job: Name, load: Name, origin: Name, target: Name, carrier: Option<Carrier>) -> Answer {
+    let phase = match carrier {
         None => Phase::Waiting,
         Some(_) => Phase::Riding,
     };
@@ -91,7 +91,7 @@ fn told_job(job: Name, load: Name, origin: Name, target: Name, rider: Option<Rid
         target,
         phase,
     };
-    Answer::Job { job, row, rider }
+    Answer::Job { job, row, carrier }
 }
 
 /// Returns the answer for a job of L1 from A to B that KIT/0001 carries out by this order, or that waits.
@@ -100,11 +100,11 @@ fn job(rt: &impl Abort, named: Name, order: Option<Name>) -> Answer {
         manufacturer: name(rt, "KIT"),
         serial: name(rt, "0001"),
     };
-    let rider = match order {
+    let carrier = match order {
         None => None,
-        Some(order) => Some(Rider { vehicle, order }),
+        Some(order) => Some(Carrier { vehicle, order }),
     };
-    told_job(named, name(rt, "L1"), name(rt, "A"), name(rt, "B"), rider)
+    told_job(named, name(rt, "L1"), name(rt, "A"), name(rt, "B"), carrier)
 }
 
 /// Returns a report whose text is `a report`.

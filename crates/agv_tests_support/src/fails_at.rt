@@ -7,7 +7,7 @@ use agv_layout::{Layout, StationSite};
 use agv_message_core::Sequence;
 use agv_order::Trip;
 use agv_stock::Place;
-use agv_world_core::{Counted, Fault, Floor, JobRow, Rider, UseKind, VehicleRow};
+use agv_world_core::{Carrier, Counted, Fault, Floor, JobRow, UseKind, VehicleRow};
 use agv_world_plain::PlainFloor;
 
 /// A floor over a world in memory that fails after it has answered a number of questions.
@@ -92,9 +92,9 @@ impl Floor for FailsAt<'_> {
         self.floor.job(job)
     }
 
-    fn rider(&mut self, job: Name) -> Result<Option<Rider>, Fault> {
+    fn carrier(&mut self, job: Name) -> Result<Option<Carrier>, Fault> {
         self.ask()?;
-        self.floor.rider(job)
+        self.floor.carrier(job)
     }
 
     fn room(&mut self, station: Name) -> Result<Option<u32>, Fault> {

@@ -8,7 +8,7 @@
 #![tactic(auto)]
 
 pub use agv_world_core::{
-    ByLeg, ByName, ByVehicle, Change, Counted, Fault, Floor, JobRow, LegKey, Names, Rider, Row,
+    ByLeg, ByName, ByVehicle, Carrier, Change, Counted, Fault, Floor, JobRow, LegKey, Names, Row,
     Sent, TripRow, UseKey, UseKind, UsedNames, VehicleRow, World,
 };
 pub use agv_world_lawful::TestsLawful;

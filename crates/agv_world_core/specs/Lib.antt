@@ -14,6 +14,6 @@ pub mod SameRows
 pub mod VehicleChanges
 pub mod TableChanges
 pub mod Lawful
-pub mod Riders
+pub mod Carriers
 pub mod LawfulParts
 pub mod StockInvariant

@@ -3,7 +3,7 @@ ghost use Rattle.std.specs.Prelude.{◌≡◌, ◌≤◌, is_some};
 ghost use Rattle.std.specs.FinMap as map;
 ghost use Rattle.std.specs.FinSet as set;
 ghost use Rattle.agv_world_core.specs.Asks.{Facts, Asks};
-ghost use Rattle.agv_world_core.specs.Riders.{rider_of};
+ghost use Rattle.agv_world_core.specs.Carriers.{carrier_of};
 ghost use Rattle.agv_world_core.specs.Questions.{row_of, trip_of, room_at, has_room_at, holder_of, is_used, layout_set, loads_at, loads_on, job_of, reserved, count_of};
 
 use crate::{Fault, JobRow, UseKind, VehicleRow};
@@ -29,7 +29,7 @@ pub enum Counted {
 
 /// The vehicle that carries out a job, and the name of its order.
 #[derive(Clone, Copy, Debug, PartialEq, Eq)]
-pub struct Rider {
+pub struct Carrier {
     pub vehicle: VehicleKey,
     pub order: Name,
 }
@@ -74,8 +74,8 @@ pub trait Floor {
 
     /// Returns the vehicle whose open trip has an unfinished drop of a job, with the name of that order; `None` if there
     /// is none. In a lawful world a job has such a vehicle exactly if it is riding, and has just one.
-    fn rider(&mut self, job: Name) -> Result<Option<Rider>, Fault>
-        ensures { Asks facts self.old self.new result (λ world rider. rider ≡ rider_of world job) };
+    fn carrier(&mut self, job: Name) -> Result<Option<Carrier>, Fault>
+        ensures { Asks facts self.old self.new result (λ world carrier. carrier ≡ carrier_of world job) };
 
     /// Returns how many more loads fit at a station, or `None` if the station is unknown.
     fn room(&mut self, station: Name) -> Result<Option<u32>, Fault>

@@ -18,6 +18,7 @@
 //! - A [`Fault`] says why a question has no answer, or a change was not made.
 #![tactic(auto)]
 
+mod carriers;
 mod change;
 pub mod change_laws;
 mod fault;
@@ -26,17 +27,16 @@ mod key;
 pub mod lawful_laws;
 pub mod laws;
 mod questions;
-mod riders;
 mod row;
 mod tables;
 mod world;
 mod world_layout;
 
+pub use carriers::has_drop_among;
 pub use change::Change;
 pub use fault::Fault;
-pub use floor::{Counted, Floor, Rider};
+pub use floor::{Carrier, Counted, Floor};
 pub use key::{LegKey, UseKey, UseKind};
-pub use riders::has_drop_among;
 pub use row::{JobRow, Sent, TripRow, VehicleRow};
 pub use tables::{ByLeg, ByName, ByVehicle, Names, Row, UsedNames};
 pub use world::World;

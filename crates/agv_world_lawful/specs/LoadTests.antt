@@ -20,6 +20,7 @@ use Rattle.agv_stock.specs.declared.job.Phase.{Phase}
 use Rattle.agv_stock.specs.declared.job.Phase.TheVariants as phase
 use Rattle.agv_stock.specs.declared.place.Place.{Place}
 use Rattle.agv_stock.specs.declared.place.Place.TheVariants as place
+use Rattle.agv_world_core.specs.Carriers.{is_drop_of}
 use Rattle.agv_world_core.specs.Lawful.{is_to_drop, station_for}
 use Rattle.agv_world_core.specs.Told.{names_vehicle}
 use Rattle.agv_world_core.specs.declared.row.JobRow.{JobRow}
@@ -61,10 +62,6 @@ is_placed_at station (Some place) = is_at station place
 abbrev pub is_placed_on : VehicleKey → Option Place → Bool
 is_placed_on key None = false
 is_placed_on key (Some place) = is_on key place
-
--- the act is an unfinished drop of the job
-abbrev pub is_drop_of : List ℕ → Act → Bool
-is_drop_of job act = is_to_drop act && pointwise nat_eq act.job job
 
 -- the trip of the row has an unfinished drop of the job
 abbrev pub is_dropped_by : List ℕ → List ℕ × TripRow → Bool

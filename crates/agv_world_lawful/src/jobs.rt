@@ -1,14 +1,13 @@
 //! Whether loads and jobs follow their rules, each by itself.
 ghost use Rattle.std.specs.Prelude.{◌≡◌, IfOk};
-ghost use Rattle.std.specs.List.{list_any};
 ghost use Rattle.agv_world_core.specs.Lawful.{is_to_drop};
-ghost use Rattle.agv_world_lawful.specs.LoadTests.{are_jobs, are_loads_few, are_places, has_one_job_each, has_station, is_carried, is_drop_of, is_in_phase, is_job, is_job_row, is_place, is_placed_at};
+ghost use Rattle.agv_world_lawful.specs.LoadTests.{are_jobs, are_loads_few, are_places, has_one_job_each, has_station, is_carried, is_in_phase, is_job, is_job_row, is_place, is_placed_at};
 
 use agv_header::limits::MAX_RECORDS;
 use agv_header::{Memory, Name};
 use agv_order::{Act, is_drop, is_finished};
 use agv_stock::{Phase, Place};
-use agv_world_core::{JobRow, Names, World};
+use agv_world_core::{JobRow, Names, World, has_drop_among};
 use std::alloc::Global;
 
 /// Returns whether there are at most 1,000,000 loads and 1,000,000 jobs.
@@ -89,7 +88,7 @@ fn is_carried(world: &World, job: Name) -> bool
     world
         .trips
         .iter()
-        .any(|(_, row)| has_drop_of(job, row.acts.as_slice()))
+        .any(|(_, row)| has_drop_among(job, row.acts.as_slice()))
 }
 
 /// Returns whether no load has two live jobs.
@@ -123,18 +122,4 @@ pub(crate) fn is_to_drop(act: &Act) -> bool
     ensures { result ≡ is_to_drop act.now }
 {
     is_drop(act.kind) && !is_finished(act.status)
-}
-
-/// Returns whether one of the acts is an unfinished drop of the job.
-fn has_drop_of(job: Name, acts: &[Act]) -> bool
-    ensures { result ≡ list_any (is_drop_of job) acts.now }
-{
-    acts.iter().any(|act| is_drop_of(job, act))
-}
-
-/// Returns whether the act is an unfinished drop of the job.
-fn is_drop_of(job: Name, act: &Act) -> bool
-    ensures { result ≡ is_drop_of job act.now }
-{
-    is_to_drop(act) && act.job == job
 }

@@ -2,7 +2,7 @@
 use Rattle.std.specs.Prelude.{ℕ, List, Option, None, Some}
 use Rattle.std.specs.Bool.{then_some}
 use Rattle.agv_order.specs.declared.trip.Trip.{Trip}
-use Rattle.agv_world_core.specs.Riders.{has_drop_of}
+use Rattle.agv_world_core.specs.Carriers.{has_drop_of}
 
 -- the order of the trip, if there is a trip and it has an unfinished drop of the job
 abbrev pub order_dropping : List ℕ → Option Trip → Option (List ℕ)

@@ -2,13 +2,13 @@
 ghost use Rattle.std.specs.Prelude.{◌≡◌, ◌≤◌};
 ghost use Rattle.agv_world_core.specs.Told.{world_of};
 
-use crate::{holders, questions, riders};
+use crate::{carriers, holders, questions};
 use agv_header::{Name, Thing, VehicleKey};
 use agv_layout::{Layout, StationSite};
 use agv_message_core::Sequence;
 use agv_order::Trip;
 use agv_stock::Place;
-use agv_world_core::{Counted, Fault, Floor, JobRow, Rider, UseKind, VehicleRow, World};
+use agv_world_core::{Carrier, Counted, Fault, Floor, JobRow, UseKind, VehicleRow, World};
 use std::alloc::Global;
 
 /// A world in memory that answers questions, and does not change while it is borrowed.
@@ -88,8 +88,8 @@ impl Floor for PlainFloor<'_> {
         Ok(questions::job(self.world, job))
     }
 
-    fn rider(&mut self, job: Name) -> Result<Option<Rider>, Fault> {
-        Ok(riders::rider(self.world, job))
+    fn carrier(&mut self, job: Name) -> Result<Option<Carrier>, Fault> {
+        Ok(carriers::carrier(self.world, job))
     }
 
     fn room(&mut self, station: Name) -> Result<Option<u32>, Fault> {

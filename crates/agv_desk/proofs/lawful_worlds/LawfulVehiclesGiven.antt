@@ -46,7 +46,7 @@ DrivesAreWellFormed = (layout : Layout) (vehicle : VehicleKey) (order at to : Na
 
 abbrev pub DrivesGoByTheRoute : Type 0
 DrivesGoByTheRoute = (layout : Layout) (vehicle : VehicleKey) (order at to : Name) (base : ℕ) (trip : Trip)
-    → drive_planned layout vehicle order at to base ≡ Ok trip → IsDriveTo layout at to base trip × (0 < length trip.edges)
+    → drive_planned layout vehicle order at to base ≡ Ok trip → IsDriveTo layout vehicle order at to base trip × (0 < length trip.edges)
 
 abbrev pub ReleasesKeepTrips : Type 0
 ReleasesKeepTrips = (layout : Layout) (trip : Trip) (n : ℕ) → IsWellFormed layout trip → trip.confirmed ≡ Some trip.sent

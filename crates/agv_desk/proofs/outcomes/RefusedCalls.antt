@@ -333,7 +333,7 @@ as_it_is world (answer.Order header order) fit = refl
 as_it_is world (answer.Instant header instant) fit = refl
 as_it_is world (answer.Counted moved unknown) fit = refl
 as_it_is world (answer.Load load place job) fit = refl
-as_it_is world (answer.Job job row rider) fit = refl
+as_it_is world (answer.Job job row carrier) fit = refl
 as_it_is world (answer.Vehicle key row order) fit = refl
 as_it_is world (answer.Report report text) fit = absurd fit
 

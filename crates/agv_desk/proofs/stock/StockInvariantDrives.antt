@@ -25,7 +25,7 @@ use Rattle.agv_desk.proofs.trip_acts.WalkSteps.{Now}
 -- what the law of the crate below says of drives
 abbrev pub DrivesGoByTheRoute : Type 0
 DrivesGoByTheRoute = (layout : Layout) (vehicle : VehicleKey) (order at to : List ℕ) (base : ℕ) (trip : Trip)
-    → drive_planned layout vehicle order at to base ≡ Ok trip → IsDriveTo layout at to base trip × (0 < length trip.edges)
+    → drive_planned layout vehicle order at to base ≡ Ok trip → IsDriveTo layout vehicle order at to base trip × (0 < length trip.edges)
 
 module _ (drives : DrivesGoByTheRoute) (world : World) (stock : HasStockInvariant world) where
   abbrev P : Effect → Type 0

@@ -16,7 +16,7 @@ ghost use Rattle.agv_desk.specs.Refusals.{IsOfCall};
 ghost use Rattle.agv_desk.specs.Reports.{report_asked, served};
 ghost use Rattle.agv_desk.specs.StateSteps.{take_state};
 ghost use Rattle.agv_desk.specs.Step.{step, steps, answers, moves};
-ghost use Rattle.agv_desk.specs.Unchanged.{ChangesNothing, IsOld, only_tells};
+ghost use Rattle.agv_desk.specs.Unchanged.{ChangesNothing, ChangesOnly, IsOld, only_tells};
 ghost use Rattle.agv_desk.specs.declared.answer.Answer.TheVariants as answer;
 ghost use Rattle.agv_desk.specs.declared.call.Call.{Call};
 ghost use Rattle.agv_desk.specs.declared.call.Call.TheVariants as call;
@@ -90,6 +90,13 @@ pub fn moves_for_its_cause()
 /// Proves that a call that only reads changes nothing.
 pub fn tells_without_change()
     ensures { (seats : ℕ) (world : World) (at : ℕ) (call : Call) → only_tells call ≡ true → ChangesNothing world (step seats world at call) }
+{}
+
+/// Proves that a call that starts a drive changes at most the row and the trip of its vehicle, and that the order's name
+/// is used: the layout, the other vehicles, the places of all loads, all jobs, and the references are as before.
+pub fn drives_one_vehicle()
+    ensures { (seats : ℕ) (world : World) (at : ℕ) (order : List ℕ) (key : VehicleKey) (to : List ℕ) (edges : ℕ)
+        → ChangesOnly key order world (after world (step seats world at (call.StartDrive order key to edges))) }
 {}
 
 /// Proves that a state that is not newer than the last accepted one of its vehicle changes nothing,

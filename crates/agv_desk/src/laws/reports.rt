@@ -3,7 +3,7 @@ ghost use Rattle.std.specs.Prelude.{◌≡◌, ◌↔◌, ℕ, true, List, None,
 ghost use Rattle.std.specs.List.Sorted.{IsStrictlySortedBy};
 ghost use Rattle.std.specs.Map.{keys_of};
 ghost use Rattle.agv_count.specs.LayoutFile.{layout_rows_in};
-ghost use Rattle.agv_count_exports.specs.Exports.{jobs_told, rider_of, vehicles_told};
+ghost use Rattle.agv_count_exports.specs.Exports.{jobs_told, carrier_of, vehicles_told};
 ghost use Rattle.agv_count_exports.specs.declared.told.VehicleTold.{VehicleTold};
 ghost use Rattle.agv_header.specs.Name.{name_cmp};
 ghost use Rattle.agv_layout.specs.Layout.{KeepsRules};
@@ -13,7 +13,7 @@ ghost use Rattle.agv_stock.specs.declared.job.Phase.TheVariants as phase;
 ghost use Rattle.agv_world_core.specs.Lawful.{IsJob, IsLawful};
 ghost use Rattle.agv_world_core.specs.Worlds.{World};
 ghost use Rattle.agv_world_core.specs.declared.row.JobRow.{JobRow as RowOf};
-ghost use Rattle.agv_desk.specs.Exported.{IsRider};
+ghost use Rattle.agv_desk.specs.Exported.{IsCarrier};
 ghost use Rattle.agv_desk.specs.Reports.{report_text};
 ghost use Rattle.agv_desk.specs.declared.report.Report.TheVariants as report;
 
@@ -29,12 +29,12 @@ pub fn exports_its_layout()
 
 /// Proves that in a lawful world the export of jobs names no vehicle for a waiting job, so that the last three fields
 /// of its line are empty, and for a riding job the vehicle whose open trip has an unfinished drop of it.
-pub fn exports_riders()
+pub fn exports_carriers()
     ensures waiting { (seats : ℕ) (world : World) (job : List ℕ) (row : RowOf) → IsLawful seats world → IsJob world job row
-        → row.phase ≡ phase.Waiting → rider_of (vehicles_told world) job ≡ None }
+        → row.phase ≡ phase.Waiting → carrier_of (vehicles_told world) job ≡ None }
     ensures riding { (seats : ℕ) (world : World) (job : List ℕ) (row : RowOf) → IsLawful seats world → IsJob world job row
         → row.phase ≡ phase.Riding
-        → (vehicle : VehicleTold) × (rider_of (vehicles_told world) job ≡ Some vehicle) × IsRider world job vehicle }
+        → (vehicle : VehicleTold) × (carrier_of (vehicles_told world) job ≡ Some vehicle) × IsCarrier world job vehicle }
 {}
 
 /// Proves that the export of jobs lists exactly the live jobs of the world, each with its row, and each once, in the

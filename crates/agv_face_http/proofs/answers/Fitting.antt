@@ -107,7 +107,7 @@ as_told world (answer.Order header order) is = refl
 as_told world (answer.Instant header instant) is = refl
 as_told world (answer.Counted moved unknown) is = refl
 as_told world (answer.Load load place job) is = refl
-as_told world (answer.Job job row rider) is = refl
+as_told world (answer.Job job row carrier) is = refl
 as_told world (answer.Vehicle key row order) is = refl
 as_told world (answer.Report report text) is = absurd (let e : false ≡ true = is in cc)
 

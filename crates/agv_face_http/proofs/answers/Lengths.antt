@@ -244,7 +244,7 @@ brief (answer.Order header order) close h = absurd h
 brief (answer.Instant header instant) close h = absurd h
 brief (answer.Counted moved unknown) close h = absurd h
 brief (answer.Load load place job) close h = absurd h
-brief (answer.Job job row rider) close h = absurd h
+brief (answer.Job job row carrier) close h = absurd h
 brief (answer.Vehicle key row order) close h = absurd h
 brief (answer.Report report text) close h = absurd h
 
@@ -311,6 +311,6 @@ outcome_short (answer.Order header order) is h few close = absurd (cc)
 outcome_short (answer.Instant header instant) is h few close = absurd (cc)
 outcome_short (answer.Counted moved unknown) is h few close = counted_brief moved unknown close h few.0 few.1
 outcome_short (answer.Load load place job) is h few close = absurd (cc)
-outcome_short (answer.Job job row rider) is h few close = absurd (cc)
+outcome_short (answer.Job job row carrier) is h few close = absurd (cc)
 outcome_short (answer.Vehicle key row order) is h few close = absurd (cc)
 outcome_short (answer.Report report text) is h few close = absurd (cc)

@@ -16,13 +16,13 @@ use Rattle.agv_stock.specs.declared.job.Phase.{Phase}
 use Rattle.agv_stock.specs.declared.job.Phase.TheVariants as phase
 use Rattle.agv_stock.specs.declared.place.Place.{Place}
 use Rattle.agv_stock.specs.declared.place.Place.TheVariants as place
-use Rattle.agv_world_core.specs.declared.floor.Rider.{Rider}
+use Rattle.agv_world_core.specs.declared.floor.Carrier.{Carrier}
 use Rattle.agv_world_core.specs.declared.row.JobRow.{JobRow}
 use Rattle.agv_world_core.specs.declared.row.VehicleRow.{VehicleRow}
 use Rattle.agv_message_json.specs.Json.{text, truth, whole}
 use Rattle.agv_face_http.specs.answers.Answers.{answer_text}
 use Rattle.agv_face_http.specs.answers.Bodies.{load_data, or_null, place_words}
-use Rattle.agv_face_http.specs.answers.Sizes.{IsJobNamed, IsNameIfAny, IsOrderShort, IsRiderNamed, IsShortIfAny, IsVehicleShort}
+use Rattle.agv_face_http.specs.answers.Sizes.{IsJobNamed, IsNameIfAny, IsOrderShort, IsCarrierNamed, IsShortIfAny, IsVehicleShort}
 use Rattle.agv_face_http.specs.answers.JobBody.{job_data, job_parts, maybe_key}
 use Rattle.agv_face_http.specs.answers.VehicleBody.{vehicle_data, vehicle_parts}
 use Rattle.agv_message_json.proofs.Escapes.{escape-name}
@@ -101,9 +101,9 @@ job_length job row order vehicle hj hr ho hv =
     let l0 : length r0 ≤ 256 = omega (arith, length-append (compact_text (text job)) (codes ",\"load\":" ++ r1), name_text_length job hj, l1) in
     omega (arith, length-append (compact_text (text row.origin)) (codes ",\"job\":" ++ r0), name_text_length row.origin hr.origin, l0)
 
-rider_length : (job : List ℕ) (row : JobRow) (rider : Option Rider) → IsName job → IsJobNamed row → IsRiderNamed rider → length (compact_text (job_data job row rider)) ≤ 512
-rider_length job row None hj hr h = job_length job row None None hj hr tt tt
-rider_length job row (Some rider) hj hr h = job_length job row (Some rider.order) (Some rider.vehicle) hj hr h.0 (h.1, h.2)
+carrier_length : (job : List ℕ) (row : JobRow) (carrier : Option Carrier) → IsName job → IsJobNamed row → IsCarrierNamed carrier → length (compact_text (job_data job row carrier)) ≤ 512
+carrier_length job row None hj hr h = job_length job row None None hj hr tt tt
+carrier_length job row (Some carrier) hj hr h = job_length job row (Some carrier.order) (Some carrier.vehicle) hj hr h.0 (h.1, h.2)
 
 parts_length : (astray : Bool) (key : VehicleKey) (row : VehicleRow) (order : Option (List ℕ)) (sent confirmed : Option ℕ)
     → IsVehicleShort key row → IsNameIfAny order → IsShortIfAny sent → IsShortIfAny confirmed
@@ -148,7 +148,7 @@ unfolding answer_text
 vehicle_brief key row order close h ho =
     omega (arith, whole_length 200 (Some (codes "application/json")) None close (compact_text (vehicle_data key row order)) 512 (lit< tt) (lit≤ tt) (lit≤ tt) (lit< tt) (vehicle_length key row order h ho))
 
-pub job_brief : (job : List ℕ) (row : JobRow) (rider : Option Rider) (close : Bool) → IsName job → IsJobNamed row → IsRiderNamed rider → length (answer_text (answer.Job job row rider) close) ≤ 1024
+pub job_brief : (job : List ℕ) (row : JobRow) (carrier : Option Carrier) (close : Bool) → IsName job → IsJobNamed row → IsCarrierNamed carrier → length (answer_text (answer.Job job row carrier) close) ≤ 1024
 unfolding answer_text
-job_brief job row rider close hj hr h =
-    omega (arith, whole_length 200 (Some (codes "application/json")) None close (compact_text (job_data job row rider)) 512 (lit< tt) (lit≤ tt) (lit≤ tt) (lit< tt) (rider_length job row rider hj hr h))
+job_brief job row carrier close hj hr h =
+    omega (arith, whole_length 200 (Some (codes "application/json")) None close (compact_text (job_data job row carrier)) 512 (lit< tt) (lit≤ tt) (lit≤ tt) (lit< tt) (carrier_length job row carrier hj hr h))

@@ -49,7 +49,7 @@ answer_content (answer.Order header order) = json (order_data header order)
 answer_content (answer.Instant header instant) = json (instant_data header instant)
 answer_content (answer.Counted moved unknown) = json (counted_data moved unknown)
 answer_content (answer.Load load place job) = json (load_data load place job)
-answer_content (answer.Job job row rider) = json (job_data job row rider)
+answer_content (answer.Job job row carrier) = json (job_data job row carrier)
 answer_content (answer.Vehicle key row order) = json (vehicle_data key row order)
 answer_content (answer.Report told text) = report (report_type told) text
 

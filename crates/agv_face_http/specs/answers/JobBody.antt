@@ -5,7 +5,7 @@ use Rattle.agv_count.specs.Reports.{key_text}
 use Rattle.agv_header.specs.declared.key.VehicleKey.{VehicleKey}
 use Rattle.agv_message_json.specs.Json.{field, object_of, text}
 use Rattle.agv_stock.specs.Phase.{phase_name}
-use Rattle.agv_world_core.specs.declared.floor.Rider.{Rider}
+use Rattle.agv_world_core.specs.declared.floor.Carrier.{Carrier}
 use Rattle.agv_world_core.specs.declared.row.JobRow.{JobRow}
 use Rattle.agv_face_http.specs.answers.Bodies.{or_null}
 
@@ -26,5 +26,5 @@ job_parts job row order vehicle = object_of (
     ∷ [])
 
 -- the job with the vehicle that carries it out and its order; both are null without one
-abbrev pub job_data : List ℕ → JobRow → Option Rider → Data
-job_data job row rider = job_parts job row (option_map (λ (r : Rider). r.order) rider) (option_map (λ (r : Rider). r.vehicle) rider)
+abbrev pub job_data : List ℕ → JobRow → Option Carrier → Data
+job_data job row carrier = job_parts job row (option_map (λ (r : Carrier). r.order) carrier) (option_map (λ (r : Carrier). r.vehicle) carrier)

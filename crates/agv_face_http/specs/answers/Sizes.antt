@@ -6,7 +6,7 @@ use Rattle.agv_header.specs.Name.{IsName}
 use Rattle.agv_header.specs.declared.refusal.Refusal.{Refusal}
 use Rattle.agv_header.specs.declared.refusal.Refusal.TheVariants as refusal
 use Rattle.agv_header.specs.declared.key.VehicleKey.{VehicleKey}
-use Rattle.agv_world_core.specs.declared.floor.Rider.{Rider}
+use Rattle.agv_world_core.specs.declared.floor.Carrier.{Carrier}
 use Rattle.agv_world_core.specs.declared.row.JobRow.{JobRow}
 use Rattle.agv_world_core.specs.declared.row.VehicleRow.{VehicleRow}
 use Rattle.agv_desk.specs.declared.answer.OpenOrder.{OpenOrder}
@@ -89,9 +89,9 @@ pub record IsJobNamed (row : JobRow) : Type 0 where
   pub target : IsName row.target
 
 -- the vehicle of a job and its order, if there is one, have names
-abbrev pub IsRiderNamed : Option Rider → Type 0
-IsRiderNamed None = Unit {0}
-IsRiderNamed (Some rider) = IsName rider.order × IsName rider.vehicle.manufacturer × IsName rider.vehicle.serial
+abbrev pub IsCarrierNamed : Option Carrier → Type 0
+IsCarrierNamed None = Unit {0}
+IsCarrierNamed (Some carrier) = IsName carrier.order × IsName carrier.vehicle.manufacturer × IsName carrier.vehicle.serial
 
 -- the most bytes of the answer to a call that may change something
 abbrev pub most_answer : ℕ

@@ -41,7 +41,7 @@ fn put_content(out: &mut Vec<u8>, answer: &Answer) -> Result<(), Memory>
         Answer::Instant { header, instant } => put_instant(out, header, instant),
         Answer::Counted { moved, unknown } => put_counted(out, *moved, unknown.as_slice()),
         Answer::Load { load, place, job } => put_load(out, load, place, job),
-        Answer::Job { job, row, rider } => put_job(out, job, row, rider),
+        Answer::Job { job, row, carrier } => put_job(out, job, row, carrier),
         Answer::Vehicle { key, row, order } => put_vehicle(out, key, row, order),
         Answer::Report { text, .. } => put_bytes(out, text.as_slice()),
     }

@@ -5,20 +5,20 @@ ghost use Rattle.agv_face_http.specs.answers.JobBody.{job_data, job_parts};
 
 use crate::answers::piece::{Piece, put_pieces};
 use agv_header::{Memory, Name, VehicleKey};
-use agv_world_core::{JobRow, Rider};
+use agv_world_core::{Carrier, JobRow};
 
 /// Appends the description of a job.
 pub fn put_job(
     out: &mut Vec<u8>,
     job: &Name,
     row: &JobRow,
-    rider: &Option<Rider>,
+    carrier: &Option<Carrier>,
 ) -> Result<(), Memory>
-    ensures { Appended result out.old out.new (compact_text (job_data job.now row.now rider.now)) }
+    ensures { Appended result out.old out.new (compact_text (job_data job.now row.now carrier.now)) }
 {
-    match rider {
+    match carrier {
         None => put_parts(out, job, row, &None, &None),
-        Some(rider) => put_parts(out, job, row, &Some(rider.order), &Some(rider.vehicle)),
+        Some(carrier) => put_parts(out, job, row, &Some(carrier.order), &Some(carrier.vehicle)),
     }
 }
 

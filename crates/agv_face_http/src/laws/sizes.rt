@@ -4,7 +4,7 @@ ghost use Rattle.agv_count.specs.ExportRecords.{IsPlaceNamed};
 ghost use Rattle.agv_desk.specs.declared.answer.OpenOrder.{OpenOrder};
 ghost use Rattle.agv_header.specs.declared.key.VehicleKey.{VehicleKey};
 ghost use Rattle.agv_stock.specs.declared.place.Place.{Place};
-ghost use Rattle.agv_world_core.specs.declared.floor.Rider.{Rider};
+ghost use Rattle.agv_world_core.specs.declared.floor.Carrier.{Carrier};
 ghost use Rattle.agv_world_core.specs.declared.row.JobRow.{JobRow};
 ghost use Rattle.agv_world_core.specs.declared.row.VehicleRow.{VehicleRow};
 ghost use Rattle.agv_desk.specs.declared.answer.Answer.{Answer as AnswerOf};
@@ -21,7 +21,7 @@ ghost use Rattle.agv_face_http.specs.bodies.BodyCalls.{call_of_body};
 ghost use Rattle.agv_face_http.specs.declared.routing.route.Route.{Route};
 ghost use Rattle.agv_face_http.specs.Output.{call_of_request, outcome_for};
 ghost use Rattle.agv_face_http.specs.request.Requests.{IsRequest, Request, most_body};
-ghost use Rattle.agv_face_http.specs.answers.Sizes.{IsBrief, IsJobNamed, IsNameIfAny, IsOrderShort, IsRiderNamed, IsVehicleShort, is_outcome, most_answer, names_size, only_asks, outcome_bytes};
+ghost use Rattle.agv_face_http.specs.answers.Sizes.{IsBrief, IsJobNamed, IsNameIfAny, IsOrderShort, IsCarrierNamed, IsVehicleShort, is_outcome, most_answer, names_size, only_asks, outcome_bytes};
 
 use crate::answers::outcome::{is_of_its_types, refusal_is_short};
 use agv_desk::Answer;
@@ -57,9 +57,9 @@ pub fn tells_loads_briefly()
 
 /// Proves that the description of a job has at most 1,024 bytes.
 pub fn tells_jobs_briefly()
-    ensures { (job : List ℕ) (row : JobRow) (rider : Option Rider) (close : Bool)
-        → IsName job → IsJobNamed row → IsRiderNamed rider
-        → length (answer_text (answer.Job job row rider) close) ≤ 1024 }
+    ensures { (job : List ℕ) (row : JobRow) (carrier : Option Carrier) (close : Bool)
+        → IsName job → IsJobNamed row → IsCarrierNamed carrier
+        → length (answer_text (answer.Job job row carrier) close) ≤ 1024 }
 {}
 
 /// Proves that the description of a vehicle has at most 1,024 bytes.

@@ -16,8 +16,9 @@ use Rattle.agv_stock.specs.declared.place.Place.{Place}
 use Rattle.agv_stock.specs.declared.place.Place.TheVariants as place
 use Rattle.agv_world_core.specs.ConsistentTrips.{HasConsistentTrips}
 use Rattle.agv_world_core.specs.Kept.{Keeps}
+use Rattle.agv_world_core.specs.Carriers.{is_drop_of}
 use Rattle.agv_world_core.specs.Lawful.{IsJob, IsJobIn, IsPlaceIn, IsToDrop, is_to_drop}
-use Rattle.agv_world_lawful.specs.LoadTests.{are_jobs, are_loads_few, are_places, has_station, is_carried, is_drop_of, is_dropped_by, is_in_phase, is_job, is_job_row, is_place, is_placed_at, is_placed_on}
+use Rattle.agv_world_lawful.specs.LoadTests.{are_jobs, are_loads_few, are_places, has_station, is_carried, is_dropped_by, is_in_phase, is_job, is_job_row, is_place, is_placed_at, is_placed_on}
 use Rattle.agv_world_core.specs.Maps.{trip_row}
 use Rattle.agv_world_core.specs.Told.{vehicle_in, world_of}
 use Rattle.agv_world_core.specs.declared.row.JobRow.{JobRow}

@@ -5,8 +5,8 @@ use Rattle.std.specs.FinMap as finite
 use Rattle.std.specs.List.{AllByRecursion, list_any}
 use Rattle.std.proofs.lemmas.Bool.{and_from, and_parts, true≢false, false≢true}
 use Rattle.std.proofs.lemmas.List.Folds.{Any-from_list_any, list_any-from_Any}
-use Rattle.agv_world_core.specs.Riders.{has_drop_of, is_drop_of}
-use Rattle.agv_count_exports.specs.Exports.{rider_of, vehicles_told}
+use Rattle.agv_world_core.specs.Carriers.{has_drop_of, is_drop_of}
+use Rattle.agv_count_exports.specs.Exports.{carrier_of, vehicles_told}
 use Rattle.agv_count_exports.specs.declared.told.VehicleTold.{VehicleTold}
 use Rattle.agv_header.specs.KeyOrder.{key_cmp-total, key_cmp-IsAntisymmetric}
 use Rattle.agv_header.specs.declared.key.VehicleKey.{VehicleKey}
@@ -23,7 +23,7 @@ use Rattle.agv_world_core.specs.Worlds.{Vehicle, World}
 use Rattle.agv_world_core.specs.declared.row.JobRow.{JobRow}
 use Rattle.agv_world_core.proofs.lists.EachEntry.{any-entry}
 use Rattle.agv_world_core.proofs.lists.Entries.{entries_found, no_more, same_Some}
-use Rattle.agv_desk.specs.Exported.{IsRider}
+use Rattle.agv_desk.specs.Exported.{IsCarrier}
 use Rattle.agv_desk.proofs.lists.SameNames.{name_itself, same_name}
 
 -- ---- the first of a list that passes a test
@@ -100,7 +100,7 @@ module _ (world : World) (job : List ℕ) where
   told_of entry = record { key = entry.0; row = entry.1.row; trip = entry.1.trip }
 
   -- what is told carries the job out
-  carries : JoinsJobsAndLoads world → (vehicle : VehicleTold) → rider_of (vehicles_told world) job ≡ Some vehicle → IsRider world job vehicle
+  carries : JoinsJobsAndLoads world → (vehicle : VehicleTold) → carrier_of (vehicles_told world) job ≡ Some vehicle → IsCarrier world job vehicle
   unfolding told_of
   carries joins vehicle told =
       let one = found (λ (one : VehicleTold). has_drop_of job one.trip) told_of (λ (e : VehicleKey × Vehicle). IsVehicle world e.0 e.1)
@@ -109,7 +109,7 @@ module _ (world : World) (job : List ℕ) where
       subst (λ (v : VehicleTold). IsVehicle world v.key (record { row = v.row; trip = v.trip })) one.is one.has in
       by_trip vehicle.trip refl known one.passes
     where
-      by_trip : (trip : Option Trip) → vehicle.trip ≡ trip → IsVehicle world vehicle.key (record { row = vehicle.row; trip = vehicle.trip }) → has_drop_of job vehicle.trip ≡ true → IsRider world job vehicle
+      by_trip : (trip : Option Trip) → vehicle.trip ≡ trip → IsVehicle world vehicle.key (record { row = vehicle.row; trip = vehicle.trip }) → has_drop_of job vehicle.trip ≡ true → IsCarrier world job vehicle
       by_trip None is known passes = absurd (false≢true (ap (has_drop_of job) (sym is) ∙ passes))
       by_trip (Some trip) is known passes =
           let drops = dropped vehicle.key (record { row = vehicle.row; trip = vehicle.trip }) trip known is (ap (has_drop_of job) (sym is) ∙ passes) in
@@ -122,7 +122,7 @@ module _ (world : World) (job : List ℕ) where
           }
 
   -- a vehicle is told where some trip has such a drop
-  some_told : (to_drop : IsToDrop world job) → rider_of (vehicles_told world) job ≡ None → ⊥
+  some_told : (to_drop : IsToDrop world job) → carrier_of (vehicles_told world) job ≡ None → ⊥
   unfolding told_of
   some_told to_drop told =
       let opened = to_drop.has.open_trip in
@@ -132,20 +132,20 @@ module _ (world : World) (job : List ℕ) where
 
 -- ---- waiting jobs and riding ones
 
-not_both : (at : Phase) → at ≡ phase.Waiting → at ≡ phase.Riding → ⊥
+pub not_both : (at : Phase) → at ≡ phase.Waiting → at ≡ phase.Riding → ⊥
 not_both at waits rides = cc
 
 module _ (seats : ℕ) (world : World) (job : List ℕ) (row : JobRow) (lawful : IsLawful seats world) (here : IsJob world job row) where
-  pub none_told : row.phase ≡ phase.Waiting → rider_of (vehicles_told world) job ≡ None
+  pub none_told : row.phase ≡ phase.Waiting → carrier_of (vehicles_told world) job ≡ None
   none_told waits =
-      elim (rider_of (vehicles_told world) job) as (λ rider. rider_of (vehicles_told world) job ≡ rider → rider ≡ None) [
+      elim (carrier_of (vehicles_told world) job) as (λ carrier. carrier_of (vehicles_told world) job ≡ carrier → carrier ≡ None) [
         | None ↦ λ told. refl
         | Some vehicle ↦ λ told. absurd (not_both row.phase waits ((lawful.jobs.riding job row here).1 (carries world job lawful.jobs vehicle told).to_drop))
       ] refl
 
-  pub rider_told : row.phase ≡ phase.Riding → (vehicle : VehicleTold) × (rider_of (vehicles_told world) job ≡ Some vehicle) × IsRider world job vehicle
-  rider_told rides =
-      elim (rider_of (vehicles_told world) job) as (λ rider. rider_of (vehicles_told world) job ≡ rider → (vehicle : VehicleTold) × (rider ≡ Some vehicle) × IsRider world job vehicle) [
+  pub carrier_told : row.phase ≡ phase.Riding → (vehicle : VehicleTold) × (carrier_of (vehicles_told world) job ≡ Some vehicle) × IsCarrier world job vehicle
+  carrier_told rides =
+      elim (carrier_of (vehicles_told world) job) as (λ carrier. carrier_of (vehicles_told world) job ≡ carrier → (vehicle : VehicleTold) × (carrier ≡ Some vehicle) × IsCarrier world job vehicle) [
         | None ↦ λ told. absurd (some_told world job ((lawful.jobs.riding job row here).0 rides) told)
         | Some vehicle ↦ λ told. (vehicle, refl, carries world job lawful.jobs vehicle told)
       ] refl

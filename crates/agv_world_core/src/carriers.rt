@@ -1,7 +1,7 @@
 //! Which acts belong to the vehicle that carries out a job.
 ghost use Rattle.std.specs.Prelude.{◌≡◌};
 ghost use Rattle.std.specs.List.{list_any};
-ghost use Rattle.agv_world_core.specs.Riders.{is_drop_of};
+ghost use Rattle.agv_world_core.specs.Carriers.{is_drop_of};
 
 use agv_header::Name;
 use agv_order::{Act, is_drop, is_finished};

@@ -1,31 +1,36 @@
 //! The vehicle that carries out a job.
-ghost use Rattle.std.specs.Prelude.{◌≡◌};
+ghost use Rattle.std.specs.Prelude.{◌≡◌, ℕ, List};
 ghost use Rattle.std.specs.Option.{option_and_then, option_copied};
-ghost use Rattle.agv_world_core.specs.Riders.{has_drop_of, rider_of as rider_in};
+ghost use Rattle.agv_world_core.specs.Carriers.{has_drop_of, carrier_of as carrier_in};
 ghost use Rattle.agv_world_core.specs.Worlds.{World};
-ghost use Rattle.agv_count_exports.specs.Exports.{ride_of, rider_of, vehicles_told};
+ghost use Rattle.agv_count_exports.specs.Exports.{ride_of, carrier_of, vehicles_told};
 
 use crate::VehicleTold;
 use agv_header::Name;
 use agv_order::Trip;
-use agv_world_core::{Rider, has_drop_among};
+use agv_world_core::{Carrier, has_drop_among};
 
 /// Returns the first of these vehicles whose open trip has an unfinished drop of the job, with the name of that order;
 /// `None` if there is none.
-pub fn rider(vehicles: &[VehicleTold], job: Name) -> Option<Rider>
-    ensures is { result ≡ option_and_then ride_of (rider_of vehicles.now job) }
-    ensures of_all { (world : World) → vehicles.now ≡ vehicles_told world → result ≡ rider_in world job }
+pub fn carrier(vehicles: &[VehicleTold], job: Name) -> Option<Carrier>
+    ensures is { result ≡ option_and_then ride_of (carrier_of vehicles.now job) }
+    ensures of_all { (world : World) → vehicles.now ≡ vehicles_told world → result ≡ carrier_in world job }
 {
-    let vehicle = rider_of(vehicles, job)?;
+    let vehicle = carrier_of(vehicles, job)?;
     ride_of(vehicle)
 }
 
+/// Proves that the vehicle that the list of all vehicles gives for a job is the one of the world.
+pub fn gives_the_carrier()
+    ensures { (world : World) (job : List ℕ) → option_and_then ride_of (carrier_of (vehicles_told world) job) ≡ carrier_in world job }
+{}
+
 /// Returns the vehicle, with the name of its open trip's order; `None` if it has no open trip.
-fn ride_of(vehicle: &VehicleTold) -> Option<Rider>
+fn ride_of(vehicle: &VehicleTold) -> Option<Carrier>
     ensures { result ≡ ride_of vehicle.now }
 {
     match &vehicle.trip {
-        Some(trip) => Some(Rider {
+        Some(trip) => Some(Carrier {
             vehicle: vehicle.key,
             order: trip.order,
         }),
@@ -34,8 +39,8 @@ fn ride_of(vehicle: &VehicleTold) -> Option<Rider>
 }
 
 /// Returns the first vehicle whose open trip has an unfinished drop of the job, if any.
-pub(crate) fn rider_of(vehicles: &[VehicleTold], job: Name) -> Option<&VehicleTold>
-    ensures { option_copied result ≡ rider_of vehicles.now job }
+pub(crate) fn carrier_of(vehicles: &[VehicleTold], job: Name) -> Option<&VehicleTold>
+    ensures { option_copied result ≡ carrier_of vehicles.now job }
 {
     vehicles
         .iter()

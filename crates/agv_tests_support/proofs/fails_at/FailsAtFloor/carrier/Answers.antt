@@ -1,7 +1,7 @@
 use Rattle.std.proofs.Common.{rules, ◌≡◌, false, Err, refl}
 use Rattle.agv_world_core.specs.declared.fault.Fault.TheVariants.{Storage}
 use Rattle.agv_tests_support.proofs.Within.{asked_inside, failed_outside}
-use Rattle.agv_tests_support.proofs.fails_at.FailsAtFloor.rider.Goals as goal
+use Rattle.agv_tests_support.proofs.fails_at.FailsAtFloor.carrier.Goals as goal
 
 pub returns-in_err-ask : goal.returns-in_err-ask
 returns-in_err-ask c =
@@ -11,4 +11,4 @@ returns-in_err-ask c =
 pub returns : goal.returns
 returns c =
     asked_inside (λ store. store.floor) (λ store. store.failed) _ c.args.self.now _ _ (λ floor. refl) c.ask.new.self.floor c.in_ok-ask.ensures.floor_stays
-    c.in_ok-ask.ensures.answers c.rider.result c.rider.ensures
+    c.in_ok-ask.ensures.answers c.carrier.result c.carrier.ensures

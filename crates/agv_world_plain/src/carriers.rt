@@ -1,20 +1,20 @@
 //! Which vehicle carries out a job, from the tables of a world.
 ghost use Rattle.std.specs.Prelude.{◌≡◌};
-ghost use Rattle.agv_world_core.specs.Riders.{rider_of};
+ghost use Rattle.agv_world_core.specs.Carriers.{carrier_of};
 ghost use Rattle.agv_world_core.specs.Told.{world_of, open_trip};
 ghost use Rattle.agv_world_plain.specs.Rides.{order_dropping};
 
 use agv_header::{Name, VehicleKey};
-use agv_world_core::{Rider, World, has_drop_among};
+use agv_world_core::{Carrier, World, has_drop_among};
 
 /// Returns the vehicle whose open trip has an unfinished drop of a job, with the name of that order; `None` if there is
 /// none.
-pub(crate) fn rider(world: &World, job: Name) -> Option<Rider>
-    ensures { result ≡ rider_of (world_of world.now) job }
+pub(crate) fn carrier(world: &World, job: Name) -> Option<Carrier>
+    ensures { result ≡ carrier_of (world_of world.now) job }
 {
     for (key, _) in world.vehicles.iter() {
         if let Some(order) = order_dropping(world, *key, job) {
-            return Some(Rider {
+            return Some(Carrier {
                 vehicle: *key,
                 order,
             });
