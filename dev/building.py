@@ -108,6 +108,7 @@ def main(text: str | None, build: Callable[[str, list[str]], None]) -> int:
     parser.add_argument('words', metavar='ARGUMENT', nargs=argparse.REMAINDER, help=what)
     given = parser.parse_args()
     folder = os.path.abspath(given.folder)
+    os.umask(os.umask(0o077) | 0o022)  # others may not put another program there
     os.makedirs(folder, exist_ok=True)
     signal.signal(signal.SIGINT, signal.SIG_DFL)  # (while it waits for another)
     try:

@@ -2,6 +2,8 @@
 up by docs/OPERATE.md."""
 from __future__ import annotations
 
+import collections
+import concurrent.futures
 import contextlib
 import json
 import os
@@ -43,7 +45,8 @@ class OfDebian(unittest.TestCase):
     def recorded(self, load: str) -> bool:
         """Whether the command that registers a load is in the record."""
         with open(self.nginx.path('record/desk.log'), encoding='utf-8') as file:
-            return any(json.loads(json.loads(line)['body']) == {'load': load} for line in file)
+            bodies = [json.loads(line)['body'] for line in file]
+        return json.dumps({'load': load}) in bodies
 
 
 class OtherSites(OfDebian):
@@ -85,6 +88,29 @@ class OtherSites(OfDebian):
                 line.shutdown(socket.SHUT_WR)
                 while line.recv(65536):
                     pass
+
+
+class RefusedReader(OfDebian):
+    """A reader wants to fill the disk by the record of what is refused to its role."""
+
+    def test_many_commands(self) -> None:
+        """It asks for what it may not as fast as it can, by long targets: some are recorded, and
+        the others are refused without a line; a dispatcher's command is in the record."""
+        self.nginx.add_user('rick', '')
+        self.nginx.start()
+        self.assertEqual(self.nginx.ask('GET', '/report/holds', user='rick')[0], 200)
+        target = '/x?' + '"' * 290
+
+        def ask(number: int) -> int:
+            return self.nginx.ask('POST', f'{target}{number}', {}, 'rick')[0]
+
+        with concurrent.futures.ThreadPoolExecutor(8) as pool:
+            statuses = collections.Counter(pool.map(ask, range(400)))
+        self.assertLessEqual(set(statuses), {403, 404, 429})
+        self.assertGreaterEqual(statuses[429], 250)
+        self.assertEqual(self.nginx.ask('POST', '/loads', {'load': 'L1'}, 'anna'), (200, b'{}'))
+        until(lambda: self.recorded('L1'), 'the command in the record')
+        self.assertLess(self.nginx.sizes()['record/desk.log'], 120_000)
 
 
 class OddBytes(OfDebian):

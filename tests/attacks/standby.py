@@ -9,7 +9,7 @@ import unittest
 
 from nulvrader.standby import cluster, gluster, lock, status
 from nulvrader.standby.gluster import Unknown
-from nulvrader.standby.holder import State, remove_socket
+from nulvrader.standby.holder import StateFile, remove_socket
 
 SECRET = 'secret'
 
@@ -37,7 +37,7 @@ class HostileStandby(unittest.TestCase):
         state = f'{self.db}.json'
         for name in (state, f'{state}.new'):
             os.symlink(self.other, name)
-        State(state).tell('serving')
+        StateFile(state).tell('serving')
         self.check_other()
         self.assertEqual(status.read(state, 60.0).status, status.RUNS)
         os.remove(state)

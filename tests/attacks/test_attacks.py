@@ -7,65 +7,75 @@ from tests.attacks.way_in import FormOfAForeignPage, RequestOfAForeignPage
 from tests.attacks.board import ForeignPage
 
 # A program of another user of the machine reaches the desk's port or socket.
-from tests.attacks.way_in import AnotherUserOfTheMachine, AnotherUserWithoutSystemd
+from tests.attacks.machine import AnotherUserOfTheMachine, AnotherUserWithoutSystemd
 from tests.attacks.clients import OverAUnixSocket
 from tests.attacks.board import OtherUser
 
 # A gateway, or a reader, commands by the page of the board or by a path that is read in two ways;
 # no command is unrecorded.
 from tests.attacks.way_in import CommandOfAGateway, CommandOfAReader
-from tests.attacks.way_in import Record
+from tests.attacks.record_lines import Record
 
 # Anybody fills the disk by a site of nginx that is not the desk's; the record ends at a rotation.
-from tests.attacks.record import OddBytes, OtherSites, RotatedRecord
+from tests.attacks.record import OddBytes, OtherSites, RefusedReader, RotatedRecord
 
-# The board's token is taken by a request within the body of another one.
-from tests.attacks.board import Desync
+# The board's token is taken by a request within the body of another one; what is none reaches the
+# board.
+from tests.attacks.board_bytes import Desync
+from tests.attacks.way_in import OddTokens
 
 # Vehicles that nobody knows, messages that are too long or hostile, and what the broker lets a
 # vehicle write.
-from tests.attacks.gateway import InventedVehicles
-from tests.attacks.gateway import HostileMessages, LongMessages
-from tests.attacks.gateway import AnotherBroker, BrokerCertificates, BrokerRights
+from tests.attacks.gateway import HostileMessages, InventedVehicles, LongMessages
+from tests.attacks.gateway_servers import AnotherBroker
+from tests.attacks.broker import BrokerCertificates, BrokerRights
 
 # Connections that are kept lock others out of nginx and the broker.
-from tests.attacks.way_in import ConnectionsOfAnAddress, SilentConnections
-from tests.attacks.gateway import BrokerConnections, BrokerOfAllAddresses
+from tests.attacks.connections import ConnectionsOfAnAddress
+from tests.attacks.crowds import SilentConnections
+from tests.attacks.broker import BrokerConnections, BrokerOfAllAddresses
 
 # A reader keeps the others from the desk; passwords are tried, and names found out.
-from tests.attacks.way_in import PagesOfReaders, Starvation, UnreadReports
+from tests.attacks.crowds import PagesOfReaders, Starvation, UnreadReports
+from tests.attacks.reports import KeptReports, ReportsOfReaders
 from tests.attacks.way_in import NamesOfUsers, Passwords
 
 # Another server answers on the desk's port: to the client and `ask`, the dispatcher, the gateway
 # and the board.
-from tests.attacks.clients import AnotherServer, AnyAnswer, BytesThatDrip, EndlessAnswers
-from tests.attacks.clients import AnotherServerForTheDispatcher
-from tests.attacks.gateway import AnotherServer as AnotherServerForTheGateway
-from tests.attacks.board import NoDesk, OtherDesk
+from tests.attacks.clients import AnotherServer, AnyAnswer
+from tests.attacks.client_streams import BytesThatDrip, EndlessAnswers
+from tests.attacks.dispatcher import AnotherServerForTheDispatcher
+from tests.attacks.gateway_servers import AnotherServer as AnotherServerForTheGateway
+from tests.attacks.board_desk import NoDesk, OtherDesk
+
+# What vehicles and gateways say of themselves to a board, and a board that hears nothing of it.
+from tests.attacks.board_bytes import HostileWords
+from tests.attacks.gateway import StuckBoards
 
 # What lies in the place of the lock of a shared volume, and what other machines say.
 from tests.attacks.standby import HostileStandby
 
 # Files that are none, or have no tables, in the place of a desk's file, and folders for its copies.
-from tests.attacks.files import NoRegularFile, NoTables
-from tests.attacks.files import Copies, Fuzz
+from tests.attacks.files import Fuzz, NoRegularFile
+from tests.attacks.file_tables import NoTables
+from tests.attacks.copies import Copies
 
 # Escapes and line ends of others reach a terminal.
-from tests.attacks.clients import TerminalEscapes
+from tests.attacks.client_values import TerminalEscapes
 from tests.attacks.files import Texts
 
 # The disk is full under the board's record of commands.
-from tests.attacks.board import FullDisk
+from tests.attacks.board_load import FullDisk
 
 # Many connections and pages of one program stop the board.
-from tests.attacks.board import Crowd, MadeOnce
+from tests.attacks.board_load import Crowd, MadeOnce
 
 # Values of a wrong type or form are sent on to the desk.
-from tests.attacks.board import Values
-from tests.attacks.clients import WrongValues
+from tests.attacks.board_bytes import Values
+from tests.attacks.client_values import WrongValues
 
 # A service that was taken over goes on to the rest of the machine.
-from tests.attacks.way_in import Units
+from tests.attacks.machine import Units
 
 __all__ = [
     'AnotherBroker',
@@ -93,7 +103,9 @@ __all__ = [
     'Fuzz',
     'HostileMessages',
     'HostileStandby',
+    'HostileWords',
     'InventedVehicles',
+    'KeptReports',
     'LongMessages',
     'MadeOnce',
     'NamesOfUsers',
@@ -101,6 +113,7 @@ __all__ = [
     'NoRegularFile',
     'NoTables',
     'OddBytes',
+    'OddTokens',
     'OtherDesk',
     'OtherSites',
     'OtherUser',
@@ -108,10 +121,13 @@ __all__ = [
     'PagesOfReaders',
     'Passwords',
     'Record',
+    'RefusedReader',
+    'ReportsOfReaders',
     'RequestOfAForeignPage',
     'RotatedRecord',
     'SilentConnections',
     'Starvation',
+    'StuckBoards',
     'TerminalEscapes',
     'Texts',
     'Units',

@@ -1,1 +1,2 @@
-"""An installed desk: its configuration, its units, how its file is made and put back."""
+"""Administers an installed desk: its configuration, its units, and the making, copying, migrating
+and putting back of its file."""

@@ -1,4 +1,5 @@
-"""/etc/nulvrader/nulvrader.conf, which the units read as their environment: lines NAME=VALUE."""
+"""Reads /etc/nulvrader/nulvrader.conf, which the units have as their environment: lines
+NAME=VALUE."""
 from __future__ import annotations
 
 import os
@@ -15,12 +16,13 @@ DEFAULTS = {
     'NULVRADER_NAME': 'desk.example',
     'NULVRADER_UNITS': 'board dispatch',
     'NULVRADER_BACKUPS': '/var/backups/nulvrader',
+    'NULVRADER_INSTRUCTIONS': '/var/lib/nulvrader/dispatch/instructions.csv',
 }
 LINE = re.compile(r'(NULVRADER_[A-Z_]+)=(.*)')
 
 
 def read() -> dict[str, str]:
-    """Returns the values, none if there is no such file, or this user may not read it."""
+    """Reads the values of the file; none if it isn't there, or this user may not read it."""
     try:
         data = plain_files.read_text(os.environ.get(WHERE, PATH))
     except OSError:
@@ -31,13 +33,13 @@ def read() -> dict[str, str]:
 
 
 def _without_quotes(value: str) -> str:
-    """A value that is in quotes, without them, as systemd reads it."""
+    """Returns a value without the quotes around it, if there are any, as systemd reads it."""
     is_quoted = len(value) > 1 and value[0] == value[-1] and value[0] in '\'"'
     return value[1:-1] if is_quoted else value
 
 
 def values() -> dict[str, str]:
-    """Returns all values. An environment variable of the same name comes first; without either the
-    value is that of the package."""
+    """Returns all values: that of the environment variable of this name, else that of the file,
+    else the default of the package."""
     found = {**DEFAULTS, **read()}
     return {name: os.environ.get(name, value) for name, value in found.items()}

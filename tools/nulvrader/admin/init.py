@@ -9,81 +9,85 @@ import subprocess
 import sys
 import time
 from collections.abc import Mapping
-from typing import Any
 
 from ..common import entry
 from ..common.layouts import LayoutFile
 from ..common.plain_files import read_text
 from ..common.text import shown
-from ..desk.client import Answer, Desk, NoAnswer, refused
+from ..desk.answers import refused
+from ..desk.client import Answer, Desk, NoAnswer
 from ..file import reasons, stopped_file
 from . import conf, units
-from .units import Fault
+from .copies import RunAs
+from .units import AdminError
 
-TOLD = 10_000  # the most characters of a line
+LONGEST = 10_000  # the most characters of a line
 PATIENCE = 60.0  # seconds until a desk that is started answers
 USER = 'desk'  # the user of the desk
 CLIENTS = 'desk-clients'  # the group that may ask the desk, and so may read its layout
 REQUEST = b'PUT /layout HTTP/1.1\r\nContent-Length: %d\r\nConnection: close\r\n\r\n%s'
 
 
-def as_the_desk() -> dict[str, Any]:
-    """Returns as whom the desk's file is made: its user, if there is one and root runs this."""
+def as_the_desk() -> RunAs:
+    """Returns as whom the desk's program runs: as its user, if there is one and root runs this."""
     if os.geteuid() != 0 or USER not in (one.pw_name for one in pwd.getpwall()):
         return {}
     return {'user': USER, 'group': USER, 'extra_groups': []}
 
 
 def read_layout(path: str) -> bytes:
-    """Returns the layout of a file; a `Fault` with each error if no desk takes it."""
+    """Reads a layout file, and raises `AdminError` with each fault of it if no desk takes it."""
     data = read_text(path)
     layout = LayoutFile(data)
     if layout.faults:
-        lines = [shown(str(one), TOLD) for one in layout.faults]
-        raise Fault('\n'.join([f'{shown(path, TOLD)} is no layout:', *lines]))
+        lines = [shown(str(one), LONGEST) for one in layout.faults]
+        raise AdminError('\n'.join([f'{shown(path, LONGEST)} is no layout:', *lines]))
     return data
 
 
 def is_made(db: str, wanted: bytes) -> bool:
-    """Whether an init that was stopped has made the file with this layout, and nothing was done in
-    it since. A `Fault` if there is another file; but one of a desk without a layout gets one, and
-    so does one with nothing in it, as an init leaves it that was killed."""
-    if reasons.look_at_file(db).is_new:
+    """Whether the file is there with this layout and without a vehicle or a load, as an `init` that
+    was stopped has left it. A file without a layout, or with nothing in it, counts as not made.
+    Raises `AdminError` for any other file."""
+    if reasons.check_file(db).is_new:
         return False
     try:
-        with stopped_file.opened(db) as base:
-            layout = stopped_file.layout_in(base)
-            is_used = any(any(stopped_file.rows_in(base, table)) for table in ('vehicle', 'load'))
+        with stopped_file.opened(db) as connection:
+            layout = stopped_file.layout_in(connection)
+            is_used = any(
+                any(stopped_file.rows_in(connection, table)) for table in ('vehicle', 'load')
+            )
     except stopped_file.Unread as fault:
-        raise Fault(f'there is a file already: {fault}') from None
+        raise AdminError(f'there is a file already: {fault}') from None
     if not layout.nodes:
         return False
     if is_used or layout.csv() != LayoutFile(wanted).layout().csv():
-        line = f'systemctl enable --now {" ".join(names(conf.values()))}'
-        raise Fault(f"{db} is a desk's file with a layout, and stays as it is. To start it: {line}")
+        command = f'systemctl enable --now {" ".join(names(conf.values()))}'
+        text = f"{db} is a desk's file with a layout, and stays as it is"
+        raise AdminError(f'{text}. To start it: {command}')
     return True
 
 
 def make_file(program: str, db: str, layout: bytes) -> None:
-    """Makes the file with its layout, by one request."""
+    """Makes the file with its layout, by one request to the program. Raises `AdminError`."""
     moment = str(time.time_ns() // 1_000_000)
-    line = [program, 'replay', '--db', db, '--at', moment]
+    command = [program, 'replay', '--db', db, '--at', moment]
     request = REQUEST % (len(layout), layout)
     done = subprocess.run(
-        line, input=request, capture_output=True, check=False, umask=0o027, **as_the_desk()
+        command, input=request, capture_output=True, check=False, umask=0o027, **as_the_desk()
     )
     head, _, body = done.stdout.partition(b'\r\n\r\n')
     if done.returncode or not head.startswith(b'HTTP/1.1 '):
-        said = done.stderr.decode(errors='replace').strip()
-        raise Fault(f'{db} can not be made: {said} (nulvrader why --user {USER} says more)')
+        why = done.stderr.decode(errors='replace').strip()
+        raise AdminError(f'{db} can not be made: {why} (nulvrader why --user {USER} says more)')
     status = int(head[9:12])
     if status != 200:
-        raise Fault(f'the desk does not take the layout: {refused(Answer(status, body))}')
+        raise AdminError(f'the desk does not take the layout: {refused(Answer(status, body))}')
 
 
 def put(path: str, data: bytes, group: str) -> None:
-    """Puts a file in the place of another one, as a whole. A group may read it, if there is one
-    and root runs this; else nobody but who runs this."""
+    """Replaces a file as a whole. A group may read the new one, if the group exists and root runs
+    this; else only the user who runs this."""
     with open(f'{path}.new', 'wb', opener=_private) as file:
         file.write(data)
         os.fsync(file.fileno())
@@ -95,12 +99,12 @@ def put(path: str, data: bytes, group: str) -> None:
 
 
 def _private(path: str, flags: int) -> int:
-    """Opens a new file that nobody else may read yet."""
+    """Opens a new file that no other user may read."""
     return os.open(path, flags | os.O_CLOEXEC, 0o600)
 
 
 def wait_for(desk: Desk) -> None:
-    """Returns once the desk answers; a `Fault` if that takes too long."""
+    """Returns once the desk answers. Raises `AdminError` if that takes longer than PATIENCE."""
     ends = time.monotonic() + PATIENCE
     while True:
         try:
@@ -108,17 +112,17 @@ def wait_for(desk: Desk) -> None:
             return
         except NoAnswer as fault:
             if time.monotonic() > ends:
-                raise Fault(f'{fault} (journalctl -u {units.DESK} says why)') from None
+                raise AdminError(f'{fault} (journalctl -u {units.DESK} says why)') from None
         time.sleep(0.2)
 
 
 def names(values: Mapping[str, str]) -> list[str]:
-    """The units of the desk and of what is beside it."""
+    """Returns the units of the desk and of the programs beside it."""
     return [units.SOCKET, units.DESK, units.TIMER, *units.beside(dict(values))]
 
 
 def start(values: Mapping[str, str]) -> None:
-    """Starts the desk and what is beside it, now and at each boot."""
+    """Enables the desk and the programs beside it, and starts them, if systemd runs here."""
     if not units.runs():
         units.systemctl('enable', *names(values))
         print('systemd does not run here: the units are enabled, and not started')
@@ -128,18 +132,18 @@ def start(values: Mapping[str, str]) -> None:
     print('the desk answers at', values['NULVRADER_DESK'])
 
 
-def carry_out(said: argparse.Namespace) -> None:
-    """Makes the file, and starts the desk."""
+def carry_out(args: argparse.Namespace) -> None:
+    """Makes the file with its layout, and starts the desk."""
     values = conf.values()
-    layout = read_layout(said.layout)
-    if not said.no_start:
+    layout = read_layout(args.layout)
+    if not args.no_start:
         units.want_root()
         units.want_no_restore()
     if not is_made(values['NULVRADER_DB'], layout):
-        make_file(said.program, values['NULVRADER_DB'], layout)
+        make_file(args.program, values['NULVRADER_DB'], layout)
     put(values['NULVRADER_LAYOUT'], layout, CLIENTS)
-    print(f'{values["NULVRADER_DB"]} has the layout of {shown(said.layout, TOLD)}')
-    if said.no_start:
+    print(f'{values["NULVRADER_DB"]} has the layout of {shown(args.layout, LONGEST)}')
+    if args.no_start:
         return
     start(values)
     if any('board' in unit for unit in units.beside(values)):
@@ -147,16 +151,18 @@ def carry_out(said: argparse.Namespace) -> None:
         print(f'the board: https://{name}/board/ (docs/OPERATE.md, *TLS, and who may do what*)')
 
 
-def run(words: list[str], text: str) -> int:
-    """Runs `init`; `text` is the head of its help."""
-    line = entry.parser(text, 'init')
-    line.add_argument('layout', metavar='LAYOUT.csv', help='the layout, as docs/PROFILE.md has it')
-    line.add_argument('--no-start', action='store_true', help='make the file alone')
+def run(arguments: list[str], text: str) -> int:
+    """Runs `init`, and returns its status; `text` is the head of its help."""
+    parser = entry.parser(text, 'init')
+    parser.add_argument(
+        'layout', metavar='LAYOUT.csv', help='the layout, as docs/PROFILE.md has it'
+    )
+    parser.add_argument('--no-start', action='store_true', help='make the file alone')
     help_text = 'the program of the desk (default: that beside this one)'
-    line.add_argument('--program', default=entry.PROGRAM, metavar='FILE', help=help_text)
+    parser.add_argument('--program', default=entry.PROGRAM, metavar='FILE', help=help_text)
     try:
-        carry_out(line.parse_args(words))
-    except (Fault, OSError, KeyError) as fault:
+        carry_out(parser.parse_args(arguments))
+    except (AdminError, OSError, KeyError) as fault:
         print(f'init: {fault}', file=sys.stderr)
         return 1
     return 0

@@ -1,5 +1,5 @@
-"""`nulvrader migrate` without a file: migrates that of an installed desk, once somebody has said
-yes, and keeps a copy from before, which alone leads back."""
+"""`nulvrader migrate` without a file: asks first, keeps a copy of the installed desk's file, and
+migrates the file. Only the copy leads back."""
 from __future__ import annotations
 
 import contextlib
@@ -13,7 +13,7 @@ from ..common import entry
 from ..common.plain_files import NotPlain
 from ..file import database, opening
 from . import conf, copies, init, units
-from .units import Fault
+from .units import AdminError
 
 HEAD = """Migrates the file of the installed desk, if it is of the first schema: asks first, stops
 the desk, keeps a copy from before beside the other copies, migrates the file, and starts the desk.
@@ -23,46 +23,48 @@ QUESTION = 'Migrate it? Only the copy from before, with the older package, leads
 
 
 def is_first(db: str) -> bool:
-    """Whether a file is of the first schema; a `Fault` if it can't be looked at."""
+    """Whether a file is of the first schema. Raises `AdminError` if it can't be read."""
     if not os.path.exists(db):
         return False
     try:
-        with opening.opened(db) as base:
-            return database.tables_of(base).is_first
+        with opening.opened(db) as connection:
+            return database.tables_of(connection).is_first
     except (NotPlain, OSError, sqlite3.Error, database.TooMany) as fault:
-        raise Fault(f'{db}: {fault}') from None
+        raise AdminError(f'{db}: {fault}') from None
 
 
 def keep(db: str, folder: str) -> str:
-    """Makes the copy from before, of a file that no desk has open; returns its path. No backup
-    removes it: it has another name than those that are made each night."""
+    """Copies the file, which no desk has open, into the folder of the copies, and returns the path
+    of the copy. No backup removes it, since its name is not one of theirs."""
     stem = os.path.splitext(os.path.basename(db))[0]
     copy = os.path.join(folder, f'{stem}-first-schema-{time.strftime("%Y%m%dT%H%M%SZ")}.db')
-    os.close(os.open(copy, os.O_CREAT | os.O_EXCL | os.O_WRONLY, 0o600))
     try:
-        with opening.opened(db, alone=True) as base:
-            with contextlib.closing(sqlite3.connect(copy)) as other:
-                base.backup(other)
+        with copies.own_folder('migrate-') as own:
+            made = os.path.join(own, 'made.db')
+            with opening.opened(db, alone=True, folder=own) as connection:
+                with contextlib.closing(sqlite3.connect(made)) as other:
+                    connection.backup(other)
+            copies.put(made, copy, 0o600)
+    except FileExistsError:
+        raise AdminError(f'{copy} is there already') from None
     except (NotPlain, OSError, sqlite3.Error) as fault:
-        copies.remove(copy)
-        raise Fault(f'{db} can not be copied: {fault}') from None
-    copies.sync(copy)
+        raise AdminError(f'{db} can not be copied: {fault}') from None
     copies.sync(folder)
     return copy
 
 
 def migrate(program: str, db: str) -> None:
-    """Has the program migrate the file, as the user of the desk."""
-    line = [program, 'migrate', '--db', db]
+    """Runs the program to migrate the file, as the user of the desk. Raises `AdminError`."""
+    command = [program, 'migrate', '--db', db]
     done = subprocess.run(
-        line, stdin=subprocess.DEVNULL, capture_output=True, text=True, **init.as_the_desk()
+        command, stdin=subprocess.DEVNULL, capture_output=True, text=True, **init.as_the_desk()
     )
     if done.returncode:
-        raise Fault(f'{db} is not migrated: {done.stderr.strip()} (docs/OPERATE.md says why)')
+        raise AdminError(f'{db} is not migrated: {done.stderr.strip()} (docs/OPERATE.md says why)')
 
 
 def says_yes() -> bool:
-    """Whether somebody says yes."""
+    """Asks a person whether to migrate the file, and returns whether the answer is yes."""
     try:
         return input(QUESTION).strip() == 'yes'
     except EOFError:
@@ -70,7 +72,7 @@ def says_yes() -> bool:
 
 
 def carry_out(program: str) -> None:
-    """Migrates the file while the desk is stopped."""
+    """Stops the desk, copies and migrates its file, and starts the desk again."""
     values = conf.values()
     db = values['NULVRADER_DB']
     runs = units.runs()
@@ -83,28 +85,28 @@ def carry_out(program: str) -> None:
         units.systemctl('start', units.DESK)
 
 
-def run(words: list[str]) -> int:
-    """Runs `migrate` of an installed desk."""
-    line = entry.parser(HEAD, 'migrate')
-    line.add_argument('--yes', action='store_true', help='migrate it without a question')
+def run(arguments: list[str]) -> int:
+    """Runs `migrate` for an installed desk, and returns its status."""
+    parser = entry.parser(HEAD, 'migrate')
+    parser.add_argument('--yes', action='store_true', help='migrate it without a question')
     text = 'end with 0 if the file is of the first schema, and with 1 if not; do nothing'
-    line.add_argument('--look', action='store_true', help=text)
+    parser.add_argument('--look', action='store_true', help=text)
     text = 'the program of the desk (default: that beside this one)'
-    line.add_argument('--program', default=entry.PROGRAM, metavar='FILE', help=text)
-    said = line.parse_args(words)
+    parser.add_argument('--program', default=entry.PROGRAM, metavar='FILE', help=text)
+    args = parser.parse_args(arguments)
     db = conf.values()['NULVRADER_DB']
     try:
         if not is_first(db):
             print(f'{db} is not of the first schema: there is nothing to migrate')
-            return int(said.look)
+            return int(args.look)
         print(f'{db} is of the first schema')
-        if said.look:
+        if args.look:
             return 0
         units.want_root()
-        if not said.yes and not says_yes():
-            raise Fault('nothing is done')
-        carry_out(said.program)
-    except (Fault, OSError) as fault:
+        if not args.yes and not says_yes():
+            raise AdminError('nothing is done')
+        carry_out(args.program)
+    except (AdminError, OSError) as fault:
         print(f'migrate: {fault}', file=sys.stderr)
         return 1
     return 0

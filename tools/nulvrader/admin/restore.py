@@ -1,5 +1,5 @@
-"""`nulvrader restore`: puts a copy back in the place of the file of an installed desk, by the ten
-steps of docs/OPERATE.md. It carries out and checks what it can, and asks for the rest."""
+"""`nulvrader restore`: puts a copy back in the place of an installed desk's file, by the ten steps
+of docs/OPERATE.md. It does and checks what it can, and asks a person to do the rest."""
 from __future__ import annotations
 
 import argparse
@@ -9,7 +9,6 @@ import pwd
 import shutil
 import sqlite3
 import sys
-import tempfile
 import time
 from collections.abc import Callable
 from typing import NoReturn
@@ -23,7 +22,7 @@ from ..desk import questions
 from ..desk.client import Desk, NoAnswer, Refused
 from ..file import opening, stopped_file
 from . import conf, copies, init, units
-from .units import Fault
+from .units import AdminError
 
 STEPS = 10
 ROWS = 1000  # the most rows of a count that are sent at once: 65 bytes each
@@ -31,74 +30,72 @@ STOP = """Stop all vehicles, take their loads off, and clear their orders on the
 states have an empty orderId and no actionStates. Nothing may move until the end."""
 
 
-class Ended(Exception):
-    """Nobody answers the questions any more."""
+class NoInput(Exception):
+    """Standard input has ended, so nobody answers a question."""
 
 
 def ask(question: str) -> str:
-    """Asks a person, and returns the answer."""
+    """Asks a person a question, and returns the answer. Raises `NoInput`."""
     try:
         return input(f'{question} ').strip()
     except EOFError:
-        raise Ended from None
+        raise NoInput from None
 
 
 def want_yes(question: str) -> None:
-    """Asks until the answer is yes."""
+    """Asks a person until the answer is yes."""
     while ask(f'{question} [yes]') != 'yes':
         print('Write yes once it is done, or end this by Ctrl-C.')
 
 
 class Restore:
-    """A copy that is put back: a method for each step."""
+    """Puts a copy back: a method for each step, whose docstring is printed before it."""
 
     def __init__(
         self, copy: str, values: dict[str, str], has_systemd: bool, program: str = entry.PROGRAM
     ) -> None:
         self.copy, self.db, self.program = copy, values['NULVRADER_DB'], program
-        self.kept = self._take_copy(copy)
+        self.kept = self._copy_privately(copy)
         self.desk = Desk(values['NULVRADER_DESK'], timeout=30)
         self.beside = units.beside(values)
         self.has_systemd = has_systemd
         self.stamp = time.strftime('%Y%m%dT%H%M%S', time.gmtime())
         self.count = 0
-        with stopped_file.opened(self.kept) as base:
-            self._read(base)
+        with stopped_file.opened(self.kept) as connection:
+            self._read(connection)
 
-    def _take_copy(self, copy: str) -> str:
-        """Makes one file of the copy and its log, where root alone writes, and returns its path.
-        All that is checked, asked and put in place is of this one: the copy may be another one
-        minutes later, and is in the folder of a user who may have been taken over."""
-        place = os.path.dirname(units.MARK)
-        place = place if os.path.isdir(place) else tempfile.gettempdir()
-        self.place = tempfile.TemporaryDirectory(dir=place, prefix='restore-')
+    def _copy_privately(self, copy: str) -> str:
+        """Copies the copy, and its log, to one file where only root writes, and returns its path.
+        This file is what is read, checked and put in place: the folder of the copy may belong to
+        another user, who could replace the copy meanwhile."""
+        self.place = copies.own_folder('restore-')
         made, folder = (os.path.join(self.place.name, name) for name in ('made.db', 'taken'))
         os.mkdir(folder)
         try:
-            taken = opening.take(copy, folder)
+            taken = opening.copy_into(copy, folder)
             copies.make(taken, made)
         except BlockingIOError:
-            raise Fault(f'{shown(copy, PATH)}: {stopped_file.LOCKED}') from None
-        except copies.Fault as fault:
+            raise AdminError(f'{shown(copy, PATH)}: {stopped_file.LOCKED}') from None
+        except copies.CopyError as fault:
             why = str(fault).partition(f'{taken}: ')[2] or str(fault)
-            raise Fault(f'{shown(copy, PATH)}: {why}') from None
+            raise AdminError(f'{shown(copy, PATH)}: {why}') from None
         shutil.rmtree(folder)
         return made
 
-    def _read(self, base: sqlite3.Connection) -> None:
-        """What is asked of the copy."""
-        self.layout = stopped_file.layout_in(base)
-        jobs = stopped_file.rows_in(base, 'job')
+    def _read(self, connection: sqlite3.Connection) -> None:
+        """Reads the layout, the waiting jobs and the vehicles of the copy."""
+        self.layout = stopped_file.layout_in(connection)
+        jobs = stopped_file.rows_in(connection, 'job')
         self.waiting = sorted(job.id for job in jobs if job.phase == 'waiting')
-        self.vehicles = sorted(stopped_file.vehicles_in(base, self.layout))
+        self.vehicles = sorted(stopped_file.vehicles_in(connection, self.layout))
 
     def ref(self) -> str:
-        """A reference that was never used."""
+        """Returns a reference that was never used."""
         self.count += 1
         return f'restore-{self.stamp}-{self.count}'
 
     def unit(self, verb: str, *names: str) -> None:
-        """Starts or stops units; without systemd a person does."""
+        """Starts or stops units. Where systemd does not run, a person is asked to."""
         if self.has_systemd:
             units.systemctl(verb, *names)
         else:
@@ -115,7 +112,7 @@ class Restore:
         want_yes('Are the gateways of other machines, and all other clients, stopped?')
 
     def _mark(self) -> None:
-        """Keeps what asks the desk from being started, whatever happens, until the last step."""
+        """Keeps the programs beside the desk from being started until the last step."""
         if os.path.isdir(os.path.dirname(units.MARK)):
             init.put(units.MARK, f'{self.copy} is being put back\n'.encode(), init.CLIENTS)
 
@@ -129,33 +126,31 @@ class Restore:
         print(f'{self.db} is {self.copy}')
 
     def _make(self) -> str:
-        """Puts the copy beside the old file, and has the desk read it."""
+        """Puts the copy beside the old file, and has the desk check it. Returns its path."""
         new = f'{self.db}.new'
         copies.remove(new)
         try:
             self._put(new)
-            loads = copies.check(self.program, new, **init.as_the_desk())
-        except (copies.Fault, OSError):
+            copies.check(self.program, new, init.as_the_desk())
+            copies.remove_beside(new)  # the report changes nothing
+        except (copies.CopyError, OSError):
             copies.remove(new)
             raise
         copies.sync(new)
-        print(f'the desk reads the copy: {loads} loads')
+        print(f'the desk reads the copy: {copies.loads_in(self.kept)} loads')
         return new
 
     def _put(self, new: str) -> None:
-        """Copies the copy to a new file, which is given to the user of the desk. That user may
-        write in the folder, so nothing that is there already is opened."""
-        handle = os.open(new, os.O_WRONLY | os.O_CREAT | os.O_EXCL | os.O_CLOEXEC, 0o600)
-        with open(self.kept, 'rb') as source, os.fdopen(handle, 'wb') as target:
-            shutil.copyfileobj(source, target, 1 << 20)
-            os.fchmod(handle, 0o640)
-            if init.as_the_desk():
-                found = pwd.getpwnam(init.USER)
-                os.fchown(handle, found.pw_uid, found.pw_gid)
+        """Copies the copy to a new file that belongs to the desk's user."""
+        owner = None
+        if init.as_the_desk():
+            found = pwd.getpwnam(init.USER)
+            owner = found.pw_uid, found.pw_gid
+        copies.put(self.kept, new, 0o640, owner)
 
     def _move_aside(self) -> None:
-        """Moves the old files away. Its log goes last: without the file itself no desk starts. Both
-        folders are open meanwhile, so that a link in the place of one leads nowhere."""
+        """Moves the old files into a new folder, the file itself first: without it no desk starts.
+        Both folders are open meanwhile, so that nobody can put a link in their place."""
         flags = os.O_RDONLY | os.O_DIRECTORY | os.O_NOFOLLOW | os.O_CLOEXEC
         with contextlib.ExitStack() as stack:
             here = os.open(os.path.dirname(self.db), flags & ~os.O_NOFOLLOW)
@@ -201,7 +196,7 @@ class Restore:
         self._check_holds()
 
     def _stands(self, key: VehicleKey, others: dict[VehicleKey, str]) -> str:
-        """The node where a vehicle stands, as a person says."""
+        """Asks a person at which node a vehicle stands."""
         known = self.desk.vehicle(key).node
         while True:
             node = ask(f'{key}: at which node does it stand? [{known}]') or known
@@ -213,7 +208,7 @@ class Restore:
                 return node
 
     def _place(self, key: VehicleKey, node: str) -> bool:
-        """Places a vehicle; False if another one has to be placed before."""
+        """Places a vehicle. False if another vehicle holds the node."""
         try:
             self.desk.place(key, self.ref(), node)
         except Refused as fault:
@@ -223,17 +218,20 @@ class Restore:
         return True
 
     def _make_room(self, key: VehicleKey) -> None:
-        """Places one of the vehicles that have changed places at a node that nobody holds."""
+        """Places a vehicle at a free node, since the others wait for it in a circle."""
         held = questions.held(self.desk).nodes
         free = [node for node in self.layout.nodes if node not in held]
         if not free:
-            raise Fault('no node is free to place a vehicle at meanwhile')
+            raise AdminError('no node is free to place a vehicle at meanwhile')
         self.desk.place(key, self.ref(), free[0])
 
     def _check_holds(self) -> None:
+        """Raises `AdminError` where a vehicle holds more than the node where it stands."""
         holds = questions.held(self.desk)
         if holds.edges or len(holds.nodes) != len(set(holds.nodes.values())):
-            raise Fault('a vehicle holds more than the node where it stands: GET /report/holds')
+            raise AdminError(
+                'a vehicle holds more than the node where it stands: GET /report/holds'
+            )
         print(f'{len(holds.nodes)} vehicles hold a node each, and no order is open')
 
     def jobs_are_stopped(self) -> None:
@@ -247,6 +245,7 @@ class Restore:
         self._each(loads, lambda load: self.desk.correct_load(load, self.ref()), '')
 
     def _each(self, names: list[str], call: Callable[[str], None], done: str) -> None:
+        """Makes a call for each name. The refusal `done` says that nothing is left to do."""
         for name in names:
             try:
                 call(name)
@@ -273,10 +272,10 @@ class Restore:
             lines += [f'station {name} is not counted: write {name},' for name in lacking]
             print('\n'.join(lines))
             return self.stations_are_counted()
-        self._take(count)
+        self._send_count(count)
 
-    def _take(self, count: CountFile) -> None:
-        """Sends a count, a part of whole stations at a time."""
+    def _send_count(self, count: CountFile) -> None:
+        """Sends a count in parts, each of whole stations."""
         parts: list[list[str]] = [[]]
         for name in count.stations():
             found = (row for row in count.rows if row.station == name)
@@ -285,9 +284,9 @@ class Restore:
                 parts.append([])
             parts[-1] += rows
         for part in parts:
-            told = self.desk.stocktake(self.ref(), ''.join(['station,load\n', *part]).encode())
-            print(f'{told.moved} loads were moved by the count')
-            for load in told.unknown:
+            result = self.desk.stocktake(self.ref(), ''.join(['station,load\n', *part]).encode())
+            print(f'{result.moved} loads were moved by the count')
+            for load in result.unknown:
                 print(f'{load} is unknown: register it where it stands, if it has not left')
 
     def clients_are_started(self) -> None:
@@ -299,12 +298,12 @@ class Restore:
         print('The board knows the newer file: stop it, move its board.db* away, and start it.')
 
     def _wanted(self) -> list[str]:
-        """The units that run beside the desk."""
+        """Returns the units that run beside the desk."""
         has_gateway = self.has_systemd and units.is_enabled(units.GATEWAY)
         return sorted({*self.beside, *([units.GATEWAY] if has_gateway else [])})
 
     def steps(self) -> list[Callable[[], None]]:
-        """All steps in their order."""
+        """Returns all steps in their order."""
         return [
             self.vehicles_stand,
             self.clients_are_stopped,
@@ -320,7 +319,7 @@ class Restore:
 
 
 def stop_at(step: int, why: str) -> NoReturn:
-    """Ends, and says how to go on."""
+    """Ends the program, and says how to go on."""
     print(f'restore: {why}', file=sys.stderr)
     print(f'restore: stopped at step {step}; go on by --from {step}', file=sys.stderr)
     if os.path.lexists(units.MARK):
@@ -330,39 +329,39 @@ def stop_at(step: int, why: str) -> NoReturn:
 
 
 def carry_out(restore: Restore, first: int) -> None:
-    """Takes the steps from the first one on."""
+    """Takes the steps from step `first` on."""
     for number, step in enumerate(restore.steps(), 1):
         if number < first:
             continue
         print(f'\n{number}. {step.__doc__}')
         try:
             step()
-        except (Fault, copies.Fault, Refused, NoAnswer, OSError, sqlite3.Error) as fault:
+        except (AdminError, copies.CopyError, Refused, NoAnswer, OSError, sqlite3.Error) as fault:
             stop_at(number, fault.told() if isinstance(fault, Refused) else str(fault))
-        except (Ended, KeyboardInterrupt):
+        except (NoInput, KeyboardInterrupt):
             stop_at(number, 'nobody answers')
 
 
-def run(words: list[str], text: str) -> int:
-    """Runs `restore`; `text` is the head of its help."""
-    line = entry.parser(text, 'restore')
-    line.add_argument('copy', metavar='COPY.db', help='the copy that is put back')
+def run(arguments: list[str], text: str) -> int:
+    """Runs `restore`, and returns its status; `text` is the head of its help."""
+    parser = entry.parser(text, 'restore')
+    parser.add_argument('copy', metavar='COPY.db', help='the copy that is put back')
     help_text = 'the step with which to go on, 1 to 10 (default: 1)'
     choices = range(1, STEPS + 1)
-    line.add_argument(
+    parser.add_argument(
         '--from', type=int, dest='first', choices=choices, metavar='STEP', help=help_text
     )
     help_text = 'the program of the desk (default: that beside this one)'
-    line.add_argument('--program', default=entry.PROGRAM, metavar='FILE', help=help_text)
-    said: argparse.Namespace = line.parse_args(words)
+    parser.add_argument('--program', default=entry.PROGRAM, metavar='FILE', help=help_text)
+    args: argparse.Namespace = parser.parse_args(arguments)
     try:
         units.want_root()
-        if said.first is None:
+        if args.first is None:
             units.want_no_restore()
-        restore = Restore(said.copy, conf.values(), units.runs(), said.program)
-    except (Fault, stopped_file.Unread, OSError, ValueError) as fault:
+        restore = Restore(args.copy, conf.values(), units.runs(), args.program)
+    except (AdminError, stopped_file.Unread, OSError, ValueError) as fault:
         print(f'restore: {fault}', file=sys.stderr)
         return 1
     with restore.place:
-        carry_out(restore, said.first or 1)
+        carry_out(restore, args.first or 1)
     return 0
