@@ -10,6 +10,7 @@ import re
 import resource
 import socket
 import sqlite3
+import tempfile
 import threading
 import time
 import unittest
@@ -19,10 +20,12 @@ from tests.support.board_run import ONE, Plant, has_loopback, until
 from tests.support.event_client import Stream, messages
 
 from nulvrader.board.api import share as share_module
-from nulvrader.board.api.events import Batch, Kept, event_of
+from nulvrader.board.api.events import Asked, Batch, Kept, event_of, last_number, read_events
 from nulvrader.board.api.meters import Counter, gauge
+from nulvrader.board.api.reading import Reading
 from nulvrader.board.api.share import Share
 from nulvrader.board.api.streams import MOST, part_of
+from nulvrader.board.record import Record
 
 OF_LOADS = '/api/events/stream?kinds=load'
 EVENTS, TEXT = 3_000, 2_000
@@ -199,6 +202,54 @@ class Texts(unittest.TestCase):
         told = json.loads(str(sent.data))
         self.assertEqual((told['text'], told['more']['text']), (HOSTILE, HOSTILE))
         self.assertNotIn('who', told)
+
+    def test_long_events(self) -> None:
+        """Events of long texts come in batches that a client takes, in order and each once."""
+        with tempfile.TemporaryDirectory() as folder:
+            path = os.path.join(folder, 'board.db')
+            Record(path).close()
+            row = ('2026-12-01T06:00:00.000Z', 'said', 'said.error', '\U0001f600' * 2000, 'vehicle')
+            with contextlib.closing(sqlite3.connect(path)) as base:
+                words = 'INSERT INTO events (at, kind, what, words, cause) VALUES (?, ?, ?, ?, ?)'
+                base.executemany(words, [row] * 70)
+                base.commit()
+            reading = Reading(path)
+            found: list[int] = []
+            after, more = 0, True
+            while more:
+                batch = read_events(reading, Asked(after, 100), last_number(reading))
+                told = json.dumps(batch.told(), separators=(',', ':'))
+                self.assertLess(len(told), 1_000_000)
+                found += [event['id'] for event in batch.events]
+                after, more = batch.after, batch.more
+        self.assertEqual(found, list(range(1, 71)))
+
+    def test_kinds_that_there_are_not(self) -> None:
+        """A question for them looks through a part of the record, and says where to go on."""
+        with tempfile.TemporaryDirectory() as folder:
+            path = os.path.join(folder, 'board.db')
+            Record(path).close()
+            rows = [
+                (n, '2026-12-01T06:00:00.000Z', 'load', 'x', 'x', 'board') for n in range(1, 50_000)
+            ]
+            with contextlib.closing(sqlite3.connect(path)) as base:
+                words = (
+                    'INSERT INTO events (n, at, kind, what, words, cause) VALUES (?, ?, ?, ?, ?, ?)'
+                )
+                base.executemany(words, rows)
+                base.execute('DELETE FROM events WHERE n < 10000')
+                base.execute("UPDATE events SET kind = 'failed' WHERE n = 45000")
+                base.commit()
+            reading = Reading(path)
+            found: list[list[int]] = []
+            ends, after, more = [], 0, True
+            while more:
+                batch = read_events(reading, Asked(after, 1, frozenset(['failed', 'zzz'])), 49_999)
+                found.append([event['id'] for event in batch.events])
+                after, more = batch.after, batch.more
+                ends.append(after)
+        self.assertEqual(found, [[], [45_000]])
+        self.assertEqual(ends, [29_999, 49_999])
 
     def test_lines_of_metrics(self) -> None:
         counter = Counter('x', 'y')

@@ -93,10 +93,12 @@ class Posted(Watching):
         secret = self.plant.path('secret')
         with open(secret, 'w', encoding='utf-8') as file:
             file.write('whsec_' + 'A' * 44)
-        os.chmod(secret, 0o600)
-        with open(self.plant.path('webhooks.toml'), 'w', encoding='utf-8') as file:
+        config = self.plant.path('webhooks.toml')
+        with open(config, 'w', encoding='utf-8') as file:
             file.write(f'[erp]\naddress = "http://127.0.0.1:{self.served.port}/"\n')
             file.write(f'secret = "{secret}"\nloopback = true\nkinds = ["load"]\n')
+        for path in (secret, config):
+            os.chmod(path, 0o600)
         self.start()
         self.addCleanup(lambda: self.program.kill())
         until(lambda: os.path.exists(self.plant.path('webhooks.db')), 'it has begun')

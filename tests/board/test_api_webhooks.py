@@ -574,6 +574,19 @@ class Program(unittest.TestCase):
             with self.assertRaises(BadConfig):
                 read_hooks(self.config(text))
 
+    def test_files_that_everybody_may_read(self) -> None:
+        """The configuration, which may have the address of a receiver as a secret, and the
+        password of the reader: each is said with what to do."""
+        config = self.config(self.TABLE % ('https://erp.example/in', self.secret))
+        password = self.write('password', 'secret', 0o644)
+        words = ('--config', config, '--db', os.path.join(self.folder, 'webhooks.db'))
+        with self.run_it(*words, '--user', 'u', '--password-file', password) as one:
+            self.assertIn('everybody may read it: chmod 640 it', one.communicate(timeout=60)[1])
+        os.chmod(config, 0o644)
+        with self.run_it('--config', config, '--check') as one:
+            self.assertIn('everybody may read it: chmod 640 it', one.communicate(timeout=60)[1])
+        self.assertEqual(one.returncode, 2)
+
     def run_it(self, *words: str) -> subprocess.Popen[str]:
         line = [sys.executable, os.path.join(TOOLS, 'webhooks'), *words]
         return subprocess.Popen(line, stdout=subprocess.PIPE, stderr=subprocess.PIPE, text=True)

@@ -10,11 +10,13 @@ import signal
 import sqlite3
 import time
 import unittest
+from typing import Any
 
 from tests.support.board_run import LAYOUT, ONE, TOOLS, TWO, Plant, Watching, has_loopback, until
 from nulvrader.board.fleet import Fleet
 from nulvrader.board.news import News
-from nulvrader.board.record import OLD, Record
+from nulvrader.board.record import Record
+from nulvrader.board.record_tables import OLD
 from nulvrader.board.page_state import Shown
 from nulvrader.desk.client import VehicleRow
 
@@ -206,7 +208,7 @@ class Follows(Watching):
         """A desk with the same nodes, stations and vehicles, of which an edge leads elsewhere, is
         another desk. No command is sent to it. The layout is shown while no desk answers, also by a
         board that is started then."""
-        layout = self.wait('layout', '')
+        layout: dict[str, Any] = self.wait('layout', '')
         edges = self.desk.layout()
         assert edges is not None
         self.assertEqual(
@@ -418,12 +420,11 @@ class Keeps(Watching):
         )
 
     def test_the_questions_of_the_page(self) -> None:
-        """docs/OPERATE.md has five, and board.db answers each: here after a job that was waited for
-        and done."""
-        with open(os.path.join(TOOLS, '..', 'docs', 'OPERATE.md')) as file:
-            text = (
-                file.read().split('### Questions to board.db')[1].split('```sql')[1].split('```')[0]
-            )
+        """docs/BOARD_API.md has five, and board.db answers each: here after a job that was waited
+        for and done."""
+        with open(os.path.join(TOOLS, '..', 'docs', 'BOARD_API.md')) as file:
+            section = file.read().split('## Questions to board.db')[1]
+        text = section.split('```sql')[1].split('```')[0]
         questions = re.findall(r'-- [^\n]*\n([^;]*);', text)
         self.assertEqual(len(questions), 5)
         begun = time.monotonic()

@@ -5,13 +5,11 @@ from __future__ import annotations
 
 import json
 import unittest
-from collections.abc import Callable
 from typing import Any
-from unittest import mock
 
-from tests.support.board_follow import ACTS, ORDER, Followed, vehicle
+from tests.support.board_alarms import LATE, Alarmed
+from tests.support.board_follow import ACTS, ORDER, vehicle
 from tests.support.board_run import ONE, Watching, until
-from nulvrader.board import alarms as module
 from nulvrader.board.alarms import Alarms, free_of
 from nulvrader.board.events import Cause
 from nulvrader.board.messages import table
@@ -20,85 +18,7 @@ from nulvrader.board.page_state import Shown
 from nulvrader.board.news import News
 from nulvrader.board.vehicle_words import Error, Failed, Words
 from nulvrader.board.waits import Wait
-from nulvrader.board.words_keeper import Keeper
 from nulvrader.desk.client import Job
-
-LATE = 600_000
-
-
-class Clocked:
-    """The clocks that alarms are looked for by, both set by the test."""
-
-    def __init__(self, at: int):
-        self.at, self.jumped = at, 0.0
-
-    def monotonic(self) -> float:
-        return self.at / 1000
-
-    def time(self) -> float:
-        return self.at / 1000 + self.jumped
-
-    def time_ns(self) -> int:
-        return self.at * 1_000_000
-
-
-class Alarmed(Followed):
-    """A board that has looked at a desk with L1 at A and KIT/0001 at N1, and has no alarm."""
-
-    def setUp(self) -> None:
-        super().setUp()
-        self.clock = Clocked(self.news.at)
-        self.enterContext(mock.patch.object(module, 'time', self.clock))
-        self.enterContext(mock.patch.object(module, 'free_of', lambda path: self.free))
-        self.free: str | None = None
-        self.fleet.silent_after = 10**9
-        self.alarms, self.keeper = Alarms(self.news, LATE), Keeper(self.news)
-        self.news.shown.put('desk', '', {'up': True, 'other': False, 'since': 1, 'fault': None})
-        self.turn()
-        self.assertEqual(self.kinds(), {})
-
-    def turn(self, later: int = 3000) -> None:
-        """Some seconds later alarms are looked for."""
-        self.clock.at += later
-        self.news.at = self.clock.at
-        self.alarms.turn(self.stores, self.fleet, self.keeper, self.layout)
-        self.news.commit()
-
-    def kinds(self) -> dict[str, str]:
-        """The open alarms: of each kind its sentence."""
-        found = self.news.shown.all('alarm').values()
-        return {alarm['kind']: alarm['words'] for alarm in found}
-
-    def raised(
-        self, make: Callable[[], None], kind: str, words: str, end: Callable[[], None]
-    ) -> None:
-        """What makes it so raises one alarm; it is over once it is so no more."""
-        make()
-        self.turn()
-        self.turn()
-        self.assertEqual(self.kinds(), {kind: words})
-        (alarm,) = self.news.shown.all('alarm').values()
-        self.assertTrue(alarm['todo'])
-        rows = self.record.rows('SELECT kind, words, ended FROM alarms ORDER BY n DESC LIMIT 1')
-        self.assertEqual(rows, [(kind, words, None)])
-        end()
-        self.turn()
-        self.turn()
-        self.assertEqual(self.kinds(), {})
-        rows = self.record.rows('SELECT count(*) FROM alarms WHERE ended IS NULL')
-        self.assertEqual(rows, [(0,)])
-
-    def is_so(self, **values: Any) -> None:
-        """The vehicle is so."""
-        self.row = vehicle(header=self.header_after(), **values)
-        self.look()
-        self.clock.at = self.news.at
-
-    def header_after(self) -> int:
-        return (self.row.header or 0) + 1
-
-    def says(self, words: Words) -> None:
-        self.keeper.take({'KIT/0001': [words]}, ['KIT/0001'], self.news.at)
 
 
 class OfVehicles(Alarmed):
@@ -111,6 +31,7 @@ class OfVehicles(Alarmed):
             words,
             lambda: self.is_so(ready=True),
         )
+        self.turn(60_000)
         self.says(Words(stop='MANUAL', errors=(Error('scanner', 'FATAL', 'front scanner dirty'),)))
         words = 'KIT/0001 is not ready, at N1: emergency stop MANUAL, FATAL scanner: front scanner'
         self.raised(
@@ -161,7 +82,7 @@ class OfVehicles(Alarmed):
         self.turn()
         self.turn()
         self.assertEqual(self.kinds(), {})
-        words = 'KIT/0001 says that its action O1.0 has failed, at N1: pick no grip'
+        words = 'KIT/0001 says that its action O1.0 has failed, at N1: pick: no grip'
         self.raised(
             lambda: self.says(Words(failed=(Failed('O1.0', 'pick', 'no grip'),))),
             'action',
@@ -169,8 +90,21 @@ class OfVehicles(Alarmed):
             lambda: self.says(Words(failed=())),
         )
 
+    def test_a_failed_action_of_an_order(self) -> None:
+        """What it was is said by the order's way; where the vehicle does not say why, that is said
+        too."""
+        self.jobs = {'J1': Job('J1', 'L1', 'A', 'B', ONE, 'O1')}
+        self.is_so(**ORDER)
+        words = 'KIT/0001 says that its action O1.1 has failed, at N1: drop L1: it does not say why'
+        self.raised(
+            lambda: self.says(Words(failed=(Failed('O1.1', '', ''),))),
+            'action',
+            words,
+            lambda: self.says(Words(failed=())),
+        )
+
     def test_a_low_battery(self) -> None:
-        words = 'The battery of KIT/0001 is low, at N1, and does not charge'
+        words = 'The battery of KIT/0001 is low, 12 %, at N1, and does not charge'
         self.raised(
             lambda: self.says(Words(battery=12.0, charging=False)),
             'battery',
@@ -194,6 +128,16 @@ class OfVehicles(Alarmed):
 
         words = 'KIT/0002 can not go on: KIT/0001 holds node N1 and has no order'
         self.raised(waits, 'shut', words, goes_on)
+        for holder, todo in (
+            ('KIT/0001', 'Send KIT/0001 to a free node (Drive to a node)'),
+            ('KIT/0002', 'KIT/0001 can not pass it. Cancel the order of KIT/0002'),
+        ):
+            self.fleet.holders = {('node', 'N1'): 'KIT/0001', ('node', 'N2'): holder}
+            waits()
+            (alarm,) = self.news.shown.all('alarm').values()
+            self.assertIn(todo, alarm['todo'])
+            goes_on()
+            self.turn()
         self.is_so(**ORDER)
         self.fleet.waits, self.fleet.waits_since = {'KIT/0002': wait}, {'KIT/0002': self.news.at}
         self.turn(290_000)
@@ -327,7 +271,8 @@ class Taken(Watching):
         self.said(f'Nobody has it on any more: {about}')
         self.plant.state(ONE, 'N1')
         until(lambda: not self.board.get('alarm', 'unready KIT/0001'), 'it is over')
-        self.assertEqual(self.take('bob', alarm=self.number)[1], {'fault': 'This alarm is over.'})
+        told = self.take('bob', alarm=self.number)[1]
+        self.assertEqual(told['fault'], 'This alarm is over.')
 
     def test_who_may(self) -> None:
         """As with a command: the origin, the token, and a user whom the proxy names."""
@@ -348,7 +293,7 @@ class Taken(Watching):
     def test_what_is_no_alarm(self) -> None:
         cases: tuple[dict[str, Any], ...] = ({}, {'alarm': 'x'}, {'alarm': -1}, {'alarm': 2**70})
         for said in (*cases, {'alarm': None}):
-            self.assertEqual(self.take(**said)[1], {'fault': 'There is no such alarm.'}, said)
+            self.assertEqual(self.take(**said)[1]['fault'], 'There is no such alarm.', said)
         for number in (True, 1.5, [], 999_999):
             self.assertIn('fault', self.take(alarm=number)[1])
         nasty = '\x1b[2J<b>' + 'x' * 300
@@ -369,8 +314,8 @@ class WithoutAProxy(Watching):
             )
             return told
 
-        self.assertEqual(take(), {'fault': 'Say your name first.'})
-        self.assertEqual(take(name='  '), {'fault': 'Say your name first.'})
+        self.assertEqual(take()['fault'], 'Say your name first.')
+        self.assertEqual(take(name='  ')['fault'], 'Say your name first.')
         self.assertEqual(take(name='anna\x1b[31m'), {'done': True})
         self.rows('SELECT taken_by FROM alarms', [('anna\\x1b[31m',)])
 

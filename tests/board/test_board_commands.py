@@ -237,7 +237,14 @@ class Commands(Watching):
         self.rows(row % 'KIT/0002', [('client', 'pause')])
         body = {'vehicles': 'KIT/0002 KIT/0001 KIT/0009'}
         told = self.board.post('/do', 'pause_all', **body)
-        words = 'KIT/0002 (InstantPending), KIT/0001 (InstantPending), KIT/0009 (NoVehicle)'
+        words = ', '.join(
+            f'KIT/{serial} ({why})'
+            for serial, why in (
+                ('0002', 'An instant action is pending'),
+                ('0001', 'An instant action is pending'),
+                ('0009', 'No vehicle of that key'),
+            )
+        )
         self.assertEqual(told['text'], f'Told: none. Not told: {words}.')
         self.assertIn('is no vehicle', self.board.post('/do', 'pause_all', vehicles='x y')['fault'])
         self.plant.served.stop()
@@ -252,13 +259,14 @@ class Commands(Watching):
         self.refused(told, 'Held', 'KIT/0002 holds node N3.')
 
     def test_a_vehicle_that_is_not_registered(self) -> None:
-        for command, values in (
-            ('pause', {}),
-            ('resume', {}),
-            ('cancel', {}),
-            ('resync', {}),
-            ('place', {'node': 'N2'}),
-        ):
+        commands: dict[str, dict[str, str]] = {
+            'pause': {},
+            'resume': {},
+            'cancel': {},
+            'resync': {},
+            'place': {'node': 'N2'},
+        }
+        for command, values in commands.items():
             told = self.board.do(command, vehicle='KIT/0009', **values)
             self.refused(told, 'NoVehicle', 'No vehicle KIT/0009 is registered.')
 
@@ -307,7 +315,7 @@ class Commands(Watching):
             (
                 'drive',
                 {'vehicle': 'KIT/0001', 'node': 'N2', 'edges': '1', 'order': 'D/1'},
-                "'D/1' is no name for a order: ",
+                "'D/1' is no name for an order: ",
             ),
             (
                 'drive',

@@ -3,10 +3,15 @@ in hostile ways finds nothing else, and makes nobody wait."""
 
 from __future__ import annotations
 
+import contextlib
 import csv
+import io
 import json
 import os
+import re
+import sqlite3
 import tempfile
+import threading
 import time
 import unittest
 from typing import Any
@@ -104,6 +109,34 @@ class Finds(unittest.TestCase):
         only = list(csv.DictReader(csv_of(self.path, {'who': 'anna'}).decode().splitlines()))
         self.assertEqual([row['n'] for row in only], ['2'])
 
+    def test_a_file_that_is_split_otherwise(self) -> None:
+        """By whatever a table of numbers splits it, no cell begins as a formula; split by commas,
+        each text is the same but for apostrophes."""
+        nasty = "x;=cmd|' /C calc'!A0;", 'x;"=1+1";y', '\t=1', 'a\t +1;\u00a0-1', '"=1', 'x;"""'
+        lines = 'x\r\n@SUM(A1)', 'x\n=1', 'x\r-1', ' =1', '\n"+1', 'x\u2028=1', '; ;\t"" =1\n'
+        wide = '\uff1d1+1', 'x; \uff0b1', '\t\uff0d1', '\u3000\uff201'
+        texts = [*nasty, *lines, *wide, 'it was at B - 1; a=b, c-d']
+        for text in texts:
+            self.add('said', 'said.error', VEHICLE, after=text, more={'text': text, 'hint': text})
+        self.record.commit()
+        file = csv_of(self.path, {'kind': 'said'}).decode()
+        signs = '=+-@\uff1d\uff0b\uff0d\uff20'
+        cells = [
+            cell
+            for separator in ',;\t'
+            for row in csv.reader(io.StringIO(file, newline=''), delimiter=separator)
+            for cell in row
+        ]
+        cells += re.split('[;\t\r\n]', file)  # without regard to quotes
+        self.assertEqual([cell for cell in cells if cell.strip(' \t\r\n"')[:1] in (*signs,)], [])
+        rows = list(csv.DictReader(io.StringIO(file, newline=''), strict=True))
+        found = [row['after'].replace("'", '') for row in rows]
+        self.assertEqual(found, [text.replace("'", '') for text in reversed(texts)])
+        self.assertEqual(rows[0]['after'], texts[-1])
+        for row, text in zip(rows, reversed(texts)):
+            told = json.loads(row['more'])['hint']
+            self.assertEqual(told.replace("'", ''), text.replace("'", ''))
+
     def test_hostile_questions(self) -> None:
         """None is taken for SQL, and none changes anything."""
         for nasty in ("' OR 1=1 --", '"; DROP TABLE events; --', '%', '_', '\x00', 'x' * 100_000):
@@ -139,7 +172,44 @@ class Finds(unittest.TestCase):
                 self.found(text='no such word')
         self.assertIn('too long', str(failed.exception))
         self.assertLess(time.monotonic() - begun, 30)
-        self.assertEqual(self.found(text='x 49999'), [4 + 50_000])
+        with mock.patch.object(entries, 'SECONDS', 600.0):  # however busy the machine is
+            self.assertEqual(self.found(text='x 49999'), [4 + 50_000])
+
+
+class Searched(unittest.TestCase):
+    """Readers search all the time, while the board writes."""
+
+    def test_the_log(self) -> None:
+        """It is begun anew between them, and so stays short: it is on the disk of the desk."""
+        with tempfile.TemporaryDirectory() as folder:
+            path = os.path.join(folder, 'board.db')
+            written = Record(path)
+            self.addCleanup(written.close)
+            row = "INSERT INTO events (at, kind, what, words, cause) VALUES (?, 'x', 'x', ?, 'x')"
+            with contextlib.closing(sqlite3.connect(path)) as base:
+                base.executemany(row, [('2026-12-01T06:00:00.000Z', 'x' * 200)] * 100_000)
+                base.commit()
+                base.execute('PRAGMA wal_checkpoint(TRUNCATE)')
+            over = threading.Event()
+
+            def search() -> None:
+                while not over.is_set():
+                    page_of(path, {'text': 'zzz'})
+
+            searching = [threading.Thread(target=search) for _ in range(6)]
+            for one in searching:
+                one.start()
+            begun, longest = time.monotonic(), 0
+            with contextlib.closing(sqlite3.connect(path, isolation_level=None)) as base:
+                while time.monotonic() < begun + 10:
+                    base.execute(row, ('2026-12-01T06:00:00.000Z', 'y' * 20_000))
+                    longest = max(longest, os.path.getsize(f'{path}-wal'))
+                    time.sleep(0.01)
+                wrote = base.execute("SELECT count(*) FROM events WHERE words > 'y'").fetchone()[0]
+            over.set()
+            for one in searching:
+                one.join(60)
+            self.assertGreater(wrote * 20_000, 3 * (longest - 4_000_000))
 
 
 class Asked(Watching):

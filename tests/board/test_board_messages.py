@@ -9,12 +9,20 @@ import json
 import os
 import re
 import unittest
+from collections.abc import Iterable
 
 from tests.support import browser
 from tests.support.board_page import Page
 from tests.support.board_run import ONE, TOOLS, until
-from nulvrader.board.commands import COMMANDS
-from nulvrader.board.messages import LANGUAGES, say, table
+from tests.support.programs import ROOT
+from nulvrader.board.command_kinds import COMMANDS
+from nulvrader.board.desk_faults import advice_of, fault_of, refusal_of
+from nulvrader.board.messages import LANGUAGES, has, say, table
+from nulvrader.common.counts import TEXTS
+from nulvrader.desk.answers import PROXY
+from nulvrader.desk.client import Refused
+from nulvrader.desk.errors import WHY, NoAnswer
+from nulvrader.desk.refusals import BY_NAME
 
 FOLDER = os.path.join(TOOLS, 'nulvrader', 'board')
 SAID = re.compile(r"(?<!look\.)\bsay\(\s*(?:\w+ \? )?'([a-z][\w. ]*)'(?: : '([a-z][\w. ]*)')?")
@@ -23,6 +31,26 @@ MARKED = re.compile(r'data-(?:say|label|title)="([^"]+)"')
 # A text of two words or more that begins with a capital letter, as a sentence does.
 SENTENCE = re.compile(r"'[A-Z][a-z]+ [^']*'|`[A-Z][a-z]+ [^`]*`")
 LACKING = browser.missing()
+VEHICLE = '/vehicles/{manufacturer}/{serial}'
+# Of each command of the page the call of the desk.
+CALLS = {
+    'order': ('post', '/orders'),
+    'drive': ('post', '/drives'),
+    'advance': ('post', f'{VEHICLE}/advance'),
+    'cancel': ('post', f'{VEHICLE}/cancel'),
+    'pause': ('post', f'{VEHICLE}/pause'),
+    'resume': ('post', f'{VEHICLE}/resume'),
+    'pause_all': ('post', f'{VEHICLE}/pause'),
+    'resume_all': ('post', f'{VEHICLE}/resume'),
+    'place': ('post', f'{VEHICLE}/place'),
+    'resync': ('post', f'{VEHICLE}/resync'),
+    'register': ('post', '/loads'),
+    'correct': ('post', '/loads/{load}/correct'),
+    'leave': ('post', '/loads/{load}/leave'),
+    'job': ('post', '/jobs'),
+    'stop': ('delete', '/jobs/{job}'),
+    'stocktake': ('post', '/stocktakes/{reference}'),
+}
 
 
 def text_of(path: str) -> str:
@@ -95,15 +123,16 @@ class Table(unittest.TestCase):
         self.assertGreater(len(patterns), 50)
         for pattern in patterns:
             self.assertTrue(any(re.fullmatch(pattern, name) for name in rows), pattern)
-        for name in rows - {'look.down'}:
+        for name in rows - {'look.down', 'look.fault', 'look.fault.file'}:
             self.assertTrue(any(re.fullmatch(pattern, name) for pattern in patterns), name)
 
     def test_what_to_do_about_one_in_the_way(self) -> None:
         """It is sent away by a command, which is named as its button is."""
         for language in LANGUAGES:
-            words = say('alarm.shut.do', {'by': 'KIT/0002'}, language)
-            self.assertIn(f'KIT/0002 {"to" if language == "en" else "zu"}', words)
-            self.assertIn(f'({say("do.drive", {}, language)})', words)
+            for row in ('shut.send', 'shut.cancel'):
+                words = say(row, {'by': 'KIT/0002', 'vehicle': 'KIT/0001'}, language)
+                self.assertIn(f'({say("do.drive", {}, language)})', words)
+                self.assertIn('KIT/0002', words)
 
     def test_no_text_is_left_in_a_script(self) -> None:
         seen = 0
@@ -131,6 +160,100 @@ class Table(unittest.TestCase):
         )
 
 
+def refusals_of(calls: Iterable[tuple[str, str]]) -> set[str]:
+    """The refusals of these calls, as docs/openapi.json has them."""
+    paths = json.loads(text_of(os.path.join(ROOT, 'docs', 'openapi.json')))['paths']
+    told = [json.dumps(paths[path][method]) for method, path in calls]
+    return {name for text in told for name in re.findall(r'schemas/Refusal(\w+)', text)}
+
+
+class OfTheDesk(unittest.TestCase):
+    """What the desk refuses and does not answer is said in both languages."""
+
+    def test_each_refusal_of_a_command(self) -> None:
+        """Each call of a command of the page, and each refusal of it: what is wrong, and what to
+        do, in English as the desk's table has them."""
+        found = refusals_of(CALLS.values())
+        self.assertEqual(set(CALLS), set(COMMANDS))
+        self.assertGreater(len(found), 35)
+        for name in found | {'BadCsv', 'CountTwice', 'OnVehicle', 'BadMethod'}:
+            known = BY_NAME[name]
+            row = table()[f'refusal.{name}']
+            self.assertEqual(row['en'].replace('|thing', ''), known.told or known.says, name)
+            if known.on_page:
+                self.assertEqual(say(f'refusal.{name}.do'), known.on_page)
+            self.assertEqual(has(f'refusal.{name}.do'), bool(known.on_page), name)
+        for name, sentence, advice in PROXY.values():
+            self.assertEqual(
+                (say(f'refusal.{name}'), say(f'refusal.{name}.do')), (sentence, advice)
+            )
+
+    def test_each_row_of_a_refusal(self) -> None:
+        """It is one of the desk or of its proxy."""
+        names = {name.split('.')[1] for name in table() if name.startswith('refusal.')}
+        self.assertLessEqual(names, {*BY_NAME, *(name for name, *_ in PROXY.values()), 'other'})
+
+    def test_each_reason_of_no_answer(self) -> None:
+        for name, why in WHY.items():
+            front = '' if name == 'other' else '{address}: '
+            wanted = f'{front}{why}'
+            row = table()[f'fault.{name}']['en']
+            self.assertEqual(row, wanted if wanted.endswith('?') else f'{wanted}.', name)
+            fault = NoAnswer.at('127.0.0.1:1', False, name, why='x', seconds='3')
+            self.assertIn(str(fault).removeprefix('127.0.0.1:1: '), fault_of(fault).words())
+
+    def test_a_refusal_that_is_not_known(self) -> None:
+        """Of another desk, or a hostile one: its name is said, and no text is taken for a row."""
+        for name in ('NotKnown', 'other.do', 'Held.do'):
+            fault = Refused(name, 99, 409, {'what': '{by}'}, 'It is <so>', '')
+            words = refusal_of(fault).words('de')
+            self.assertEqual(words, f'Der Leitstand lehnt es ab, {name}: It is <so>')
+            self.assertEqual(advice_of(fault).name, 'advice.look')
+
+    def test_another_desk(self) -> None:
+        """Each way in which that is known is a row."""
+        text = text_of(os.path.join(FOLDER, 'same_desk.py'))
+        names = re.findall(r"OtherDesk\('(\w+)'", text)
+        rows = {name for name in table() if name.startswith('other.')}
+        self.assertEqual({f'other.{name}' for name in names}, rows)
+
+    def test_what_is_wrong_with_a_count(self) -> None:
+        """Each text of it is a row, with the same words in English."""
+        rows = {name for name in table() if name.startswith('count.')}
+        kinds = {'checking', 'jobs', 'loads', 'orders', 'vehicles'}  # how many there are of these
+        self.assertEqual(rows, {f'count.{name}' for name in (*TEXTS, 'size', *kinds)})
+        for name, text in TEXTS.items():
+            wanted = text.replace('at {place}', '{place|spot}').replace(
+                '{what}', '{what|name:counted}'
+            )
+            wanted = wanted.replace('{fields} field{s}', '{fields|many:field}')
+            self.assertEqual(table()[f'count.{name}']['en'], wanted)
+
+    def test_no_sentence_is_left_in_a_module(self) -> None:
+        """What commands, looks and refusals of the page say is in the table."""
+        for name in (
+            'commands',
+            'command_calls',
+            'command_kinds',
+            'command_values',
+            'previews',
+            'order_previews',
+            'stocktakes',
+            'desk_faults',
+            'same_desk',
+            'entries',
+            'guard',
+        ):
+            path = os.path.join(FOLDER, f'{name}.py')
+            for node in ast.walk(ast.parse(text_of(path))):
+                if isinstance(node, ast.Raise) and node.exc is not None:
+                    texts = [
+                        one.value for one in ast.walk(node.exc) if isinstance(one, ast.Constant)
+                    ]
+                    said = [one for one in texts if isinstance(one, str) and ' ' in one]
+                    self.assertEqual(said, [], path)
+
+
 @unittest.skipIf(LACKING is not None, LACKING or '')
 class InTheBrowser(Page):
     def open_in(self, languages: str) -> None:
@@ -151,6 +274,33 @@ class InTheBrowser(Page):
             self.open_in(languages)
             self.sees('#tab-vehicles', tab)
             self.assertEqual(self.browser.run('return document.documentElement.lang'), lang)
+
+    def test_a_refusal(self) -> None:
+        """What was done and what was refused is said in German, in the dialog and in the record,
+        with what to do."""
+        self.open_in('de')
+        self.sees('.vehicle-card', 'KIT/0001')
+        self.browser.click('#tab-stock')
+        for answer in (
+            ('L7 ist angemeldet.',),
+            ('Der Name ist vergeben.', 'Ein Name wird nur einmal'),
+        ):
+            self.browser.press('Ladung anmelden', '#stock')
+            self.browser.write('#field-load', 'L7')
+            self.browser.write('#field-station', 'B')
+            self.browser.press('Was wird geschehen?', '#command')
+            self.sees('#command', 'L7 ist eine neue Ladung und steht an Station B.')
+            self.browser.press('Ausführen', '#command')
+            self.sees('#command', *answer)
+            self.browser.press('Schließen', '#command')
+        self.browser.press('Ladung anmelden', '#stock')
+        self.browser.press('Was wird geschehen?', '#command')
+        self.sees('#command', 'Ladung fehlt.')
+        self.browser.press('Schließen', '#command')
+        self.browser.click('#tab-events')
+        self.sees('#events', 'Ladung L7 anmelden, an B: Exists: Der Name ist vergeben.')
+        self.plant.served.stop()
+        self.sees('#alarms', 'kein Programm hört dort zu: ist der Leitstand gestartet')
 
     def test_the_same_sentences(self) -> None:
         """What the page says is what the board says, in German too: of a state, an alarm and an
@@ -175,7 +325,8 @@ class InTheBrowser(Page):
             'edges': 2,
         }
         values |= {'vehicles': ['KIT/0001', 'KIT/0002'], 'action': 'startPause', 'alarm': 'astray'}
-        values |= {'loads': 3, 'stations': 1}
+        values |= {'loads': 3, 'stations': 1, 'fields': 2}
+        values |= {'field': 'node', 'what': 'load'}
         names = [name for name in table() if '|' in table()[name]['de']]
         said = self.browser.run(script, [[name, values] for name in names])
         self.assertEqual(said, [say(name, json.loads(json.dumps(values)), 'de') for name in names])
@@ -186,7 +337,7 @@ def load_tests(
 ) -> unittest.TestSuite:
     """`Page` has no tests of its own."""
     suite = unittest.TestSuite()
-    for case in (Table, InTheBrowser):
+    for case in (Table, OfTheDesk, InTheBrowser):
         suite.addTests(loader.loadTestsFromTestCase(case))
     return suite
 

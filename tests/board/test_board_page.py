@@ -210,7 +210,8 @@ class Says(Page):
             'Its battery is low: 12 %',
         ):
             self.sees('.vehicle-card .saying', words, 'since')
-        self.sees('#alarms', 'KIT/0001 is not ready, at N1: emergency stop MANUAL', 'Solve that')
+        words = 'KIT/0001 is not ready, at N1: emergency stop MANUAL'
+        self.sees('#alarms', words, 'acknowledge it')
         self.browser.click('#tab-events')
         self.sees('#events', 'KIT/0001 says: operating mode MANUAL, it was AUTOMATIC')
         self.assertEqual(self.browser.run('return document.querySelectorAll("img").length'), 1)
@@ -242,6 +243,7 @@ class Says(Page):
         self.sees('.vehicle-card .badges', 'Carries L1 in no job')
         self.sees('#alarms', 'KIT/0001 carries L1 in no job, at N1', 'Take it off')
         self.misses('.vehicle-card .badges', 'Ready')
+        self.on_the_map('vehicle', 'KIT/0001', 'Carries L1 in no job')
         self.desk.correct_load('L1', 'R1', 'A')
         self.sees('.vehicle-card .badges', 'Ready')
         self.misses('#alarms', 'carries L1')

@@ -4,17 +4,25 @@ call, old and new."""
 
 from __future__ import annotations
 
+import re
 import unittest
 from dataclasses import replace
 from typing import Any
+from unittest import mock
 
 from tests.support.board_follow import BEGUN, ORDER, UNSEEN, VEHICLE, Followed, vehicle
+from nulvrader.board import record as record_module
+from nulvrader.board import record_tables
 from nulvrader.board.causes import Calls
 from nulvrader.board.command_log import Command
-from nulvrader.board.commands import COMMANDS, event_of
+from nulvrader.board.command_kinds import COMMANDS
+from nulvrader.board.commands import Answered, event_of
+from nulvrader.board.desk_faults import refusal_of
 from nulvrader.board.events import Cause
 from nulvrader.board.news import GAP
-from nulvrader.desk.client import Job
+from nulvrader.board.record import Record
+from nulvrader.board.messages import Line
+from nulvrader.desk.client import Job, Refused
 from nulvrader.desk.refusals import BY_NAME
 
 
@@ -95,6 +103,40 @@ class Loads(Followed):
         self.look()
         placed = 'KIT/0001 was placed at node N1, it was at N2'
         self.told(('vehicle.placed', placed, ('person', 'place')))
+
+
+class FirstLook(Followed):
+    """A board that has looked at a warehouse without loads and vehicles."""
+
+    def setUp(self) -> None:
+        super().setUp()
+        self.record.close()
+        self.record = Record(':memory:')
+        self.addCleanup(self.record.close)
+        self.start_again()
+        self.places = {}
+        self.fleet.take_vehicles({})
+        self.stores.take_stock(self.stock())
+        self.assertEqual(self.entries(), [])
+
+    def test_what_came_before_it_was_started_again(self) -> None:
+        """A load and a vehicle that came meanwhile are told."""
+        self.start_again()
+        self.look(L7='station A')
+        came = 'L7 is new, at A: it came while the board did not look'
+        registered = 'KIT/0001 is registered at node N1'
+        self.told(
+            ('load.found', came, UNSEEN), ('vehicle.registered', registered, ('unseen', None))
+        )
+
+    def test_what_is_there_at_the_first_look(self) -> None:
+        """It is not told: nobody knows since when it is there."""
+        self.record.close()
+        self.record = Record(':memory:')
+        self.addCleanup(self.record.close)
+        self.start_again()
+        self.look(L7='station A')
+        self.told()
 
 
 class Jobs(Followed):
@@ -213,6 +255,18 @@ class Jobs(Followed):
         )
         self.assertEqual(self.record.rows('SELECT outcome FROM jobs'), [('failed',)])
 
+    def test_whose_action_has_failed(self) -> None:
+        """Its own vehicle says so of a job's action; of another vehicle it counts for nothing."""
+        for name, wanted in (('KIT/0002', 'job.failed'), ('KIT/0001', 'job.failed.action')):
+            with self.subTest(name):
+                self.setUp()
+                self.begin_order()
+                self.news.fails_action(name, 'O1.0', 'forged')
+                self.row, self.jobs = vehicle(node='N3', header=9), {}
+                self.look()
+                found = [row['what'] for row in self.entries() if row['what'].startswith('job.f')]
+                self.assertEqual(found, [wanted])
+
     def test_while_the_board_did_not_look(self) -> None:
         self.begin_order()
         self.row, self.jobs = vehicle(node='N3', header=9), {}
@@ -266,7 +320,36 @@ class Vehicles(Followed):
         self.changed(('vehicle.heard', words, VEHICLE), header=7)
 
 
+class OldRows(Followed):
+    """What is removed of the record is removed in portions, so that nobody waits for it."""
+
+    def setUp(self) -> None:
+        super().setUp()
+        for _ in range(7):
+            self.record.hold(BEGUN, 'node', 'N1', 'KIT/0001')
+        self.record.commit()
+        self.enterContext(mock.patch.object(record_module, 'PORTION', 3))
+
+    def numbers(self) -> list[int]:
+        return [n for (n,) in self.record.rows('SELECT n FROM hold_changes ORDER BY n')]
+
+    def test_rows_that_are_old(self) -> None:
+        self.assertFalse(self.record.remove_old(BEGUN))
+        self.assertEqual(self.numbers(), [1, 2, 3, 4, 5, 6, 7])
+        for is_more, left in ((True, 4), (True, 1), (False, 0)):
+            self.assertEqual(self.record.remove_old(BEGUN + 1), is_more)
+            self.assertEqual(len(self.numbers()), left)
+
+    def test_more_rows_than_are_kept(self) -> None:
+        """The newest stay."""
+        with mock.patch.dict(record_tables.MOST, hold_changes=2):
+            self.assertTrue(self.record.remove_old(BEGUN))
+            self.assertFalse(self.record.remove_old(BEGUN))
+        self.assertEqual(self.numbers(), [6, 7])
+
+
 class Refusals(unittest.TestCase):
+    MEMBERS = {'by': 'KIT/0009', 'what': 'node N9', 'sent': 9, 'allow': 'GET'}
     VALUES = {
         'vehicle': 'KIT/0001',
         'vehicles': 'KIT/0001 KIT/0002',
@@ -289,10 +372,14 @@ class Refusals(unittest.TestCase):
             fields = [field.name for field in (*kind.fields, *kind.adds)]
             values = {field: self.VALUES[field] for field in fields}
             for refusal in BY_NAME.values():
-                told = {'done': False, 'text': f'{refusal.says}.', 'refusal': refusal.name}
+                sentence = refusal.sentence(self.MEMBERS)
+                answer = Refused(refusal.name, 1, 409, self.MEMBERS, sentence, '')
+                said = Answered(False, [refusal_of(answer)], [], refusal.name)
                 command, cause = Command(1, 'anna', name, values), Cause('person', 'anna', name, 1)
-                words = event_of(command, 'refused', cause, told).words()
-                self.assertIn(f'{refusal.name}: {refusal.says}.', words)
+                event = event_of(command, cause, said)
+                self.assertEqual(event.kind, 'refused')
+                words = event.words()
+                self.assertRegex(words, f'{refusal.name}: .*{re.escape(sentence)}')
                 for field in fields:
                     if field not in ('file', 'update') and (field != 'ref' or 'file' in fields):
                         self.assertIn(values[field].removeprefix('KIT/'), words, (name, field))
@@ -300,8 +387,8 @@ class Refusals(unittest.TestCase):
     def test_a_load_without_a_station(self) -> None:
         """It is at the checking place."""
         values = {'load': 'L7', 'ref': 'R7'}
-        told = {'done': True, 'text': 'The place of L7 is corrected.'}
-        event = event_of(Command(1, '', 'correct', values), 'command', Cause('person'), told)
+        said = Answered(True, [Line('done.correct', {'load': 'L7'})], [])
+        event = event_of(Command(1, '', 'correct', values), Cause('person'), said)
         words = 'Record L7 at the checking place: The place of L7 is corrected.'
         self.assertEqual(event.words(), words)
 

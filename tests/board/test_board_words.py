@@ -53,7 +53,8 @@ class Reads(unittest.TestCase):
         self.assertEqual((words.position, words.map), ((1.5, -2.0), 'hall'))
         self.assertEqual(words.errors, (DIRTY, Error('low', 'WARNING')))
         reasons = ['emergency stop REMOTE', 'FATAL scannerDirty: front scanner dirty']
-        self.assertEqual(words.reasons(), [*reasons, 'operating mode MANUAL'])
+        said = [reason.words() for reason in words.reasons()]
+        self.assertEqual(said, [*reasons, 'operating mode MANUAL'])
 
     def test_what_is_not_said_stays(self) -> None:
         before = read_words(told(operatingMode='MANUAL', errors=[SCANNER]))[1]

@@ -12,10 +12,12 @@ from typing import Any
 from ..common.layouts import Layout
 from .events import ABOUT, BOARD
 from .fleet import Fleet, Seen
-from .messages import say
+from .messages import Line, say, told, words_of
 from .news import News
+from .progress import Thing
 from .record import moment_of
 from .stock import Stores
+from .vehicle_words import Failed
 from .words_keeper import Keeper
 
 EVERY = 1.0  # seconds from one look to the next
@@ -23,6 +25,8 @@ SETTLE = (
     2_500  # milliseconds, for which something is so that the desk's answers may show in between
 )
 SETTLES = ('aboard', 'action')  # the kinds of which that holds
+STAYS = 60_000  # milliseconds from the end of an alarm, in which it flaps where it comes again
+SAID = ('action', 'battery')  # the kinds that are made by what a vehicle says
 IN_THE_WAY = 60_000  # milliseconds that a vehicle waits for one that has no order
 BLOCKED = 300_000  # and for any other
 JUMP = 5.0  # seconds by which a clock is set that is an alarm
@@ -58,13 +62,22 @@ class Found:
 
 @dataclass
 class Alarm:
-    """An alarm that is in the record: the number of its row, what was found, since when, and who
-    has taken it on."""
+    """An alarm that is in the record: the number of its row, what was found, since when, who has
+    taken it on, when it came again where it flaps, and since when it is not so any more."""
 
     number: int
     found: Found
     began: int
     taken: tuple[str, int] | None = None
+    again: int | None = None
+    gone: int | None = None
+
+    def stands(self, at: int) -> bool:
+        """Whether it is so, or flaps: then it stands for a minute more."""
+        if self.gone is None:
+            return True
+        flaps = self.again is not None and self.gone - self.again < STAYS
+        return flaps and abs(at - self.gone) < STAYS
 
 
 class Alarms:
@@ -76,6 +89,7 @@ class Alarms:
         self.due = 0.0
         self.begun = 0
         self._first: dict[str, int] = {}  # when something was found that has to settle
+        self._ended: dict[str, int] = {}  # when an alarm ended, for as long as it may flap
         self._offset: float | None = None
         self._jump: tuple[int, int] | None = None  # when the clock was set, and by how many seconds
         rows = news.record.rows(
@@ -99,12 +113,16 @@ class Alarms:
         desk = self.news.shown.get('desk', '')
         has_looked = all(self.news.looked(kind) for kind in ('vehicles', 'jobs', 'stock'))
         if desk is None or not desk['up'] or not has_looked:
-            kept = {key: one.found for key, one in self.open.items() if key not in MACHINE}
+            kept = {
+                key: one.found
+                for key, one in self.open.items()
+                if key not in MACHINE and one.gone is None
+            }
             found = {**kept, **found}
         else:
             for one in self._of_the_plant(stores, fleet, keeper, layout, at):
                 found[one.key] = one
-        self._take(self._settled(found, at), at)
+        self._take(self._settled(found, at), at, keeper)
         return True
 
     def _settled(self, found: Mapping[str, Found], at: int) -> dict[str, Found]:
@@ -116,37 +134,67 @@ class Alarms:
             if key in self.open or one.kind not in SETTLES or at - self._first[key] >= SETTLE
         }
 
-    def _take(self, found: Mapping[str, Found], at: int) -> None:
+    def _take(self, found: Mapping[str, Found], at: int, keeper: Keeper | None) -> None:
+        """Brings the open alarms in line with what was found: raises new ones, changes those that
+        say something else, and ends those that are over, in the record and on the page. Reads from
+        the record who has taken each on, which another thread writes there."""
         before, self.news.at = self.news.at, at
         for key in self.open.keys() - found.keys():
-            self._end(self.open.pop(key))
+            self._lose(self.open[key], keeper)
         for key, one in found.items():
             alarm = self.open.get(key)
             if alarm is None:
-                self.open[key] = alarm = self._begin(one)
+                self.open[key] = alarm = self._begin(one, keeper)
             elif alarm.found != one:
                 alarm.found = one
                 self._change(alarm)
+            if alarm.gone is not None:
+                alarm.again, alarm.gone = at, None
         question = 'SELECT n, taken_by, taken_at FROM alarms WHERE ended IS NULL'
         taken = {number: (who, at) for number, who, at in self.news.record.rows(question)}
         for alarm in self.open.values():
             who, moment = taken.get(alarm.number, (None, None))
             alarm.taken = None if who is None else (str(who), moment_of(moment))
-            self._show(alarm)
+            if alarm.stands(at):
+                self._show(alarm)
         self.news.at = before
 
-    def _begin(self, found: Found) -> Alarm:
+    def _begin(self, found: Found, keeper: Keeper | None) -> Alarm:
+        """Raises an alarm. Where a vehicle's words make it, its row and its entry are counted, and
+        made in any case: its end is not told as long as there are too many."""
         began = found.since or self.news.at
         number = self.news.record.alarm(found, began)
         self._tell('raised', found)
-        return Alarm(number, found, began)
+        self._may_tell(found, keeper, 2)
+        ended = self._ended.get(found.key)
+        flaps = ended is not None and abs(self.news.at - ended) < STAYS
+        return Alarm(number, found, began, again=self.news.at if flaps else None)
+
+    def _lose(self, alarm: Alarm, keeper: Keeper | None) -> None:
+        """What was found is not so any more. The alarm is over, unless it flaps, or its vehicle has
+        said too much: where it comes again it is the same one."""
+        at, found = self.news.at, alarm.found
+        alarm.gone = alarm.gone or at
+        if alarm.stands(at) and found.key not in MACHINE:
+            return
+        self.news.shown.put('alarm', found.key, None)
+        if self._may_tell(found, keeper):
+            self._end(self.open.pop(found.key))
+            self._ended = {key: end for key, end in self._ended.items() if abs(at - end) < STAYS}
+            self._ended[found.key] = at
+
+    @staticmethod
+    def _may_tell(found: Found, keeper: Keeper | None, count: int = 1) -> bool:
+        """Whether so many rows may be made of an alarm that may be of what a vehicle says."""
+        if found.kind not in SAID or keeper is None:
+            return True
+        return keeper.may_tell(found.values['vehicle'], count)
 
     def _change(self, alarm: Alarm) -> None:
         self.news.record.change_alarm(alarm.number, alarm.found)
 
     def _end(self, alarm: Alarm) -> None:
-        self.news.record.end_alarm(alarm.number, self.news.at)
-        self.news.shown.put('alarm', alarm.found.key, None)
+        self.news.record.end_alarm(alarm.number, alarm.gone or self.news.at)
         self._tell('over', alarm.found)
 
     def _tell(self, what: str, found: Found) -> None:
@@ -155,7 +203,7 @@ class Alarms:
 
     def _show(self, alarm: Alarm) -> None:
         found = alarm.found
-        told = {
+        row = {
             'n': alarm.number,
             'kind': found.kind,
             'level': found.level,
@@ -165,13 +213,14 @@ class Alarms:
             'since': alarm.began,
             'taken': alarm.taken and {'who': alarm.taken[0], 'at': alarm.taken[1]},
         }
-        self.news.shown.put('alarm', found.key, told)
+        self.news.shown.put('alarm', found.key, row)
 
     def _of_the_machine(self, at: int) -> Iterator[Found]:
         """The desk, the clock and the disk."""
         desk = self.news.shown.get('desk', '')
         if desk is not None and not desk['up']:
-            kind, values = 'other' if desk['other'] else 'desk', {'fault': desk['fault']}
+            kind = 'other' if desk['other'] else 'desk'
+            values = {'fault': desk['fault'], 'says': desk.get('says', [])}
             yield Found('desk', kind, 'bad', values, desk['since'])
         offset = time.time() - time.monotonic()
         if self._offset is not None and abs(offset - self._offset) > JUMP:
@@ -197,7 +246,7 @@ class Alarms:
         for circle in fleet.circles:
             values = {'vehicle': circle[0], 'vehicles': circle}
             yield Found(f'circle {" ".join(circle)}', 'circle', 'bad', values)
-        yield from self._of_waits(fleet, at)
+        yield from self._of_waits(fleet, layout, at)
         yield from self._of_jobs(stores, at)
         yield from self._of_stations(layout)
 
@@ -210,9 +259,12 @@ class Alarms:
         elif row.header is not None and not row.ready:
             why = self.news.reasons.get(name) or []
             kind = 'unready' if why else 'unready.unknown'
-            yield Found(
-                f'unready {name}', kind, 'bad', {**values, 'why': ', '.join(why)}, seen.unready
-            )
+            more = {}
+            if why:
+                rows = dict.fromkeys(f'{one.name}.do' for one in why)
+                does = [Line(row, values) for row in rows]
+                more = {'why': words_of(why, ', '), 'says': told(why), 'does': told(does)}
+            yield Found(f'unready {name}', kind, 'bad', {**values, **more}, seen.unready)
 
     def _of_words(self, fleet: Fleet, keeper: Keeper | None) -> Iterator[Found]:
         """Actions that have failed, and batteries that are low."""
@@ -220,24 +272,52 @@ class Alarms:
             seen = fleet.seen.get(name)
             if seen is None:
                 continue
-            for one in said.words.failed or ():
-                if one.action in self.news.failures:
-                    values = {'vehicle': name, 'action': one.action, 'type': one.type}
-                    values |= {'result': one.result, 'node': seen.row.node}
-                    yield Found(f'action {name} {one.action}', 'action', 'bad', values)
-            if said.is_low and not said.words.charging:
-                values = {'vehicle': name, 'node': seen.row.node}
+            failed = [one for one in said.words.failed or () if one.action in said.failures]
+            for one in failed[-1:]:  # the last one, for all of them
+                values = self._of_action(seen, one)
+                if len(failed) > 1:
+                    values['action'] += f' (+{len(failed) - 1})'
+                yield Found(f'action {name}', 'action', 'bad', values)
+            charge = said.words.battery
+            if said.is_low and charge is not None and not said.words.charging:
+                values = {'vehicle': name, 'node': seen.row.node, 'battery': f'{charge:g}'}
                 yield Found(f'battery {name}', 'battery', 'warn', values)
 
-    def _of_waits(self, fleet: Fleet, at: int) -> Iterator[Found]:
+    def _of_action(self, seen: Seen, failed: Failed) -> dict[str, Any]:
+        """What an alarm says of an action that has failed: what it was, where its order is known,
+        and what the vehicle says of it."""
+        values = {'vehicle': str(seen.row.key), 'action': failed.action, 'type': failed.type}
+        values |= {'result': failed.result, 'node': seen.row.node}
+        order, _, number = failed.action.rpartition('.')
+        end = self.news.ends.get(order)
+        acts = end.acts if end is not None else ()
+        if seen.way is not None and seen.way.order == order:
+            acts = tuple((act.number, act.kind, act.load) for act in seen.way.acts)
+        says = [
+            Line('failed.act', {'act': kind, 'load': load})
+            for at, kind, load in acts
+            if str(at) == number
+        ]
+        if not says and failed.type:
+            says = [Line('failed.words', {'words': failed.type})]
+        result = Line('failed.words', {'words': failed.result})
+        says.append(result if failed.result else Line('failed.unsaid'))
+        return {**values, 'what': words_of(says, ': '), 'says': told(says)}
+
+    def _of_waits(self, fleet: Fleet, layout: Layout, at: int) -> Iterator[Found]:
         """Vehicles that have waited for long for another one, which may have no order."""
         for name, wait in fleet.waits.items():
             since, holder = fleet.waits_since[name], fleet.seen.get(wait.by)
             is_shut = holder is not None and holder.row.order is None
             if not wait.stands or at - since < (IN_THE_WAY if is_shut else BLOCKED):
                 continue
-            values = {'vehicle': name, 'by': wait.by, 'thing': ' '.join(wait.thing)}
+            values: dict[str, Any] = {'vehicle': name, 'by': wait.by}
+            values['thing'] = ' '.join(wait.thing)
             kind, level = ('shut', 'bad') if is_shut else ('blocked', 'warn')
+            if holder is not None and is_shut:
+                is_free = has_exit(layout, fleet.holders, wait.by, holder.row.node)
+                does = Line('shut.send' if is_free else 'shut.cancel', dict(values))
+                values['does'] = [does.told()]
             yield Found(f'wait {name}', kind, level, values, since)
 
     def _of_jobs(self, stores: Stores, at: int) -> Iterator[Found]:
@@ -263,11 +343,22 @@ class Alarms:
 MACHINE = ('desk', 'clock', 'disk')  # the keys of what is of the machine
 
 
+def has_exit(layout: Layout, holders: Mapping[Thing, str], vehicle: str, node: str) -> bool:
+    """Whether a vehicle may leave its node by an edge that nobody else holds, to a node that nobody
+    else holds."""
+    return any(
+        holders.get(('edge', edge.name)) in (None, vehicle)
+        and holders.get(('node', edge.finish)) in (None, vehicle)
+        for edge in layout.edges.values()
+        if edge.start == node
+    )
+
+
 def free_of(path: str) -> str | None:
     """How much of a disk is free, where that is too little: `120 MB`."""
     try:
-        told = os.statvfs(os.path.dirname(os.path.abspath(path)))
+        disk = os.statvfs(os.path.dirname(os.path.abspath(path)))
     except OSError:
         return None
-    free, whole = told.f_bavail * told.f_frsize, told.f_blocks * told.f_frsize
+    free, whole = disk.f_bavail * disk.f_frsize, disk.f_blocks * disk.f_frsize
     return f'{free // 1_000_000} MB' if free < min(FREE, whole * PART) else None

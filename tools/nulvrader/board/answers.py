@@ -5,6 +5,8 @@ import json
 from dataclasses import dataclass
 from typing import Any
 
+from .messages import Line
+
 JSON = 'application/json'
 
 
@@ -22,6 +24,8 @@ def told(what: Any, status: int = 200) -> Answer:
     return Answer(status, JSON, json.dumps(what, separators=(',', ':')).encode())
 
 
-def refused(status: int, words: str) -> Answer:
-    """A refusal, with a sentence."""
-    return told({'fault': words}, status)
+def refused(status: int, words: str | Line) -> Answer:
+    """A refusal, with a sentence; one of the table of messages the page says in its language."""
+    if isinstance(words, str):
+        return told({'fault': words}, status)
+    return told({'fault': words.words(), 'says': [words.told()]}, status)

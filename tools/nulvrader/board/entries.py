@@ -7,10 +7,12 @@ import csv
 import io
 import re
 import sqlite3
+import threading
 import time
 from collections.abc import Iterator, Mapping, Sequence
 from typing import Any
 
+from .messages import Line
 from .record import EVENT, entry_of, opened, text_of
 
 PAGE, FILE = 200, 50_000  # rows of a page and of a file, at most
@@ -20,12 +22,19 @@ LONG = 100  # characters of what is looked for
 EQUAL = ('vehicle', 'load', 'job', 'station', 'kind', 'cause', 'who')
 THING = ('vehicle', 'load', 'job', 'order_name', 'station', 'node')
 TIME = re.compile(r'[0-9]{4}-[0-9]{2}-[0-9]{2}(T[0-9]{2}:[0-9]{2}(:[0-9]{2}(\.[0-9]{1,3})?)?Z?)?')
-FORMULA = re.compile('[=+@\t\r-]')  # how what a table of numbers would compute begins
+ENDS = r';\t\n\v\f\r\x1c-\x1e\x85\u2028\u2029'  # what may end a cell within a text
+# How a cell begins that a table of numbers would compute.
+FORMULA = re.compile(f'(?:[^\\S{ENDS}]|")*[=+@\\t\\r＝＋－＠-]')
+FORMULAS = re.compile(f'[{ENDS}](?={FORMULA.pattern})')
 
 
 class BadQuestion(ValueError):
-    """What is asked for is none of the filters, or a value of one is wrong. Its `str()` is a
-    sentence."""
+    """What is asked for is none of the filters, or a value of one is wrong. `line` is the sentence
+    of it, and `str()` the same in English."""
+
+    def __init__(self, name: str):
+        self.line = Line(f'record.{name}')
+        super().__init__(self.line.words())
 
 
 def conditions(asked: Mapping[str, str]) -> tuple[list[str], list[Any]]:
@@ -52,7 +61,7 @@ def conditions(asked: Mapping[str, str]) -> tuple[list[str], list[Any]]:
             values.append(time_of(asked[name]))
     if asked.get('before'):
         if not re.fullmatch('[0-9]{1,18}', asked['before']):
-            raise BadQuestion('before is no number of an entry.')
+            raise BadQuestion('before')
         rows.append('n < ?')
         values.append(int(asked['before']))
     return rows, values
@@ -64,12 +73,41 @@ def time_of(text: str) -> str:
         return text_of(int(text))
     if TIME.fullmatch(text):
         return text.rstrip('Z')
-    raise BadQuestion('A time is written 2026-11-28T06:15:00Z.')
+    raise BadQuestion('time')
+
+
+class Turns:
+    """Lets one question be answered at a time, and a pause follow that is as long. While there is
+    always one that reads, SQLite never begins its log anew, which would fill the disk."""
+
+    def __init__(self) -> None:
+        self._lock, self._due = threading.Lock(), 0.0
+
+    @contextlib.contextmanager
+    def one(self) -> Iterator[None]:
+        """Waits for a turn, and has it for a block."""
+        with self._lock:
+            time.sleep(max(0.0, self._due - time.monotonic()))
+            begun = time.monotonic()
+            try:
+                yield
+            finally:
+                now = time.monotonic()
+                self._due = now + (now - begun)
+
+
+TURNS = Turns()
 
 
 @contextlib.contextmanager
 def reading(path: str) -> Iterator[sqlite3.Connection]:
     """A connection that only reads, and on which no question lasts longer than it may."""
+    with TURNS.one(), _reading(path) as base:
+        yield base
+
+
+@contextlib.contextmanager
+def _reading(path: str) -> Iterator[sqlite3.Connection]:
     base = opened(path)
     try:
         base.execute('PRAGMA query_only = 1')
@@ -78,7 +116,7 @@ def reading(path: str) -> Iterator[sqlite3.Connection]:
         yield base
     except sqlite3.OperationalError as fault:
         if 'interrupted' in str(fault):
-            raise BadQuestion('This takes too long: ask for less, as by a time.') from None
+            raise BadQuestion('long') from None
         raise
     finally:
         base.close()
@@ -102,16 +140,22 @@ def page_of(path: str, asked: Mapping[str, str]) -> dict[str, Any]:
 def csv_of(path: str, asked: Mapping[str, str]) -> bytes:
     """The entries as CSV, the newest first, at most `FILE`: those before them are asked for by
     `before`. What another program would compute is a text there."""
-    file = io.StringIO()
-    writer = csv.writer(file)
-    writer.writerow(EVENT)
-    for row in found(path, asked, FILE):
-        writer.writerow(plain(row))
-    return file.getvalue().encode()
+    data = io.BytesIO()
+    with io.TextIOWrapper(data, 'utf-8', newline='') as file:
+        writer = csv.writer(file)
+        writer.writerow(EVENT)
+        writer.writerows(map(plain, found(path, asked, FILE)))
+        file.flush()
+        return data.getvalue()
 
 
 def plain(row: Sequence[Any]) -> list[Any]:
-    """The values of a row; a text that begins as a formula has an apostrophe before it."""
-    return [
-        f"'{value}" if isinstance(value, str) and FORMULA.match(value) else value for value in row
-    ]
+    """The values of a row. An apostrophe stands before what would be a formula at the beginning of
+    a text, or behind `;`, a tab or the end of a line."""
+    return [_plain(value) if isinstance(value, str) else value for value in row]
+
+
+def _plain(text: str) -> str:
+    if ';' in text or not text.isprintable():  # else it is one cell, and soon done
+        text = FORMULAS.sub(r"\g<0>'", text)
+    return f"'{text}" if FORMULA.match(text) else text

@@ -2,14 +2,51 @@
 call, and how it was before and is then."""
 from __future__ import annotations
 
+import json
 from collections.abc import Mapping
-from dataclasses import dataclass, field
+from dataclasses import dataclass, field, replace
 from typing import Any
 
 from .messages import say
 
 # The things that an event may be about: the columns of `events`.
 ABOUT = ('vehicle', 'load', 'job', 'order_name', 'station', 'node')
+LONG, MORE = 400, 800  # bytes of a text of an entry, and of what else it says, at most
+CUTS = ((LONG, 32), (LONG // 2, 16), (LONG // 4, 8), (LONG // 8, 4), (LONG // 8, 2))
+
+
+def cut(text: str, most: int = LONG) -> str:
+    """A text of at most so many bytes, with `..` at the end where it is cut."""
+    data = text.encode('utf-8', 'replace')
+    if len(data) > most:
+        return data[: most - 2].decode('utf-8', 'ignore') + '..'
+    return data.decode()
+
+
+def values_cut(values: Mapping[str, Any]) -> dict[str, Any]:
+    """Values whose texts and lists are cut, the long ones first, until they have no more than
+    `MORE` bytes as JSON."""
+    found = dict(values)
+    for long, many in CUTS:
+        found = {name: _value_cut(value, long, many) for name, value in values.items()}
+        if len(json_of(found).encode()) <= MORE:
+            break
+    return found
+
+
+def _value_cut(value: Any, long: int, many: int) -> Any:
+    if isinstance(value, str):
+        return cut(value, long)
+    if isinstance(value, Mapping):
+        return {name: _value_cut(one, long, many) for name, one in value.items()}
+    if isinstance(value, (list, tuple)):
+        return [_value_cut(one, long, many) for one in value[:many]]
+    return value
+
+
+def json_of(values: Mapping[str, Any]) -> str:
+    """Values as the record has them."""
+    return json.dumps(dict(values), ensure_ascii=False)
 
 
 @dataclass(frozen=True)
@@ -48,6 +85,11 @@ class Event:
         found = {**self.about, 'before': self.before, 'after': self.after, **self.more}
         return {name: value for name, value in found.items() if value is not None}
 
+    def cut(self) -> Event:
+        """This entry with no longer texts than a person reads."""
+        before, after = (one and cut(one) for one in (self.before, self.after))
+        return replace(self, before=before, after=after, more=values_cut(self.more))
+
     def words(self, language: str = 'en') -> str:
         """Its sentence."""
         return say(f'event.{self.what}', self.values(), language)
@@ -56,13 +98,14 @@ class Event:
 def told(number: int, at: int, event: Event) -> dict[str, Any]:
     """An entry as the page and other programs have it: `n` is its number, `text` its sentence in
     English."""
+    event = event.cut()
     cause = event.cause
     found = {
         'n': number,
         'at': at,
         'kind': event.kind,
         'what': event.what,
-        'text': event.words(),
+        'text': cut(event.words()),
         'cause': cause.of,
         'who': cause.who,
         'call': cause.call,

@@ -11,6 +11,7 @@ from ..common.names import VehicleKey, natural
 from ..desk.reports import Holds, Stock
 from . import sentences
 from .events import BOARD, UNSEEN, VEHICLE, Cause
+from .messages import Line, told, words_of
 from .news import News, OrderEnd
 from .progress import Thing, Way
 from .record import moment_of
@@ -60,7 +61,8 @@ class Fleet:
         news.record.end_waits(news.at)
         self.placed: set[int | None] = set()  # the commands that have ended an order
         # whether vehicles were looked at, in this run or an earlier one
-        self.has_looked = bool(news.record.rows('SELECT 1 FROM vehicles LIMIT 1'))
+        known = news.record.rows('SELECT 1 FROM vehicles LIMIT 1')
+        self.has_looked = bool(known) or news.record.has_look('vehicles')
 
     def again(self) -> None:
         """The desk answers again: every vehicle has time to post a state."""
@@ -93,6 +95,8 @@ class Fleet:
         self.news.cancelling = {
             row.order for row in rows.values() if row.order and row.pending == 'cancelOrder'
         }
+        if not self.has_looked:
+            self.news.record.note_look('vehicles', self.news.at)
         self.has_looked = True
         self._wait()
 
@@ -173,8 +177,7 @@ class Fleet:
 
         if before.ready != row.ready:
             reasons = [] if row.ready else self.news.reasons.get(name, [])
-            more = {'why': f': {", ".join(reasons)}'} if reasons else {}
-            tell('ready' if row.ready else 'unready', VEHICLE, more=more)
+            tell('ready' if row.ready else 'unready', VEHICLE, more=why_of(reasons))
         if before.paused != row.paused:
             tell('paused' if row.paused else 'resumed', VEHICLE)
         if before.header is not None and row.header is None:
@@ -258,7 +261,8 @@ class Fleet:
         def is_of(values: Mapping[str, str]) -> bool:
             return values.get('vehicle') == name and values.get('order') == way.order
 
-        more = {'edges': way.end, 'stops': sentences.stops(way)}
+        stops = sentences.stops(way)
+        more = {'edges': way.end, 'stops': words_of(stops, ', '), 'says': told(stops)}
         about: dict[str, str | None] = {'vehicle': name, 'order_name': way.order}
         about['node'] = way.nodes[0]
         call = 'order' if way.acts else 'drive'
@@ -316,3 +320,12 @@ class Fleet:
             self.news.record.wait(at, name, thing, by)
         told = None if after is None else sentences.wait(after, self.waits_since[name])
         self.news.shown.put('wait', name, told)
+
+
+def why_of(reasons: list[Line]) -> dict[str, Any]:
+    """Why a vehicle is not ready, as its entry says it; nothing where that is not known."""
+    if not reasons:
+        return {}
+    words = words_of(reasons, ', ')
+    why = Line('event.why', {'why': words, 'says': told(reasons)})
+    return {'why': why.words(), 'says': [why.told()]}

@@ -25,7 +25,8 @@ class Floor:
             self._put(read_layout(kept[0].encode()), kept[1])
 
     def take(self, layout: Layout | None) -> None:
-        """What the desk tells: None where it has no layout yet."""
+        """Takes the layout that the desk has answered, None where it has none yet. A layout that
+        differs from the one before is drawn anew, kept in the record and shown."""
         if layout is not None and layout != self.layout:
             places = positions(layout)
             text = layout.csv().decode().removesuffix('\n')  # a file may be a byte shorter

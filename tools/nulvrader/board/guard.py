@@ -7,6 +7,8 @@ import hmac
 import secrets
 from collections.abc import Iterable, Mapping
 
+from .messages import Line
+
 TOKEN_HEADER = 'x-board-token'
 POLICY = (
     "default-src 'self'; base-uri 'none'; form-action 'none'; frame-ancestors 'none'; "
@@ -54,11 +56,11 @@ class Guard:
             return None
         return 'The board answers only its own page.'
 
-    def command_fault(self, headers: Mapping[str, str]) -> str | None:
+    def command_fault(self, headers: Mapping[str, str]) -> Line | None:
         """Why a command is refused: it has no origin of this board, or not its token."""
         scheme, _, host = headers.get('origin', '').lower().partition('://')
         if scheme not in ('http', 'https') or host not in self.hosts:
-            return 'Commands are accepted only from the page of this board.'
+            return Line('page.only')
         if not hmac.compare_digest(headers.get(TOKEN_HEADER, '').encode(), self.token.encode()):
-            return 'The board was restarted: reload the page.'
+            return Line('page.restarted')
         return None

@@ -82,9 +82,10 @@ class Jobs:
             self.told(self.live[name])
 
     def take_places(self, places: Mapping[str, str], looked: int) -> None:
-        """A later stock report: the load of a job that was done stands where the job led. How one
-        that rode was stopped is known by a look at its vehicle, of which the last was at `looked`.
-        """
+        """Decides how the jobs of `ended` have ended, by the places of a later stock report, and
+        calls `told` with each. A job is done where its load stands at its target, else it was
+        stopped. A job that rode and isn't done is kept in `ended` until its vehicle was looked at
+        after the end: `looked` is the moment of the last look at the vehicles."""
         ended, self.ended = self.ended, []
         for job in ended:
             is_done = places.get(job.load) == f'station {job.target}'

@@ -1,22 +1,54 @@
 """The texts of the page and of the record: one table, `page/messages.json`, of which each row has a
 name, English and German. The page reads the same one.
 
-A text has values in braces: `{load}` as it is; `{before|place}` as a place in words, and
-`{place|spot}` as one where something stands; `{alarm|text:alarm}` as the text of the row `alarm.`
-with the value behind; `{count|many:edge}` as `1 edge` or `2 edges`, by the rows `many.edge.1` and
-`many.edge.n`; and `{action|name:action}` by the row `action.startPause`, if there is one."""
+A text has values in braces: `{load}` as it is; `{before|place}` as a place in words, `{place|spot}`
+as one where something stands, and `{thing|thing}` as a node or an edge; `{alarm|text:alarm}` as the
+text of the row `alarm.` with the value behind; `{count|many:edge}` as `1 edge` or `2 edges`, by the
+rows `many.edge.1` and `many.edge.n`; and `{action|name:action}` by the row `action.startPause`, if
+there is one. Values that have other sentences, as `says`, each with the name of its row and its
+values, say these for `{answer|said}`, for `{why|list}` with commas between, and for `{words|parts}`
+with colons; where there is no `says` it is the value as it is. `{todo|said:does}` says those of
+`does`."""
 from __future__ import annotations
 
 import functools
 import json
 import os
 import re
-from collections.abc import Mapping
+from collections.abc import Mapping, Sequence
+from dataclasses import dataclass, field
 from typing import Any
 
 FILE = os.path.join(os.path.dirname(__file__), 'page', 'messages.json')
 LANGUAGES = ('en', 'de')
+JOINED = {'said': ' ', 'list': ', ', 'parts': ': '}  # what stands between sentences
 VALUE = re.compile(r'\{(\w+)(?:\|(\w+)(?::(\w+))?)?\}')
+
+
+@dataclass(frozen=True)
+class Line:
+    """A sentence of the table, with its values. The page says it in its language."""
+
+    name: str
+    values: Mapping[str, Any] = field(default_factory=dict)
+
+    def words(self, language: str = 'en') -> str:
+        """The sentence."""
+        return say(self.name, self.values, language)
+
+    def told(self) -> list[Any]:
+        """It as the page has it."""
+        return [self.name, dict(self.values)]
+
+
+def told(lines: Sequence[Line]) -> list[Any]:
+    """Sentences as the page has them."""
+    return [line.told() for line in lines]
+
+
+def words_of(lines: Sequence[Line], between: str = ' ') -> str:
+    """Sentences in English."""
+    return between.join(line.words() for line in lines)
 
 
 @functools.cache
@@ -43,6 +75,9 @@ def say(name: str, values: Mapping[str, Any] | None = None, language: str = 'en'
         member, how, of = found.groups()
         if how == 'text':
             return say(f'{of}.{known.get(member)}', known, language)
+        says = known.get(of or 'says') if how in JOINED else None
+        if how in JOINED and says:
+            return JOINED[how].join(say(name, parts, language) for name, parts in says)
         return _value(known.get(member, ''), how, of, language)
 
     return VALUE.sub(put, row[language])
@@ -54,6 +89,8 @@ def _value(value: Any, how: str | None, of: str | None, language: str) -> str:
         return place(str(value), language)
     if how == 'spot':
         return place(str(value), language, 'spot')
+    if how == 'thing':
+        return place(str(value), language, 'thing')
     if how == 'many':
         return say(f'many.{of}.{"1" if value == 1 else "n"}', {'count': value}, language)
     if how == 'name' and has(f'{of}.{value}'):

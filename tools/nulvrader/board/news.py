@@ -9,6 +9,7 @@ from typing import Any
 
 from .causes import Calls, Matches
 from .events import Cause, Event, told
+from .messages import Line
 from .page_state import EVENTS, Shown
 from .record import Record
 
@@ -37,9 +38,10 @@ class News:
         self.at = 0
         self.calls = Calls()
         self.ends: OrderedDict[str, OrderEnd] = OrderedDict()
-        self.failures: OrderedDict[str, str] = OrderedDict()  # by failed action what is said of it
+        # by vehicle and failed action what is said of it
+        self.failures: OrderedDict[tuple[str, str], str] = OrderedDict()
         self.cancelling: set[str] = set()  # the open orders that are being cancelled
-        self.reasons: dict[str, list[str]] = {}  # by vehicle why it is not ready, in its words
+        self.reasons: dict[str, list[Line]] = {}  # by vehicle why it is not ready, in its words
         self._looked: dict[str, int] = {}
         self._waiting: list[dict[str, Any]] = []
         for event in record.last_events(EVENTS):
@@ -92,8 +94,8 @@ class News:
         while len(self.ends) > ENDS:
             self.ends.popitem(last=False)
 
-    def fails_action(self, action: str, result: str) -> None:
-        """Notes that an action has failed, by its id, and what the vehicle says of it."""
-        self.failures[action] = result
+    def fails_action(self, vehicle: str, action: str, result: str) -> None:
+        """Notes that an action of a vehicle has failed, by its id, and what it says of it."""
+        self.failures[vehicle, action] = result
         while len(self.failures) > ENDS:
             self.failures.popitem(last=False)

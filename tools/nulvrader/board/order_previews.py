@@ -5,8 +5,10 @@ from __future__ import annotations
 import time
 from collections.abc import Mapping, Sequence
 from dataclasses import dataclass
+from typing import Any
 
 from ..common.layouts import Layout
+from .messages import Line
 from .previews import Look, vehicle_here
 from .scene import Scene
 
@@ -21,7 +23,11 @@ HELD = 10  # things of a way that are told as held by others
 
 
 class BadStops(ValueError):
-    """A text that tells no stops. Its `str()` is a sentence."""
+    """A text that tells no stops. `line` is the sentence of it, and `str()` the same in English."""
+
+    def __init__(self, name: str, **values: object):
+        self.line = Line(name, values)
+        super().__init__(self.line.words())
 
 
 @dataclass(frozen=True)
@@ -42,12 +48,9 @@ def stops_of(text: str) -> list[Planned]:
         elif len(words) == 2 and words[0] in ('pick', 'drop'):
             found.append(Planned(words[0], words[1]))
         else:
-            raise BadStops(
-                '%a is no stop: write a job, or pick JOB, drop JOB, with commas between.'
-                % part.strip()
-            )
+            raise BadStops('wrong.stop', text=f'{part.strip()!a}')
     if len(found) > STOPS:
-        raise BadStops(f'{len(found)} stops are more than an order may have.')
+        raise BadStops('wrong.stops', count=len(found))
     return found
 
 
@@ -76,15 +79,11 @@ def start_order(scene: Scene, said: Mapping[str, str]) -> Look:
         at = node or at
     edges = released(scene, look, name, walk or [], start)
     if walk is not None:
-        _say_way(look, walk, edges)
-        look.warn(edges > len(walk), 'order.edges', count=len(walk))
-        look.warn(len(walk) > LONGEST, 'order.long', count=len(walk))
+        _say_begin(look, walk, edges)
         _check_free(scene, look, name, walk[:edges], start)
     if vehicle:
-        order, capacity = vehicle['order_name'], vehicle['capacity']
-        look.warn(not vehicle['ready'], 'unready', vehicle=name)
-        look.warn(order is not None, 'has.order', vehicle=name, order=order)
-        look.warn(bool(vehicle['astray']), 'astray', vehicle=name)
+        _check_can_begin(look, name, vehicle)
+        capacity = vehicle['capacity']
         carried = len({stop.job for stop in stops}) + len(vehicle['loads'])
         look.warn(carried > capacity, 'carries', vehicle=name, count=capacity)
     return look
@@ -99,19 +98,14 @@ def start_drive(scene: Scene, said: Mapping[str, str]) -> Look:
     edges = released(scene, look, name, walk or [], start)
     if walk:
         _say_whole_way(scene, look, name, walk, start)
-        _say_way(look, walk, edges)
-        look.warn(edges > len(walk), 'order.edges', count=len(walk))
-        look.warn(len(walk) > LONGEST, 'order.long', count=len(walk))
+        _say_begin(look, walk, edges)
         _check_free(scene, look, name, walk[:edges], start)
     if vehicle:
-        order, loads = vehicle['order_name'], vehicle['loads']
-        if loads:
-            look.say('drive.loads', loads=list(loads))
+        if vehicle['loads']:
+            look.say('drive.loads', loads=list(vehicle['loads']))
         look.warn(start == end, 'drive.there', vehicle=name, node=end)
         look.warn(walk is None, 'no.way', start=start, end=end)
-        look.warn(not vehicle['ready'], 'unready', vehicle=name)
-        look.warn(order is not None, 'has.order', vehicle=name, order=order)
-        look.warn(bool(vehicle['astray']), 'astray', vehicle=name)
+        _check_can_begin(look, name, vehicle)
         look.warn(vehicle['pending'] == 'cancelOrder', 'cancelling')
     return look
 
@@ -176,6 +170,23 @@ def _say_way(look: Look, walk: Sequence[tuple[str, str]], edges: int) -> None:
         look.say('released', edges=len(part), nodes=nodes, left=left)
     else:
         look.say('released.none', count=len(walk))
+
+
+def _say_begin(look: Look, walk: Walk, edges: int) -> None:
+    """Says what is released of the way of a new order or drive. Warns where more edges are to be
+    released than the way has, and where the way is too long for an order."""
+    _say_way(look, walk, edges)
+    look.warn(edges > len(walk), 'order.edges', count=len(walk))
+    look.warn(len(walk) > LONGEST, 'order.long', count=len(walk))
+
+
+def _check_can_begin(look: Look, name: str, vehicle: Mapping[str, Any]) -> None:
+    """Warns where the desk would refuse this vehicle any order: it is not ready, has an order, or
+    is astray."""
+    order = vehicle['order_name']
+    look.warn(not vehicle['ready'], 'unready', vehicle=name)
+    look.warn(order is not None, 'has.order', vehicle=name, order=order)
+    look.warn(bool(vehicle['astray']), 'astray', vehicle=name)
 
 
 def _say_whole_way(scene: Scene, look: Look, name: str, walk: Walk, start: str) -> None:

@@ -16,8 +16,10 @@ from .answers import JSON, Answer, refused, told
 from .api.routes import Api
 from .api.streams import Stream
 from .poller import Asker, now
-from .commands import Commands, NoCommand, NotSent
+from .command_values import NoCommand
+from .commands import Commands, NotSent
 from .guard import Guard
+from .messages import Line
 from .record import Record
 from .request import Head
 from .page_state import Shown
@@ -74,8 +76,8 @@ class Pages:
             return Answer(200, TYPES[os.path.splitext(name)[1]], file.read())
 
     def refusal(self, head: Head) -> Answer | None:
-        """Why a request is refused by its head alone, before its body is read; None where it
-        isn't."""
+        """Returns the answer that refuses a request by its head alone, or None where its body may
+        be read: a foreign page, or a user who may give no commands, has no body read at all."""
         guard = self.board.guard
         if fault := guard.host_fault(head.headers):
             return refused(421, fault)
@@ -83,12 +85,12 @@ class Pages:
             return refused(403, fault)
         if head.method != 'POST':
             return None
-        if fault := guard.command_fault(head.headers):
-            return refused(403, fault)
+        if wrong := guard.command_fault(head.headers):
+            return refused(403, wrong)
         if self.board.commands is None:
-            return refused(403, 'This board was started with --read-only.')
+            return refused(403, Line('page.reads'))
         if not self._may_command(head):
-            return refused(403, 'The proxy names no user who may give commands.')
+            return refused(403, Line('page.nobody'))
         return None
 
     async def answer(self, head: Head, body: bytes) -> Answer | Stream:
@@ -108,7 +110,7 @@ class Pages:
                 return await self.searches.run(functools.partial(self._entries, path, asked))
             return self._page(path, asked)
         except Busy:
-            return refused(503, 'The board is busy: nothing was done. Ask again in a moment.')
+            return refused(503, Line('page.busy'))
 
     def _page(self, path: str, asked: dict[str, str]) -> Answer:
         if path == '/data':
@@ -140,9 +142,9 @@ class Pages:
                 return told(entries.page_of(self.board.record.path, asked))
             return Answer(200, CSV, entries.csv_of(self.board.record.path, asked))
         except entries.BadQuestion as wrong:
-            return refused(400, str(wrong))
+            return refused(400, wrong.line)
         except sqlite3.Error as fault:
-            return refused(503, f'board.db can not be read: {fault}.')
+            return refused(503, Line('record.unread', {'fault': str(fault)}))
 
     async def _command(self, path: str, head: Head, body: bytes) -> Answer:
         commands = self.board.commands
@@ -159,9 +161,9 @@ class Pages:
             do = commands.take if path == '/take' else commands.do
             return told(await self.commands.run(functools.partial(do, said, self._user(head))))
         except NoCommand as wrong:
-            return refused(200, str(wrong))  # no error: the page has asked, and is told
+            return refused(200, wrong.line)  # no error: the page has asked, and is told
         except NotSent as fault:
-            return refused(503, str(fault))
+            return refused(503, fault.line)
 
     def _may_command(self, head: Head) -> bool:
         """Whether who asks may give commands. A proxy names only those."""

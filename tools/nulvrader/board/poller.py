@@ -8,20 +8,22 @@ import functools
 import sqlite3
 import threading
 import time
-from collections.abc import Callable
+from collections.abc import Callable, Mapping
 from dataclasses import dataclass
-from typing import TypeVar
+from typing import Any, TypeVar
 
 from ..desk.client import Desk, NoAnswer, NotADesk, Refused
 from ..common.names import VehicleKey
 from ..desk.exports import read_loads
-from ..desk.reports import read_holds, read_stock
+from ..desk.reports import Holds, Stock, read_holds, read_stock
 from ..common.text import shown as printable
 from .alarms import Alarms
+from .desk_faults import fault_of
 from .events import BOARD
 from .fleet import Fleet
 from .floor import Floor
 from .journal import log
+from .messages import Line, told
 from .news import News
 from .same_desk import OtherDesk, Same
 from .stock import Stores
@@ -34,7 +36,7 @@ OFTEN, SOMETIMES, RARELY = 0.5, 1.0, 10.0  # seconds from one question of a kind
 SHARE = 10  # times as long as an answer took, the board waits until it asks for it again
 AGAIN = 1.0  # seconds from a question that was not answered to the next
 WRITE_AGAIN = 2.0  # seconds from one attempt to write to the record to the next
-OLD_EVERY = 3600.0
+OLD_EVERY, OLD_ON = 60.0, 1.0  # seconds until old rows are removed again, and while there are more
 DAY = 86_400_000
 MOST = 300  # characters of what is wrong with an answer
 ASIDE = (
@@ -176,12 +178,11 @@ class Asker(threading.Thread):
 
     def _wait_for_the_record(self, fault: str) -> None:
         """The record can't be written: pages are told so, until it can."""
-        old = 'What is seen here is old, and no command is sent.'
-        words = f'board.db can not be written: {fault}. {old}'
-        log(words)
+        line = Line('record.unwritten', {'fault': fault})
+        log(line.words())
         while True:
             self.news.roll_back()
-            self.news.shown.put('fault', 'record', words)
+            self.news.shown.put('fault', 'record', {'words': line.words(), 'says': [line.told()]})
             if self.over.wait(WRITE_AGAIN):
                 return
             try:
@@ -237,8 +238,8 @@ class Asker(threading.Thread):
     def next_question(self, at: float) -> Question | None:
         """What to ask next, or None where nothing is due."""
         if at >= self.old_due:
-            self.old_due = at + OLD_EVERY
-            self.news.record.remove_old(now() - self.days * DAY)
+            is_more = self.news.record.remove_old(now() - self.days * DAY)
+            self.old_due = at + (OLD_ON if is_more else OLD_EVERY)
         if self.up is not True:
             return self.ask_first
         for turn in self.turns:
@@ -260,30 +261,44 @@ class Asker(threading.Thread):
         self.news.at = now()
         return answer
 
+    def _stock(self) -> Stock:
+        """Asks for the stock report. Raises `OtherDesk` where it is not of the desk of the
+        record."""
+        stock = read_stock(self._told(self.desk.stock_report))
+        self.same.check(stock, self.stores.places)
+        return stock
+
+    def _holds(self) -> Holds:
+        """Asks for the hold report. Raises `OtherDesk` where it is not of the desk of the
+        record."""
+        holds = read_holds(self._told(self.desk.hold_report))
+        self.same.check_holds(holds)
+        return holds
+
     def _fails(self, fault: Exception) -> None:
+        """Shows that the desk does not answer, or that another one does. Where that is new, it is
+        an entry of the record too, and a line of the log where the answers are to blame."""
         words, other = printable(str(fault), MOST), isinstance(fault, OtherDesk)
+        more = {'fault': words, 'says': told([fault_of(fault)])}
         if self.up is not False or self.other != other:
             self.news.at = self.since = now()
-            front = 'Another desk answers' if other else 'The desk does not answer'
-            self.news.event(
-                f'desk.{"other" if other else "down"}', BOARD, {}, more={'fault': words}
-            )
+            self.news.event(f'desk.{"other" if other else "down"}', BOARD, {}, more=more)
             self.news.record.desk(self.since, words)
             if other or isinstance(fault, NotADesk):
-                log(f'{front}: {words} {ASIDE}' if other else words)
-        self._show_desk(False, words, other)
+                log(f'Another desk answers: {words} {ASIDE}' if other else words)
+        self._show_desk(False, more, other)
 
-    def _show_desk(self, up: bool, fault: str | None, other: bool = False) -> None:
+    def _show_desk(self, up: bool, more: Mapping[str, Any], other: bool = False) -> None:
+        """Shows whether the desk answers; `more` says why it does not."""
         self.up, self.other = up, other
-        told = {'up': up, 'since': self.since, 'fault': fault, 'other': other}
-        self.news.shown.put('desk', '', told)
+        row = {'up': up, 'since': self.since, 'fault': None, 'other': other, **more}
+        self.news.shown.put('desk', '', row)
 
     def ask_first(self) -> None:
         """Asks a desk that has not answered whether it is the one of the record, and then what it
         did not answer."""
-        stock = read_stock(self._told(self.desk.stock_report))
-        self.same.check(stock, self.stores.places)
-        self.same.check_holds(read_holds(self._told(self.desk.hold_report)))
+        self._stock()
+        self._holds()
         self.ask_layout()
         self.news.commit()
         if self.failed is not None:
@@ -293,7 +308,7 @@ class Asker(threading.Thread):
             self.news.event('desk.up', BOARD, {})
         self.since = self.news.at
         self.news.record.desk(self.since, None)
-        self._show_desk(True, None)
+        self._show_desk(True, {})
         self.stores.needs_export = True
         self.fleet.again()
 
@@ -308,20 +323,19 @@ class Asker(threading.Thread):
         self.fleet.take_vehicles(rows)
 
     def ask_holds(self) -> None:
-        holds = read_holds(self._told(self.desk.hold_report))
-        self.same.check_holds(holds)
-        self.fleet.take_holds(holds)
+        self.fleet.take_holds(self._holds())
 
     def ask_jobs(self) -> None:
         self.stores.take_jobs(self._told(self.desk.jobs))
 
     def ask_stock(self) -> None:
-        report = read_stock(self._told(self.desk.stock_report))
-        self.same.check(report, self.stores.places)
+        report = self._stock()
         self.stores.take_stock(report)
         self.fleet.take_stock(report)
 
     def ask_export(self) -> None:
+        """Asks for the export of all loads, which the stock report needs to know those that have
+        left."""
         loads = read_loads(self._told(self.desk.loads_export))
         self.same.check_export(loads)
         self.stores.take_export(loads)

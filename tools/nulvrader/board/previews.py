@@ -8,21 +8,9 @@ from typing import Any
 
 from ..common.names import natural, new_reference
 from .scene import Scene
-from .messages import say
+from .messages import Line
 
 Values = dict[str, str]
-
-
-@dataclass(frozen=True)
-class Line:
-    """A sentence of the table of messages, with its values, which the page says in its language."""
-
-    name: str
-    values: Mapping[str, object]
-
-    def words(self) -> str:
-        """It in English."""
-        return say(self.name, self.values)
 
 
 @dataclass
@@ -115,6 +103,10 @@ def stop_job(scene: Scene, said: Mapping[str, str]) -> Look:
 
 
 def cancel(scene: Scene, said: Mapping[str, str]) -> Look:
+    """Returns what a cancel of a vehicle's order will do: which order it ends and of which loads
+    the jobs. Warns where the vehicle has no order, or has an action pending, as the desk would
+    refuse the cancel then. It only reads the scene: the person confirms before anything is
+    sent."""
     look, name = Look(dict(said)), said['vehicle']
     vehicle, way = vehicle_here(scene, look, name), scene.way(name)
     order = vehicle['order_name'] if vehicle else None
@@ -205,6 +197,8 @@ def vehicle_here(scene: Scene, look: Look, name: str) -> dict[str, Any] | None:
 
 
 def _with_reference(said: Mapping[str, str]) -> Values:
+    """Returns the values with a reference, a new one where none was given. The command is sent with
+    the same one when it is tried again, so the desk carries it out once."""
     return {**said, 'ref': said.get('ref') or new_reference()}
 
 
@@ -221,6 +215,8 @@ def _load_here(scene: Scene, look: Look, load: str) -> dict[str, Any] | None:
 
 
 def _check_no_job(scene: Scene, look: Look, load: str) -> None:
+    """Adds a warning to the look where the load has a live job, for which the desk would refuse the
+    command."""
     job = scene.job_of(load)
     look.warn(job is not None, 'in.job', load=load, job=job)
 

@@ -16,121 +16,8 @@ from collections.abc import Mapping, Sequence
 from typing import Any, Protocol
 
 from ..common.text import shown
-from .events import ABOUT, Event
-
-VERSION = 3
-SCHEMA = """
-CREATE TABLE IF NOT EXISTS meta (name TEXT NOT NULL PRIMARY KEY, value TEXT NOT NULL) STRICT;
-CREATE TABLE IF NOT EXISTS stations (station TEXT NOT NULL PRIMARY KEY, node TEXT NOT NULL,
-  capacity INT NOT NULL,
-  taken INT NOT NULL, reserved INT NOT NULL) STRICT;
-CREATE TABLE IF NOT EXISTS loads (load TEXT NOT NULL PRIMARY KEY, place TEXT NOT NULL,
-  since TEXT) STRICT;
-CREATE TABLE IF NOT EXISTS vehicles (vehicle TEXT NOT NULL PRIMARY KEY, node TEXT NOT NULL,
-  order_name TEXT, seen INT,
-  base INT, edges INT, sent INT, confirmed INT, pending TEXT, ready INT NOT NULL,
-  paused INT NOT NULL, astray INT NOT
-  NULL, capacity INT NOT NULL, heard TEXT, since TEXT NOT NULL) STRICT;
-CREATE TABLE IF NOT EXISTS holds (kind TEXT NOT NULL, name TEXT NOT NULL, vehicle TEXT NOT NULL,
-  since TEXT NOT NULL,
-  PRIMARY KEY (kind, name)) STRICT;
-CREATE TABLE IF NOT EXISTS jobs (job TEXT NOT NULL PRIMARY KEY, load TEXT NOT NULL, origin TEXT,
-  target TEXT, phase TEXT
-  NOT NULL, order_name TEXT, vehicle TEXT, added TEXT, began TEXT, ended TEXT, picked TEXT,
-  dropped TEXT, outcome TEXT, cause TEXT, who TEXT, action TEXT) STRICT;
-CREATE TABLE IF NOT EXISTS load_moves (n INTEGER PRIMARY KEY, at TEXT NOT NULL,
-  load TEXT NOT NULL, from_place TEXT,
-  to_place TEXT NOT NULL) STRICT;
-CREATE TABLE IF NOT EXISTS vehicle_states (n INTEGER PRIMARY KEY, at TEXT NOT NULL,
-  vehicle TEXT NOT NULL, node TEXT NOT
-  NULL, order_name TEXT, seen INT, base INT, edges INT, sent INT, confirmed INT, pending TEXT,
-  ready INT NOT NULL,
-  paused INT NOT NULL, astray INT NOT NULL) STRICT;
-CREATE TABLE IF NOT EXISTS hold_changes (n INTEGER PRIMARY KEY, at TEXT NOT NULL,
-  kind TEXT NOT NULL, name TEXT NOT
-  NULL, vehicle TEXT) STRICT;
-CREATE TABLE IF NOT EXISTS waits (n INTEGER PRIMARY KEY, vehicle TEXT NOT NULL,
-  kind TEXT NOT NULL, name TEXT NOT NULL,
-  holder TEXT NOT NULL, began TEXT NOT NULL, ended TEXT) STRICT;
-CREATE TABLE IF NOT EXISTS desk_times (n INTEGER PRIMARY KEY, at TEXT NOT NULL,
-  answers INT NOT NULL, fault TEXT)
-  STRICT;
-CREATE TABLE IF NOT EXISTS commands (n INTEGER PRIMARY KEY, at TEXT NOT NULL, who TEXT NOT NULL,
-  command TEXT NOT NULL,
-  said TEXT NOT NULL, done INT, answer TEXT) STRICT;
-CREATE TABLE IF NOT EXISTS events (n INTEGER PRIMARY KEY AUTOINCREMENT, at TEXT NOT NULL,
-  kind TEXT NOT NULL, what TEXT NOT NULL, words TEXT NOT NULL, cause TEXT NOT NULL, who TEXT,
-  call TEXT, command INT, vehicle TEXT, load TEXT, job TEXT, order_name TEXT, station TEXT,
-  node TEXT, before TEXT, after TEXT, more TEXT) STRICT;
-CREATE TABLE IF NOT EXISTS vehicle_words (vehicle TEXT NOT NULL PRIMARY KEY, at TEXT NOT NULL,
-  mode TEXT, stop TEXT, field INT, battery REAL, charging INT, x REAL, y REAL, map TEXT,
-  connection TEXT, errors TEXT NOT NULL, failed TEXT NOT NULL, since TEXT NOT NULL) STRICT;
-CREATE TABLE IF NOT EXISTS vehicle_batteries (n INTEGER PRIMARY KEY, at TEXT NOT NULL,
-  vehicle TEXT NOT NULL, charge REAL, charging INT) STRICT;
-CREATE TABLE IF NOT EXISTS alarms (n INTEGER PRIMARY KEY AUTOINCREMENT, key TEXT NOT NULL,
-  kind TEXT NOT NULL, level TEXT NOT NULL, vehicle TEXT, load TEXT, job TEXT, station TEXT,
-  words TEXT NOT NULL, todo TEXT NOT NULL, more TEXT NOT NULL, began TEXT NOT NULL, ended TEXT,
-  taken_by TEXT, taken_at TEXT) STRICT;
-CREATE TABLE IF NOT EXISTS drawing (node TEXT NOT NULL PRIMARY KEY, x REAL NOT NULL,
-  y REAL NOT NULL) STRICT;
-CREATE INDEX IF NOT EXISTS load_moves_load ON load_moves (load, at);
-CREATE INDEX IF NOT EXISTS load_moves_at ON load_moves (at);
-CREATE INDEX IF NOT EXISTS vehicle_states_vehicle ON vehicle_states (vehicle, at);
-CREATE INDEX IF NOT EXISTS vehicle_states_at ON vehicle_states (at);
-CREATE INDEX IF NOT EXISTS hold_changes_at ON hold_changes (at);
-CREATE INDEX IF NOT EXISTS events_at ON events (at);
-CREATE INDEX IF NOT EXISTS events_vehicle ON events (vehicle, n);
-CREATE INDEX IF NOT EXISTS events_load ON events (load, n);
-CREATE INDEX IF NOT EXISTS events_job ON events (job, n);
-CREATE INDEX IF NOT EXISTS vehicle_batteries_vehicle ON vehicle_batteries (vehicle, at);
-CREATE INDEX IF NOT EXISTS vehicle_batteries_at ON vehicle_batteries (at);
-CREATE INDEX IF NOT EXISTS alarms_ended ON alarms (ended);
-CREATE INDEX IF NOT EXISTS waits_began ON waits (began);
-CREATE INDEX IF NOT EXISTS jobs_ended ON jobs (ended);
-"""
-# By version what moves a file of the one before: to 2, as a command stood once it was answered;
-# to 3, as an entry had no cause, and a job no outcome.
-MOVES = {
-    '2': """
-ALTER TABLE commands RENAME TO commands_1;
-CREATE TABLE commands (n INTEGER PRIMARY KEY, at TEXT NOT NULL, who TEXT NOT NULL,
-  command TEXT NOT NULL, said TEXT NOT
-  NULL, done INT, answer TEXT) STRICT;
-INSERT INTO commands SELECT n, at, who, command, said, done, answer FROM commands_1;
-DROP TABLE commands_1;
-UPDATE meta SET value = '2' WHERE name = 'version'""",
-    '3': """
-ALTER TABLE events RENAME TO events_2;
-DROP INDEX IF EXISTS events_at;
-CREATE TABLE events (n INTEGER PRIMARY KEY AUTOINCREMENT, at TEXT NOT NULL,
-  kind TEXT NOT NULL, what TEXT NOT NULL, words TEXT NOT NULL, cause TEXT NOT NULL, who TEXT,
-  call TEXT, command INT, vehicle TEXT, load TEXT, job TEXT, order_name TEXT, station TEXT,
-  node TEXT, before TEXT, after TEXT, more TEXT) STRICT;
-INSERT INTO events (n, at, kind, what, words, cause, vehicle, load)
-  SELECT n, at, kind, 'earlier', words, 'unknown', vehicle, load FROM events_2;
-DROP TABLE events_2;
-ALTER TABLE jobs ADD COLUMN picked TEXT;
-ALTER TABLE jobs ADD COLUMN dropped TEXT;
-ALTER TABLE jobs ADD COLUMN outcome TEXT;
-ALTER TABLE jobs ADD COLUMN cause TEXT;
-ALTER TABLE jobs ADD COLUMN who TEXT;
-ALTER TABLE jobs ADD COLUMN action TEXT;
-UPDATE meta SET value = '3' WHERE name = 'version'""",
-}
-# What is removed once it is older than so many days: of each table which rows.
-OLD = {
-    'load_moves': 'at < ?',
-    'vehicle_states': 'at < ?',
-    'hold_changes': 'at < ?',
-    'waits': 'ended < ?',
-    'desk_times': 'at < ?',
-    'commands': 'at < ?',
-    'events': 'at < ?',
-    'vehicle_batteries': 'at < ?',
-    'alarms': 'ended < ?',
-    'jobs': 'ended < ?',
-}
-
+from .events import ABOUT, Event, cut, json_of, values_cut
+from .record_tables import MOST, MOVES, OLD, PORTION, SCHEMA, VERSION
 
 # The columns of an entry, without its number, and with it.
 COLUMNS = (
@@ -142,7 +29,7 @@ EVENT = ('n', *COLUMNS)
 INSERT_EVENT = f'INSERT INTO events ({", ".join(COLUMNS)}) VALUES ({", ".join("?" * len(COLUMNS))})'
 
 
-ENTRIES = 5_000_000  # the most entries of events that are kept
+LOG = 64 * 2**20  # bytes of SQLite's log, once it is begun anew
 
 
 class NoRecord(Exception):
@@ -165,11 +52,12 @@ def moment_of(text: str) -> int:
 
 def event_row(at: int, event: Event) -> list[Any]:
     """The values of an entry by `COLUMNS`."""
+    event = event.cut()
     cause = event.cause
-    row: list[Any] = [text_of(at), event.kind, event.what, event.words()]
+    row: list[Any] = [text_of(at), event.kind, event.what, cut(event.words())]
     row += [cause.of, cause.who, cause.call, cause.command]
     row += [event.about.get(name) for name in ABOUT]
-    return [*row, event.before, event.after, json.dumps(dict(event.more)) if event.more else None]
+    return [*row, event.before, event.after, json_of(event.more) if event.more else None]
 
 
 def entry_of(row: Sequence[Any]) -> dict[str, Any]:
@@ -227,6 +115,7 @@ class Record:
             self._base = opened(path)
             self._base.execute('PRAGMA journal_mode = WAL')
             self._base.execute('PRAGMA synchronous = NORMAL')
+            self._base.execute(f'PRAGMA journal_size_limit = {LOG}')
             version = self._made()
         except sqlite3.Error as fault:
             raise NoRecord(f'{shown(path)}: {fault}') from fault
@@ -267,9 +156,12 @@ class Record:
 
     def _put(self, statement: str, values: Sequence[Any] = ()) -> None:
         with self._lock:
-            if not self._base.in_transaction:
-                self._base.execute('BEGIN IMMEDIATE')
+            self._begin()
             self._base.execute(statement, values)
+
+    def _begin(self) -> None:
+        if not self._base.in_transaction:
+            self._base.execute('BEGIN IMMEDIATE')
 
     def commit(self) -> None:
         """What was put so far is in the file, whole."""
@@ -303,6 +195,14 @@ class Record:
     def set_meta(self, name: str, value: str) -> None:
         """Puts a value into the table `meta`."""
         self._put('INSERT OR REPLACE INTO meta VALUES (?, ?)', (name, value))
+
+    def has_look(self, kind: str) -> bool:
+        """Whether a kind of things was ever looked at, even if there was none of it."""
+        return self.meta(f'first look at {kind}') is not None
+
+    def note_look(self, kind: str, at: int) -> None:
+        """Notes in the table `meta` when a kind of things was first looked at, for `has_look`."""
+        self.set_meta(f'first look at {kind}', text_of(at))
 
     def _row(self, table: str, values: Mapping[str, Any]) -> None:
         columns = ', '.join(values)
@@ -364,7 +264,8 @@ class Record:
         self._row('jobs', values)
 
     def end_waits(self, at: int) -> None:
-        """No wait of an earlier run goes on that isn't seen again."""
+        """Marks each wait that is still open as ended at this moment, in the table `waits` alone.
+        It is called at a start: whoever still waits then is seen again, and gets a new row."""
         self._put('UPDATE waits SET ended = ? WHERE ended IS NULL', (text_of(at),))
 
     def wait(
@@ -415,16 +316,17 @@ class Record:
         """Something needs a person, since a moment. The number of its row."""
         about = {name: found.about().get(name) for name in ('vehicle', 'load', 'job', 'station')}
         row: dict[str, Any] = {'key': found.key, 'kind': found.kind, 'level': found.level, **about}
-        row |= {'words': found.words(), 'todo': found.todo(), 'began': text_of(began)}
+        row |= {'words': cut(found.words()), 'todo': cut(found.todo()), 'began': text_of(began)}
         with self._lock:
-            self._row('alarms', {**row, 'more': json.dumps(dict(found.values))})
+            self._row('alarms', {**row, 'more': json_of(values_cut(found.values))})
             return int(self.rows('SELECT last_insert_rowid()')[0][0])
 
     def change_alarm(self, number: int, found: Told) -> None:
         """An alarm says something else now."""
-        row = found.kind, found.level, found.words(), found.todo(), json.dumps(dict(found.values))
+        row = found.kind, found.level, cut(found.words()), cut(found.todo())
         names = 'kind = ?, level = ?, words = ?, todo = ?, more = ?'
-        self._put(f'UPDATE alarms SET {names} WHERE n = ?', (*row, number))
+        more = json_of(values_cut(found.values))
+        self._put(f'UPDATE alarms SET {names} WHERE n = ?', (*row, more, number))
 
     def end_alarm(self, number: int, at: int) -> None:
         """An alarm is over."""
@@ -443,11 +345,19 @@ class Record:
             self._row('drawing', {'node': node, 'x': x, 'y': y})
         self.set_meta('layout', layout)
 
-    def remove_old(self, before: int) -> None:
-        """Removes what is older than a moment, and of the entries all but the last."""
+    def remove_old(self, before: int) -> bool:
+        """Removes a portion of what is older than a moment, and of what is more than is kept.
+        Whether there may be more of it."""
+        is_more = False
         with self._lock:
-            most = '(SELECT coalesce(max(n), 0) FROM events) - ?'
-            self._put(f'DELETE FROM events WHERE n <= {most}', (ENTRIES,))
             for table, rows in OLD.items():
-                self._put(f'DELETE FROM {table} WHERE {rows}', (text_of(before),))
+                if table in MOST:
+                    rows = f'{rows} OR n <= (SELECT max(n) FROM {table}) - {MOST[table]}'
+                found = f'SELECT rowid FROM {table} WHERE {rows} LIMIT {PORTION}'
+                self._begin()
+                done = self._base.execute(
+                    f'DELETE FROM {table} WHERE rowid IN ({found})', {'before': text_of(before)}
+                )
+                is_more = is_more or done.rowcount == PORTION
             self.commit()
+        return is_more

@@ -7,6 +7,8 @@ import re
 from collections.abc import Mapping
 from dataclasses import dataclass
 
+from .messages import Line
+
 HEAD = 32_768  # bytes of a request before its body
 HEADERS = 100
 BODY = 262_144  # bytes of a command: a stocktake of 65,536 bytes as a text of JSON
@@ -19,11 +21,11 @@ LENGTH = re.compile('[0-9]{1,9}')
 
 
 class BadRequest(Exception):
-    """A request that is refused as it stands. Its `str()` is a sentence."""
+    """A request that is refused as it stands, and why."""
 
-    def __init__(self, status: int, sentence: str):
-        super().__init__(sentence)
-        self.status = status
+    def __init__(self, status: int, why: str | Line):
+        super().__init__(why if isinstance(why, str) else why.words())
+        self.status, self.why = status, why
 
 
 @dataclass(frozen=True)
@@ -90,5 +92,5 @@ def _length(method: str, headers: Mapping[str, str]) -> int:
     if method != 'POST' and length:
         raise BadRequest(400, f'A {method} has no body.')
     if length > BODY:
-        raise BadRequest(413, f'A command has a body of at most {BODY} bytes.')
+        raise BadRequest(413, Line('page.long', {'most': BODY}))
     return length

@@ -8,12 +8,17 @@ from collections.abc import Iterable, Mapping
 from ..common.layouts import Layout
 from ..common.names import VehicleKey
 from ..desk.reports import Holds, Stock
+from .messages import Line
 from .record import Record
-from .sentences import count
 
 
 class OtherDesk(Exception):
-    """Another desk answers. Its `str()` is a sentence that says how that is known."""
+    """Another desk answers. `line` is the sentence that says how that is known, and `str()` the
+    same in English."""
+
+    def __init__(self, name: str, **values: object):
+        self.line = Line(f'other.{name}', values)
+        super().__init__(self.line.words())
 
 
 class Same:
@@ -31,7 +36,7 @@ class Same:
         """Checks the layout."""
         kept = self.record.meta('layout')
         if kept is not None and (layout is None or layout.csv().decode() != f'{kept}\n'):
-            raise OtherDesk('It has another layout than it had.')
+            raise OtherDesk('layout')
 
     def check(self, stock: Stock, places: Mapping[str, str]) -> None:
         """Checks a stock report by the loads that were there, and learns from it."""
@@ -44,23 +49,20 @@ class Same:
                 for name in stations.keys() | self.stations.keys()
                 if stations.get(name) != self.stations.get(name)
             ]
-            raise OtherDesk(f'Station {min(apart)} is another one than it was, or is missing.')
+            raise OtherDesk('station', station=min(apart))
         vehicles = self.check_vehicles(stock.vehicles)
         if stock.left < self.left:
-            raise OtherDesk(f'{count(self.left, "load")} had left, and now it says {stock.left}.')
+            raise OtherDesk('left', count=self.left, left=stock.left)
         gone, left = places.keys() - stock.places().keys(), stock.left - self.left
         if left < len(gone):
-            missing = (
-                f'{count(len(gone), "load")} of those that were here are missing, as {min(gone)}'
-            )
-            raise OtherDesk(f'{missing}, and only {left} have left since.')
+            raise OtherDesk('missing', count=len(gone), load=min(gone), left=left)
         self.stations, self.left = stations, stock.left
         self.vehicles |= vehicles
 
     def check_holds(self, holds: Holds) -> None:
         """Checks a hold report, and learns from it: each vehicle holds at least its node."""
         if self.things and holds.things != self.things:
-            raise OtherDesk(f'It has {holds.things} nodes and edges, and it had {self.things}.')
+            raise OtherDesk('things', before=self.things, after=holds.things)
         self.check_vehicles(holds.nodes.values())
         if holds.things != self.things:
             self.things = holds.things
@@ -71,15 +73,12 @@ class Same:
         known = {str(name) for (name,) in self.record.rows('SELECT load FROM loads')}
         missing = known - set(loads)
         if missing:
-            raise OtherDesk(
-                f'{count(len(missing), "load")} of those that were here are not in its export, '
-                f'as {min(missing)}.'
-            )
+            raise OtherDesk('export', count=len(missing), load=min(missing))
 
     def check_vehicles(self, told: Iterable[VehicleKey]) -> set[str]:
         """Checks which vehicles there are, and returns their names."""
         vehicles = {str(key) for key in told}
         missing = self.vehicles - vehicles
         if missing:
-            raise OtherDesk(f'Vehicle {min(missing)} is missing.')
+            raise OtherDesk('vehicle', vehicle=min(missing))
         return vehicles

@@ -5,38 +5,25 @@ from typing import Any
 
 from ..desk.client import VehicleRow
 from .live_jobs import LiveJob
+from .messages import Line
 from .progress import Way
 from .waits import Wait
 
-
-def count(number: int, thing: str) -> str:
-    """So many things: `1 load`, `2 loads`."""
-    return f'{number} {thing}{"" if number == 1 else "s"}'
-
-
-def ended(words: str) -> str:
-    """Words with a full stop behind, where they don't end as a sentence."""
-    return words if words.endswith(('.', '?', '!')) else words + '.'
+# The members of a job that the page is told.
+JOB = ('load', 'origin', 'target', 'phase', 'order', 'vehicle', 'added', 'began')
 
 
 def job(told: LiveJob) -> dict[str, Any]:
     """A job as the page has it."""
-    return {
-        'load': told.load,
-        'origin': told.origin,
-        'target': told.target,
-        'phase': told.phase,
-        'order': told.order,
-        'vehicle': told.vehicle,
-        'added': told.added,
-        'began': told.began,
-    }
+    return {name: getattr(told, name) for name in JOB}
 
 
-def stops(told: Way) -> str:
+def stops(told: Way) -> list[Line]:
     """What is picked and dropped on a way, or where a drive leads."""
-    acts = ', '.join(f'{act.kind} {act.load} at {act.station}' for act in told.acts)
-    return acts or f'drive to {told.nodes[-1]}'
+    acts = [
+        Line(f'stop.{act.kind}', {'load': act.load, 'station': act.station}) for act in told.acts
+    ]
+    return acts or [Line('stop.drive', {'node': told.nodes[-1]})]
 
 
 def vehicle(row: VehicleRow) -> dict[str, Any]:

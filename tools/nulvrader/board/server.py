@@ -6,16 +6,16 @@ from __future__ import annotations
 import asyncio
 import contextlib
 import http
-import os
 import socket
-import stat
 import threading
 
 from .guard import HEADERS
 from .journal import log
+from .messages import Line
 from .answers import Answer, refused
 from .api.streams import Stream
 from .pages import Pages
+from .private_sockets import bound_to
 from .request import HEAD, BadRequest, Head, read_head
 
 MOST = 200  # connections at a time
@@ -41,31 +41,13 @@ def listening_at(port: int) -> socket.socket:
 def listening_in(path: str) -> socket.socket:
     """Listens on a socket in a folder. The user and the group of the board may open it, and nobody
     else."""
-    listener = socket.socket(socket.AF_UNIX)
+    listener = bound_to(path, socket.SOCK_STREAM)
     try:
-        _remove_left(path)
-        before = os.umask(0o117)
-        try:
-            listener.bind(path)
-        finally:
-            os.umask(before)
         listener.listen(MOST)
     except OSError:
         listener.close()
         raise
     return listener
-
-
-def _remove_left(path: str) -> None:
-    """Removes the socket of a board that was killed. One on which a program listens stays."""
-    with contextlib.suppress(FileNotFoundError):
-        if not stat.S_ISSOCK(os.lstat(path).st_mode):
-            return
-        with socket.socket(socket.AF_UNIX) as probe:
-            try:
-                probe.connect(path)
-            except ConnectionRefusedError:
-                os.unlink(path)
 
 
 class Pace:
@@ -97,7 +79,8 @@ class Connection:
         self.task = asyncio.current_task()
 
     async def serve(self, pages: Pages, pace: Pace) -> None:
-        """Reads the request, and answers it."""
+        """Reads one request and answers it. Raises `EOFError`, `TimeoutError` or `OSError` where
+        the client goes away or doesn't take its answer in time."""
         method = 'GET'
         answer: Answer | Stream | None = None
         try:
@@ -107,9 +90,9 @@ class Connection:
                 answer = pages.refusal(head)
                 body = b'' if answer else await self.source.readexactly(head.length)
         except BadRequest as fault:
-            answer = refused(fault.status, str(fault))
+            answer = refused(fault.status, fault.why)
         except TimeoutError:
-            answer = refused(408, f'The request did not come within {REQUEST:g} seconds.')
+            answer = refused(408, Line('page.late', {'seconds': f'{REQUEST:g}'}))
         if answer is None:
             self.may_end = method != 'POST'
             answer = await self._answer(pages, head, body)
@@ -130,11 +113,13 @@ class Connection:
 
     @staticmethod
     async def _answer(pages: Pages, head: Head, body: bytes) -> Answer | Stream:
+        """Returns what the pages answer. A fault of the board is logged and answered by 500, so
+        that it ends this connection alone."""
         try:
             return await pages.answer(head, body)
         except Exception as fault:  # of the board itself: the others are still answered
             log(f'a request failed: {fault!r}')
-            return refused(500, 'The board has failed at this; its log says why.')
+            return refused(500, Line('page.failed'))
 
     def _write_head(self, status: int, *lines: str) -> None:
         head = [f'HTTP/1.1 {status} {NAMES[status]}', 'Connection: close']
@@ -184,8 +169,8 @@ class Server(threading.Thread):
         self._loop.run_until_complete(self._serve())
 
     def stop(self) -> None:
-        """Takes no connection any more, and waits until the commands that are being carried out are
-        answered, at most for a second."""
+        """Waits for at most a second until the commands that are being carried out are answered,
+        and ends the thread with all of its connections."""
         self.pages.commands.wait(1.0)
         self._loop.call_soon_threadsafe(self._over.set)
         self.join(0.5)

@@ -36,7 +36,7 @@ class Stores:
             self.since[name] = None if since is None else moment_of(since)
             self.news.shown.put('load', name, {'place': place, 'since': self.since[name]})
         self.left = record.rows("SELECT count(*) FROM loads WHERE place = 'left'")[0][0]
-        self.first = not self.places and not self.left
+        self.first = not (self.places or self.left or record.has_look('stock'))
         times = 'added, began, ended, picked, dropped'
         columns = f'job, load, origin, target, phase, order_name, vehicle, {times}'
         rows = record.rows(f"SELECT {columns} FROM jobs WHERE phase IN ('waiting', 'riding')")
@@ -53,6 +53,8 @@ class Stores:
         for load, place in places.items():
             if self.places.get(load) != place:
                 self._move(load, place, is_unseen)
+        if self.first:
+            self.news.record.note_look('stock', self.news.at)
         self.first = False
         for station in stock.stations.values():
             taken, row = len(station.loads), (station.name, station.node, station.capacity)
@@ -177,7 +179,7 @@ class Stores:
         """Which action of a job has failed, where its vehicle has said so."""
         end = self.news.ends.get(job.order or '')
         for number, kind, load in end.acts if end else ():
-            result = self.news.failures.get(f'{job.order}.{number}')
+            result = self.news.failures.get((job.vehicle or '', f'{job.order}.{number}'))
             if load == job.load and result is not None:
                 return {'action': kind, 'result': f' ({result})' if result else ''}
         return {}

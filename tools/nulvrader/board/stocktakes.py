@@ -6,6 +6,8 @@ from collections.abc import Mapping
 
 from ..common.counts import CountFile, Records
 from ..common.names import new_reference
+from ..common.tables import Fault, Text
+from .messages import Line
 from .previews import Look
 from .scene import Scene
 
@@ -21,7 +23,7 @@ def stocktake(scene: Scene, values: Mapping[str, str]) -> Look:
     if file.faults:
         look.say('count.refused')
         for fault in file.faults[:MOST]:
-            look.warn(True, 'said', words=fault.on_page())
+            look.warns.append(line_of(fault))
         look.warn(len(file.faults) > MOST, 'more', count=len(file.faults) - MOST)
         return look
     look.say('count.moved', loads=len(moves))
@@ -33,6 +35,18 @@ def stocktake(scene: Scene, values: Mapping[str, str]) -> Look:
     if unknown:
         look.say('count.unknown', names=unknown[:MOST])
     return look
+
+
+def line_of(fault: Fault) -> Line:
+    """What is wrong with the file, and what to do without the command line."""
+    parts = [part for part in (fault.rule, fault.remedy) if part]
+    says = [
+        Line(f'count.{part.name}', part.values).told() for part in parts if isinstance(part, Text)
+    ]
+    values = {'words': ': '.join(parts), 'says': says}
+    if fault.line is None:
+        return Line('look.fault.file', values)
+    return Line('look.fault', {'line': fault.line, **values})
 
 
 def records_of(scene: Scene) -> Records:

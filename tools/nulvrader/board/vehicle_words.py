@@ -1,8 +1,8 @@
 """What a vehicle says of itself that the desk does not keep, as a gateway passes it on: read
 strictly, within bounds, and all texts as a page and a terminal may show them.
 
-A datagram is a state of VDA 5050, of which these members are read (docs/OPERATE.md, *What vehicles
-say*); or it has `connectionState`, as a connection message does."""
+A datagram is a state of VDA 5050, of which these members are read (docs/BOARD_API.md, *What
+vehicles say*); or it has `connectionState`, as a connection message does."""
 from __future__ import annotations
 
 import json
@@ -12,6 +12,7 @@ from typing import Any
 
 from ..common.names import BadName, VehicleKey
 from ..common.text import shown
+from .messages import Line
 
 LONGEST = 16_384  # bytes of a datagram
 ERRORS, FAILED, REFERENCES = 16, 16, 6
@@ -73,14 +74,16 @@ class Words:
         values = {name: value for name, value in vars(self).items() if value is not None}
         return replace(before, **values)
 
-    def reasons(self) -> list[str]:
+    def reasons(self) -> list[Line]:
         """Why the desk gives it no orders, in a few words each."""
         found = []
         if self.stop not in (None, NONE):
-            found.append(f'emergency stop {self.stop}')
-        found += [error.words() for error in self.errors or () if error.level == 'FATAL']
+            found.append(Line('why.stop', {'stop': self.stop}))
+        for error in self.errors or ():
+            if error.level == 'FATAL':
+                found.append(Line('why.error', {'words': error.words()}))
         if self.mode is not None and self.mode not in READY:
-            found.append(f'operating mode {self.mode}')
+            found.append(Line('why.mode', {'mode': self.mode}))
         return found
 
 

@@ -13,7 +13,7 @@ from .record import moment_of
 from .vehicle_words import Error, Failed, Words
 
 KEEP = 10_000  # milliseconds from one writing of words that say nothing new to the next
-SPAN, MOST = 600_000, 60  # in so many milliseconds so many entries of a vehicle at most
+SPAN, MOST = 600_000, 60  # in so many milliseconds so many entries and rows of a vehicle at most
 STEP = 5.0  # percent of a battery, from one row to the next
 LOW, ENOUGH = 20.0, 30.0  # percent: below it is low, and above it is not low any more
 COLUMNS = ('mode', 'stop', 'field', 'battery', 'charging', 'map', 'connection')
@@ -25,7 +25,8 @@ NOTHING = Words(mode='AUTOMATIC', stop='NONE', field=False, errors=(), failed=()
 class Said:
     """What is known of a vehicle's words: the last ones, their moment, since when things are so, by
     their names, when they were kept last, the battery of the last row, whether it is low, and how
-    many entries there were since a moment."""
+    many entries and rows there were since a moment. `failures` are those of the failed actions that
+    are of no cancelled order."""
 
     words: Words = NOTHING
     at: int = 0
@@ -35,6 +36,7 @@ class Said:
     is_low: bool = False
     begun: int = 0
     count: int = 0
+    failures: frozenset[str] = frozenset()
 
 
 def name_of(error: Error) -> str:
@@ -61,15 +63,15 @@ class Keeper:
         position = None if row['x'] is None or row['y'] is None else (row['x'], row['y'])
         failed = tuple(Failed(**one) for one in json.loads(row['failed']))
         words = Words(**values, position=position, errors=tuple(errors), failed=failed)
-        for one in failed:  # those that were told: their alarms are open
-            key = f'action {row["vehicle"]} {one.action}'
-            if self.news.record.rows(
-                'SELECT 1 FROM alarms WHERE ended IS NULL AND key = ?', (key,)
-            ):
-                self.news.fails_action(one.action, one.result)
         at, since = moment_of(row['at']), json.loads(row['since'])
         is_low = words.battery is not None and words.battery < LOW
-        self.said[row['vehicle']] = Said(words, at, since, at, words.battery, is_low)
+        said = Said(words, at, since, at, words.battery, is_low)
+        question = "SELECT 1 FROM alarms WHERE ended IS NULL AND kind = 'action' AND vehicle = ?"
+        if self.news.record.rows(question, (row['vehicle'],)):
+            said.failures = frozenset(one.action for one in failed)
+            for one in failed:
+                self.news.fails_action(row['vehicle'], one.action, one.result)
+        self.said[row['vehicle']] = said
         self._show(row['vehicle'])
 
     def take(self, heard: Mapping[str, Sequence[Words]], known: Sequence[str], at: int) -> None:
@@ -86,6 +88,7 @@ class Keeper:
         changes = list(changes_of(before, words))
         for what, old, new, more in changes:
             self._tell(vehicle, said, what, (old, new), more)
+        said.failures &= {one.action for one in words.failed or ()}
         self._note_since(said, words)
         said.words, said.at = words, at
         self._charge(vehicle, said)
@@ -98,22 +101,33 @@ class Keeper:
     def _tell(
         self, vehicle: str, said: Said, what: str, values: tuple[Any, Any], more: Mapping[str, Any]
     ) -> None:
-        """An entry of a change, unless there were too many of this vehicle: then one says so."""
+        """An entry of a change, unless there were too many of this vehicle."""
         if what == 'action' and self._is_cancelled(more['id']):
             return
         if what == 'action':
-            self.news.fails_action(more['id'], more['result'])
-        at = self.news.at
-        if at >= said.begun + SPAN:
-            said.begun, said.count = at, 0
-        said.count += 1
-        about = {'vehicle': vehicle}
-        if said.count > MOST:
-            if said.count == MOST + 1:
-                self.news.event('said.many', BOARD, about, more={'minutes': SPAN // 60_000})
+            said.failures |= {more['id']}
+        if not self.may_tell(vehicle):
             return
+        if what == 'action':
+            self.news.fails_action(vehicle, more['id'], more['result'])
+        about = {'vehicle': vehicle}
         before, after = (None if value is None else str(value) for value in values)
         self.news.event(f'said.{what}', VEHICLE, about, before=before, after=after, more=more)
+
+    def may_tell(self, vehicle: str, count: int = 1) -> bool:
+        """Counts entries and rows that a vehicle's words make. Whether they may be made; an entry
+        tells of the first ones that may not."""
+        said = self.said.get(vehicle)
+        if said is None:
+            return True
+        at = self.news.at
+        if not said.begun <= at < said.begun + SPAN:
+            said.begun, said.count = at, 0
+        before, said.count = said.count, said.count + count
+        if before <= MOST < said.count:
+            more = {'minutes': SPAN // 60_000}
+            self.news.event('said.many', BOARD, {'vehicle': vehicle}, more=more)
+        return said.count <= MOST
 
     def _is_cancelled(self, action: str) -> bool:
         """Whether an action is of an order that was cancelled, whose actions all end as failed."""
@@ -138,19 +152,23 @@ class Keeper:
             del said.since[name]
 
     def _charge(self, vehicle: str, said: Said) -> None:
-        """The battery, in rows of five percent; an entry where it comes to be low, or is so no
-        more."""
+        """Records the battery of a vehicle: a row where its charge has changed by `STEP` percent
+        since the last row, and an entry where it becomes low (below `LOW`) or is low no more (at
+        `ENOUGH`). Both count as rows of the vehicle's words, so a vehicle whose charge jumps to
+        and fro can't fill the record."""
         charge, about = said.words.battery, {'vehicle': vehicle}
         if charge is None:
             return
-        if said.battery is None or abs(charge - said.battery) >= STEP:
+        is_new = said.battery is None or abs(charge - said.battery) >= STEP
+        if is_new and self.may_tell(vehicle):
             said.battery = charge
             self.news.record.battery(self.news.at, vehicle, charge, said.words.charging)
         is_low = charge < (ENOUGH if said.is_low else LOW)
         if is_low != said.is_low:
             said.is_low = is_low
             what = 'said.battery.low' if is_low else 'said.battery.enough'
-            self.news.event(what, VEHICLE, about, after=f'{charge:g}')
+            if self.may_tell(vehicle):
+                self.news.event(what, VEHICLE, about, after=f'{charge:g}')
 
     def _show(self, vehicle: str) -> None:
         said = self.said[vehicle]

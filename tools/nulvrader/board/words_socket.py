@@ -4,14 +4,12 @@ taken; those that come faster wait in the socket, and then their senders are tol
 full."""
 from __future__ import annotations
 
-import contextlib
-import os
 import socket
-import stat
 import threading
 import time
 from collections import deque
 
+from .private_sockets import bound_to
 from .vehicle_words import LONGEST, NoWords, Words, read_words
 
 RATE = 400  # datagrams in a second, at most
@@ -23,31 +21,9 @@ LOOK = 0.5  # seconds from one look whether it is to end to the next
 def hearing_in(path: str) -> socket.socket:
     """Listens on a socket for datagrams. The user and the group of the board may write to it, and
     nobody else."""
-    heard = socket.socket(socket.AF_UNIX, socket.SOCK_DGRAM)
-    try:
-        _remove_left(path)
-        before = os.umask(0o117)
-        try:
-            heard.bind(path)
-        finally:
-            os.umask(before)
-        heard.settimeout(LOOK)
-    except OSError:
-        heard.close()
-        raise
+    heard = bound_to(path, socket.SOCK_DGRAM)
+    heard.settimeout(LOOK)
     return heard
-
-
-def _remove_left(path: str) -> None:
-    """Removes the socket of a board that was killed. One on which a program listens stays."""
-    with contextlib.suppress(FileNotFoundError):
-        if not stat.S_ISSOCK(os.lstat(path).st_mode):
-            return
-        with socket.socket(socket.AF_UNIX, socket.SOCK_DGRAM) as probe:
-            try:
-                probe.connect(path)
-            except ConnectionRefusedError:
-                os.unlink(path)
 
 
 class Heard(threading.Thread):
@@ -64,6 +40,8 @@ class Heard(threading.Thread):
         self._over = threading.Event()
 
     def run(self) -> None:
+        """Takes datagrams until the thread is stopped, at most `RATE` in a second: what comes
+        faster is left in the socket."""
         while not self._over.is_set():
             begun, count = time.monotonic(), 0
             while count < RATE and time.monotonic() < begun + 1 and not self._over.is_set():

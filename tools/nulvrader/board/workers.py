@@ -41,11 +41,13 @@ class Workers:
         return await done
 
     def wait(self, seconds: float) -> None:
-        """Waits until nothing is done any more, at most for so many seconds."""
+        """Waits until no work is left, for at most so many seconds."""
         with self._changed:
             self._changed.wait_for(lambda: not self._left, seconds)
 
     def _serve(self) -> None:
+        """Does one piece of work after the other, for ever. Each hands its result, or its fault, to
+        the loop that waits for it."""
         while True:
             work, done = self._work.get()
             try:

@@ -9,6 +9,8 @@ from typing import Any
 from .reading import Reading, Row
 
 MOST = 1000  # events at once
+MOST_BYTES = 500_000  # of all events of a batch but the first one: a client takes a million
+SPAN = 20_000  # numbers that are looked through for a batch: kinds may be rare
 GREATEST = 2**53 - 1  # the greatest number that JSON carries everywhere
 OTHER_NAMES = {'n': 'id', 'order_name': 'order', 'words': 'text'}  # of columns, as members
 AS_JSON = ('more',)  # columns whose text is JSON
@@ -98,18 +100,31 @@ def read_events(reading: Reading, asked: Asked, last: int) -> Batch:
     with reading.moment():
         kept = kept_in(reading, last)
         check(asked, kept)
+        begin = max(asked.after, (kept.first or last + 1) - 1)
+        end = min(begin + SPAN, last)
         question = 'SELECT * FROM events WHERE n > ? AND n <= ? ORDER BY n LIMIT ?'
-        values: list[Any] = [asked.after, last]
+        values: list[Any] = [begin, end]
         if asked.kinds is not None:
             marks = ', '.join('?' * len(asked.kinds))
             question = question.replace(' ORDER', f' AND kind IN ({marks}) ORDER')
             values += sorted(asked.kinds)
         rows = reading.rows(question, [*values, asked.most + 1])
-    more = len(rows) > asked.most
-    events = tuple(event_of(row) for row in rows[: asked.most])
-    after = events[-1]['id'] if more else max(last, asked.after)
+    events = within(tuple(event_of(row) for row in rows[: asked.most]))
+    is_cut = len(rows) > len(events)
+    after = events[-1]['id'] if is_cut else max(end, asked.after)
     before = kept.first - 1 if kept.first else kept.last
-    return Batch(kept, events, after, 0 < asked.after < before, more)
+    return Batch(kept, events, after, 0 < asked.after < before, more=after < last)
+
+
+def within(events: tuple[Row, ...]) -> tuple[Row, ...]:
+    """Returns as many of the first events as have no more than `MOST_BYTES` as JSON, and at least
+    one."""
+    size = 0
+    for place, event in enumerate(events):
+        size += len(text_of(event))
+        if place and size > MOST_BYTES:
+            return events[:place]
+    return events
 
 
 def check(asked: Asked, kept: Kept) -> None:

@@ -93,7 +93,7 @@ class Histogram:
         self.counts = [0] * (len(self.ends) + 1)
 
     def add(self, seconds: float) -> None:
-        """Takes a time."""
+        """Counts a time that was measured, in the bucket that it falls into."""
         with self.lock:
             self.counts[bisect.bisect_left(self.ends, seconds)] += 1
             self.sum += seconds

@@ -90,6 +90,8 @@ class Watch:
             self.seen, self.newest = rows[-1]['n'], moment_of(rows[-1]['at'])
 
     def _count_job(self, reading: Reading, name: str, what: str) -> None:
+        """Counts a job by its outcome, and how long it waited and took, where this event has ended
+        it. Other events of jobs are passed over, so that each job counts once."""
         row = reading.row('SELECT outcome, added, began, ended FROM jobs WHERE job = ?', (name,))
         if what not in ENDS or row is None or row['outcome'] is None:
             return
@@ -106,7 +108,7 @@ class Watch:
                 now=time.time_ns() // 1_000_000,
                 desk=self.shown.get('desk', ''),
                 asking=self.asks.asking,
-                unwritten=self.shown.get('fault', 'record'),
+                unwritten=(self.shown.get('fault', 'record') or {}).get('words'),
                 unread=feed.fault,
                 looked=time.monotonic() - feed.looked,
                 free=self._free(),
@@ -168,6 +170,8 @@ class Watch:
         ]
 
     def _of_record(self, reading: Reading) -> list[Family]:
+        """Returns the values that are read from `board.db` and its disk. What can't be read is left
+        out, so that the others are still answered."""
         found = []
         with contextlib.suppress(sqlite3.Error), reading.moment():
             question = "SELECT phase, count(*) AS n, min(added) AS at FROM jobs WHERE ended IS NULL"

@@ -1,7 +1,7 @@
 // What needs a person, first of all on the page: since when, what to do, and who has taken it on.
 
 import { button, el, keyed, part, set, show, text } from './dom.js';
-import { say } from './messages.js';
+import { faultOf, say } from './messages.js';
 import { clock, day, span } from './words.js';
 
 const NAME = 'board.name'; // what is kept of who looks here, where no proxy names them
@@ -132,7 +132,7 @@ export class Alarms {
     const told = await this.ask('take', { alarm: row.n, take: !row.taken, name: this.name.value.trim() });
     const unnamed = Boolean(told.fault) && !this.name.value.trim();
     show(this.who, unnamed);
-    text(this.fault, told.fault ?? '');
+    text(this.fault, faultOf(told));
     show(this.fault, Boolean(told.fault));
     if (unnamed) this.name.focus();
   }

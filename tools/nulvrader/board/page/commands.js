@@ -1,7 +1,7 @@
 // Commands: what each needs is asked, what it will do is shown, and then it is done.
 
 import { button, el } from './dom.js';
-import { has, say } from './messages.js';
+import { faultOf, has, say, sayAll } from './messages.js';
 import { Stops } from './stops.js';
 
 const WAYS = ['free', 'all']; // in place of a number of edges
@@ -122,7 +122,7 @@ export class Commands {
   async look(command, values) {
     const told = await this.ask('look', { command: command.command, values });
     if (told.fault) {
-      this.form(command, values, told.fault);
+      this.form(command, values, faultOf(told));
       return;
     }
     const run = button(say('dialog.do'), async () => {
@@ -143,8 +143,8 @@ export class Commands {
     const close = button(say('dialog.close'), () => this.dialog.close(), { class: 'main' });
     const back = failed ? button(say('dialog.back'), () => this.form(command, values)) : null;
     this.frame(titleOf(command),
-      el('p', { class: failed ? 'answer failed' : 'answer done', role: 'alert' }, told.fault ?? told.text),
-      told.advice ? el('p', { class: 'advice' }, told.advice) : null,
+      el('p', { class: failed ? 'answer failed' : 'answer done', role: 'alert' }, told.fault ? faultOf(told) : sayAll(told.lines.says)),
+      told.advice ? el('p', { class: 'advice' }, sayAll(told.lines.advice)) : null,
       el('div', { class: 'buttons' }, back, close));
     this.focus(close);
   }

@@ -1,7 +1,7 @@
 // What happened, the newest first: the last as it comes, or what is looked for, page by page.
 
 import { button, el, keyed, part, set, show, text } from './dom.js';
-import { has, say } from './messages.js';
+import { faultOf, has, say } from './messages.js';
 import { clock, day } from './words.js';
 
 const MOST = 200;
@@ -82,7 +82,7 @@ export class Events {
 
   async take(query, before) {
     const told = await this.find(query);
-    this.fault = told.fault ?? '';
+    this.fault = faultOf(told);
     this.found = [...before, ...(told.events ?? [])];
     this.hasOlder = Boolean(told.older);
     this.view.redraw();

@@ -6,7 +6,7 @@ import { el, keyed, set, show, text } from './dom.js';
 import { Events } from './events.js';
 import { Jobs } from './jobs.js';
 import { Plan } from './map.js';
-import { number, say, translate } from './messages.js';
+import { number, say, sayAll, translate } from './messages.js';
 import { Stock } from './stock.js';
 import { Store } from './store.js';
 import { Vehicles } from './vehicles.js';
@@ -101,7 +101,7 @@ async function post(path, body) {
     });
     if (answer.status === 401 || answer.status === 403) {
       const told = await answer.json().catch(() => ({}));
-      return { fault: told.fault ?? say('board.mayNot') };
+      return { fault: say('board.mayNot'), ...told };
     }
     return await answer.json();
   } catch {
@@ -160,7 +160,7 @@ function drawHeader() {
             : say('desk.down', { span: span(store.now() - desk.since) });
   set(byId('desk'), 'class', `desk ${silent || (desk && !desk.up) ? 'bad' : desk && !waiting ? 'good' : 'warn'}`);
   text(byId('desk').querySelector('.words'), words);
-  set(byId('desk'), 'title', desk ? `${desk.up ? '' : `${desk.fault}; `}${say('stock.since', { day: day(desk.since) })}` : '');
+  set(byId('desk'), 'title', desk ? `${desk.up ? '' : `${desk.says ? sayAll(desk.says) : desk.fault} `}${say('stock.since', { day: day(desk.since) })}` : '');
   document.body.classList.toggle('stale', silent || waiting > 0 || Boolean(desk && !desk.up));
   text(byId('clock'), clock(store.now()));
   drawCounts();
@@ -195,8 +195,8 @@ function drawAlarms(silent) {
     const words = say('alarms.board', { span: span(Date.now() - store.told) });
     rows.push({ key: 'board', level: 'bad', words, since: store.told });
   }
-  for (const fault of store.kind('fault').values()) {
-    rows.push({ key: `fault ${fault}`, level: 'bad', words: fault, since: 0 });
+  for (const [key, fault] of store.kind('fault')) {
+    rows.push({ key: `fault ${key}`, level: 'bad', words: sayAll(fault.says), since: 0 });
   }
   alarms.update(store, rows);
 }

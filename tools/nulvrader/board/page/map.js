@@ -112,7 +112,7 @@ export class Plan {
     if (has('hold')) this.updateHolds(store, colours);
     if (has('way', 'vehicle')) this.updateWays(store, names, colours, picked);
     if (has('station')) this.updateStations(store, picked);
-    if (has('vehicle', 'wait', 'circles')) this.updateVehicles(store, names, colours, picked);
+    if (has('vehicle', 'wait', 'circles', 'job')) this.updateVehicles(store, names, colours, picked);
     this.element.classList.toggle('many', names.length > MANY);
     this.count = names.length;
   }

@@ -1,6 +1,7 @@
 // The texts of the page in the language of the browser: the table of the board, messages.json.
 
 const LANGUAGES = ['en', 'de'];
+const JOINED = { said: ' ', list: ', ', parts: ': ' }; // what stands between sentences
 const VALUE = /\{(\w+)(?:\|(\w+)(?::(\w+))?)?\}/g;
 
 const table = await (await fetch('messages.json')).json();
@@ -15,12 +16,22 @@ export const has = (name) => Object.hasOwn(table, name);
 /** The text of this name with these values, as `messages.py` of the board says it. */
 export function say(name, values = {}) {
   if (!has(name)) return name;
-  return table[name][column].replace(VALUE, (whole, member, how, of) => (
-    how === 'text' ? say(`${of}.${values[member]}`, values) : valueOf(values[member] ?? '', how, of)));
+  return table[name][column].replace(VALUE, (whole, member, how, of) => {
+    if (how === 'text') return say(`${of}.${values[member]}`, values);
+    const says = JOINED[how] ? values[of ?? 'says'] : null;
+    if (says?.length) return sayAll(says, JOINED[how]);
+    return valueOf(values[member] ?? '', how, of);
+  });
 }
 
+/** Sentences that the board tells, each with the name of its row and its values. */
+export const sayAll = (says, between = ' ') => says.map(([name, values]) => say(name, values)).join(between);
+
+/** Why the board has not done what it was asked for. */
+export const faultOf = (told) => (told.says ? sayAll(told.says) : told.fault ?? '');
+
 function valueOf(value, how, of) {
-  if (how === 'place' || how === 'spot') return place(String(value), how);
+  if (how === 'place' || how === 'spot' || how === 'thing') return place(String(value), how);
   if (how === 'many') return say(`many.${of}.${Number(value) === 1 ? '1' : 'n'}`, { count: number(value) });
   if (how === 'name' && has(`${of}.${value}`)) return say(`${of}.${value}`);
   return Array.isArray(value) ? value.join(', ') : String(value);

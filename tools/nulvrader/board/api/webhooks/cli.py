@@ -10,7 +10,7 @@ import threading
 from ....common import entry
 from ....common.text import shown
 from ....desk import arguments
-from .config import BadConfig, Hook, read_hooks
+from .config import BadConfig, Hook, check_mode, read_hooks
 from .ledger import Ledger, NoLedger
 from .receiver import Receiver
 from .sender import IDLE, Clock, Sender
@@ -54,8 +54,10 @@ def words(text: str) -> argparse.ArgumentParser:
 
 def source_of(said: argparse.Namespace) -> Source:
     """The board that the options name."""
-    file = said.password_file
-    password = arguments.first_line(file) if file else None
+    file, password = said.password_file, None
+    if file:
+        check_mode(file, shown(file))
+        password = arguments.first_line(file)
     return Source(said.board, user=said.user, password=password, cafile=said.ca)
 
 

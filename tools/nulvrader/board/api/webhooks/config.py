@@ -44,7 +44,9 @@ class Hook:
 
 
 def read_hooks(path: str) -> tuple[Hook, ...]:
-    """Reads the configuration, or raises `BadConfig`, and OSError where a file can't be read."""
+    """Reads the configuration, or raises `BadConfig`, and OSError where a file can't be read. The
+    address of a receiver may be a secret."""
+    check_mode(path, shown(path))
     try:
         tables = tomllib.loads(plain_files.read_text(path).decode())
     except (UnicodeDecodeError, tomllib.TOMLDecodeError) as fault:
@@ -107,11 +109,16 @@ def kinds_of(name: str, table: dict[str, Any]) -> tuple[str, ...] | None:
     return tuple(kinds)
 
 
-def read_secrets(name: str, path: str) -> tuple[bytes, ...]:
-    """Reads the secrets of a file that nobody else may read: the new one first."""
+def check_mode(path: str, what: str) -> None:
+    """Raises `BadConfig` where everybody may read a file that has a secret."""
     mode = os.stat(path).st_mode
     if stat.S_ISREG(mode) and mode & 0o007:
-        raise BadConfig(f'{name}: everybody may read the file of its secret: chmod 640 it.')
+        raise BadConfig(f'{what}: everybody may read it: chmod 640 it.')
+
+
+def read_secrets(name: str, path: str) -> tuple[bytes, ...]:
+    """Reads the secrets of a file that nobody else may read: the new one first."""
+    check_mode(path, f'{name}: the file of its secret')
     try:
         return secrets_of(plain_files.read_text(path, 4096).decode('ascii'))
     except (UnicodeDecodeError, BadSecret) as fault:

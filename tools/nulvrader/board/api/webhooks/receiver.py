@@ -7,7 +7,6 @@ import http.client
 import ipaddress
 import re
 import socket
-import ssl
 import time
 from dataclasses import dataclass
 
@@ -71,7 +70,7 @@ class Receiver:
 
     def __init__(self, hook: Hook) -> None:
         self.hook = hook
-        self._context = ssl.create_default_context(cafile=hook.ca) if hook.place.is_tls else None
+        self._context = wire.tls_context(hook.ca) if hook.place.is_tls else None
 
     def post(self, body: bytes, headers: dict[str, str]) -> Result:
         """Posts a message, and returns what came of it."""

@@ -52,7 +52,9 @@ class Source:
         return client
 
     def read(self, record: str, after: int, kinds: tuple[str, ...] | None, most: int) -> Events:
-        """Returns events behind a number; of any record where it is ''."""
+        """Asks the board for at most `most` events behind the number `after`, of all kinds where
+        `kinds` is None. Raises `OtherRecord` where the board has another record than `record`,
+        which may be '' for any, and `NoEvents` where it doesn't answer with events."""
         target = f'/api/events?after={after}&limit={most}'
         target += f'&kinds={",".join(kinds)}' if kinds is not None else ''
         target += f'&record={record}' if record else ''
