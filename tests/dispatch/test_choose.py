@@ -4,12 +4,14 @@ import collections
 import random
 import time
 import unittest
+from collections.abc import Callable, Iterable
 
 from nulvrader.desk.client import Vehicle
 from nulvrader.dispatch import choose
-from nulvrader.dispatch.choose import Chooser
+from nulvrader.dispatch.choose import Chooser, Proposal
 from nulvrader.dispatch.job_book import Waiting
 from nulvrader.dispatch.deadlock import finishing, look
+from nulvrader.dispatch.lanes import Way
 from nulvrader.dispatch.snapshot import Seen
 from nulvrader.dispatch.judge import Judge
 from nulvrader.dispatch.traffic import Still, Traffic
@@ -22,7 +24,7 @@ from tests.support.ways import CASES, PLENTY, random_case
 assert TOOLS
 
 
-def random_traffic(chance):
+def random_traffic(chance: random.Random) -> tuple[Traffic, str, Way]:
     """Vehicles with orders, perhaps one that does not go on, and one without an order, with a way
     that it may be given."""
     while True:
@@ -52,7 +54,7 @@ def random_traffic(chance):
             )
 
 
-def keeps(judge, before, after, more=()):
+def keeps(judge: Judge, before: Traffic, after: Traffic, more: Iterable[str] = ()) -> bool:
     """Whether all that the judge says to finish before do after, and these, by looks with states
     enough."""
     for (ways, walls), found in zip(after.views(), judge.outlook(before).found):
@@ -62,15 +64,14 @@ def keeps(judge, before, after, more=()):
     return True
 
 
-def makes_room(traffic, name, finish):
+def makes_room(traffic: Traffic, name: str, finish: Iterable[str]) -> bool:
     """Whether a vehicle is in the way of one that finishes, over others that go on."""
-    found, more = set(finish), True
-    while more:
-        more = {
-            one
-            for one in traffic.ways
-            if one not in found and not found.isdisjoint(traffic.in_the_way(one))
-        }
+    found = set(finish)
+    while more := {
+        one
+        for one in traffic.ways
+        if one not in found and not found.isdisjoint(traffic.in_the_way(one))
+    }:
         found |= more
     return name in found
 
@@ -79,8 +80,9 @@ class Judged(unittest.TestCase):
     """What a judge says that has seen other traffic before, and one that has seen none: what it
     allows is what looks say with states enough, and so is nearly all that it does not."""
 
-    def test_what_may_be_started(self):
-        chance, old, counts = random.Random(72), Judge(PLENTY, PLENTY), collections.Counter()
+    def test_what_may_be_started(self) -> None:
+        chance, old = random.Random(72), Judge(PLENTY, PLENTY)
+        counts: collections.Counter[str] = collections.Counter()
         for case in range(CASES // 3):
             traffic, idle, way = random_traffic(chance)
             for judge in (Judge(PLENTY, PLENTY), old):
@@ -103,9 +105,10 @@ class Judged(unittest.TestCase):
             self.assertGreater(counts[kind], CASES // 300, kind)
         self.assertLess(20 * counts['without one plan for all'], counts['True, plainly None'])
 
-    def test_what_may_be_released(self):
+    def test_what_may_be_released(self) -> None:
         """Release after release: what could finish at first does at the end."""
-        chance, judge, counts = random.Random(73), Judge(PLENTY, PLENTY), collections.Counter()
+        chance, judge = random.Random(73), Judge(PLENTY, PLENTY)
+        counts: collections.Counter[object] = collections.Counter()
         for case in range(CASES // 6):
             traffic, _, _ = random_traffic(chance)
             could = judge.finish_now(traffic)
@@ -131,10 +134,11 @@ class Judged(unittest.TestCase):
             self.assertGreater(counts[kind], CASES // 60, kind)
         self.assertLess(20 * counts['without one plan for all'], counts[True])
 
-    def test_with_the_states_of_the_program(self):
+    def test_with_the_states_of_the_program(self) -> None:
         """What a judge with its own numbers of states allows is right by looks with states enough.
         These cases are small, so it allows nearly all that may be."""
-        chance, judge, counts = random.Random(75), Judge(), collections.Counter()
+        chance, judge = random.Random(75), Judge()
+        counts: collections.Counter[str] = collections.Counter()
         for case in range(CASES // 6):
             traffic, idle, way = random_traffic(chance)
             judge.begin_turn()
@@ -158,7 +162,7 @@ class Judged(unittest.TestCase):
             counts['start: True, in truth True'], 20 * counts['start: False, in truth True']
         )
 
-    def is_free(self, traffic, name):
+    def is_free(self, traffic: Traffic, name: str) -> bool:
         """Whether the next node of a vehicle is."""
         way = traffic.ways[name]
         taken = traffic.walls.union(other[0] for one, other in traffic.ways.items() if one != name)
@@ -182,7 +186,7 @@ LAYOUT = of_parts(
 )
 
 
-def seen(number, node, capacity=1):
+def seen(number: int, node: str, capacity: int = 1) -> Seen:
     row = Vehicle(
         VehicleKey('KIT', f'{number:04d}'),
         node,
@@ -202,28 +206,32 @@ def seen(number, node, capacity=1):
 class Choosing(unittest.TestCase):
     """Which pairs of a job and a vehicle get a look."""
 
-    def chooser(self, says):
-        """One whose judge sees nothing without a look, and says this by looks; and the list of what
-        was looked at."""
-        asked = []
+    def chooser(
+        self,
+        says: Callable[[str, Way], bool],
+        plainly: Callable[[Way], bool | None] = lambda way: None,
+    ) -> tuple[Chooser, list[tuple[str, Way]]]:
+        """One whose judge says this by looks, and `plainly` without one, which is nothing unless it
+        is given; and the list of what was looked at."""
+        asked: list[tuple[str, Way]] = []
 
         class Asked(Judge):
-            def plainly(self, traffic, vehicle, way):
-                return None
+            def plainly(self, traffic: Traffic, vehicle: str, way: Way) -> bool | None:
+                return plainly(way)
 
-            def may_start(self, traffic, vehicle, way):
+            def may_start(self, traffic: Traffic, vehicle: str, way: Way) -> bool:
                 self.looks += 1
                 asked.append((vehicle, way))
                 return says(vehicle, way)
 
         return Chooser(Ways(LAYOUT), Asked()), asked
 
-    def setUp(self):
+    def setUp(self) -> None:
         self.idle = [seen(n, 'b' + BAYS[n]) for n in range(3)]
         self.traffic = Traffic({}, {}, {one.name: one.nodes for one in self.idle})
         self.turns = -(-3 * 30 // choose.LOOKS)  # until each pair had its look
 
-    def test_each_gets_its_look(self):
+    def test_each_gets_its_look(self) -> None:
         """Of 3 vehicles and 30 jobs no pair may be started. In a turn so many get a look, the
         nearest first, and none a second one before all had one. A job without one is put off."""
         chooser, asked = self.chooser(lambda vehicle, way: False)
@@ -246,7 +254,7 @@ class Choosing(unittest.TestCase):
         self.assertEqual((len(set(asked[:most])), len(set(asked))), (most, 90))
         self.assertEqual([one.job for one in jobs if chooser.is_put_off(one)], [])
 
-    def test_one_that_passes_late(self):
+    def test_one_that_passes_late(self) -> None:
         """One pair alone may be started, one of the farthest: it is, some turns later."""
         far = 'b' + BAYS[0], 'b' + BAYS[-1]
         chooser, _ = self.chooser(lambda vehicle, way: (way[0], way[-1]) == far)
@@ -255,7 +263,8 @@ class Choosing(unittest.TestCase):
             for n in range(29)
         ]
         jobs.append(Waiting('J29', 'L29', 'S' + BAYS[18], 'S' + BAYS[-1]))
-        found, turns = None, 0
+        found: Proposal | None = None
+        turns = 0
         while found is None:
             turns += 1
             self.assertLessEqual(turns, self.turns)
@@ -264,12 +273,12 @@ class Choosing(unittest.TestCase):
         self.assertEqual((found.vehicle, [one.job for one in found.jobs]), ('KIT/0000', ['J29']))
         self.assertGreater(turns, 1)
 
-    def test_one_behind_many(self):
+    def test_one_behind_many(self) -> None:
         """Of 100 jobs the newest alone may be started: it is, three turns later at most, and the
         others are not put off for good."""
-        chooser, _ = self.chooser(lambda vehicle, way: way[-1] == 'b' + BAYS[-1])
-        chooser.judge.plainly = (
-            lambda traffic, vehicle, way: None if way[-1] == 'b' + BAYS[-1] else False
+        chooser, _ = self.chooser(
+            lambda vehicle, way: way[-1] == 'b' + BAYS[-1],
+            lambda way: None if way[-1] == 'b' + BAYS[-1] else False,
         )
         jobs = [
             Waiting(
@@ -293,7 +302,9 @@ class Choosing(unittest.TestCase):
             [one.job for one in jobs if not chooser.is_put_off(one)], [one.job for one in jobs[:30]]
         )
 
-    def more(self, jobs, detour, capacity=2):
+    def more(
+        self, jobs: Iterable[tuple[str, int, int]], detour: int, capacity: int = 2
+    ) -> list[str]:
         """The jobs of the order that is proposed for a vehicle at the first bay of the ring, where
         the first of these is alone near: each a name, and the numbers of two nodes of the ring."""
         chooser = Chooser(Ways(LAYOUT), Judge(), detour)
@@ -301,11 +312,12 @@ class Choosing(unittest.TestCase):
         one = seen(1, 'br00', capacity)
         chooser.begin_turn()
         found = chooser.propose([one], rows, Traffic({}, {}, {one.name: one.nodes}))
+        assert found is not None
         legs = [found.way[n : n + 2] for n in range(len(found.way) - 1)]
         self.assertTrue(all('.'.join(leg) in LAYOUT.edges for leg in legs), found.way)
         return [job.job for job in found.jobs]
 
-    def test_further_jobs_that_save_a_way(self):
+    def test_further_jobs_that_save_a_way(self) -> None:
         """From r04 to r20 a vehicle passes r06 and r18, so that a job between these costs it four
         edges, in and out of two bays, and alone would have fourteen."""
         along, long = ('along', 6, 18), ('first', 4, 20)
@@ -313,16 +325,16 @@ class Choosing(unittest.TestCase):
         self.assertEqual(self.more([long, along], 3), ['first'])
         self.assertEqual(self.more([long, along], 8, 1), ['first'])
 
-    def test_the_one_that_saves_most(self):
+    def test_the_one_that_saves_most(self) -> None:
         short, along, long = ('short', 6, 10), ('along', 6, 18), ('first', 4, 20)
         self.assertEqual(self.more([long, short, along], 8), ['first', 'along'])
         self.assertEqual(sorted(self.more([long, short, along], 8, 3)), ['along', 'first', 'short'])
 
-    def test_one_that_saves_nothing(self):
+    def test_one_that_saves_nothing(self) -> None:
         """Behind the end of the first a job makes the way as much longer as it is, and more."""
         self.assertEqual(self.more([('first', 4, 20), ('behind', 22, 26)], 40), ['first'])
 
-    def test_waiting_counts_by_its_square(self):
+    def test_waiting_counts_by_its_square(self) -> None:
         """Of a job that is 18 edges farther the vehicle takes the nearer one, unless the other has
         waited for long."""
         jobs = [Waiting('near', 'L1', 'Sr02', 'Sr10', 580.0), Waiting('far', 'L2', 'Sr20', 'Sr30')]
@@ -331,9 +343,11 @@ class Choosing(unittest.TestCase):
         for now, told in ((480.0, 'near'), (600.0, 'far')):
             chooser = Chooser(Ways(LAYOUT), Judge())
             chooser.begin_turn(now)
-            self.assertEqual(chooser.propose([one], jobs, traffic).jobs[0].job, told, now)
+            found = chooser.propose([one], jobs, traffic)
+            assert found is not None
+            self.assertEqual(found.jobs[0].job, told, now)
 
-    def test_many_jobs(self):
+    def test_many_jobs(self) -> None:
         """With 3,000 jobs and 20 vehicles orders are proposed until no vehicle is left, in little
         time."""
         chance = random.Random(74)

@@ -1,20 +1,26 @@
 """The look that keeps a dispatcher from deadlocks, against a search of all states on small layouts;
 cases by hand; and vehicles that are released by it at random, of which each has to finish."""
+from __future__ import annotations
+
 import collections
 import random
 import time
 import unittest
+from collections.abc import Collection, Mapping, Sequence
+from typing import Any
 
-from nulvrader.dispatch.lanes import Ground
-from nulvrader.dispatch.deadlock import Floor, after_release, along, finishing, look
+from nulvrader.dispatch.lanes import Ground, Way
+from nulvrader.dispatch.deadlock import after_release, along, finishing, look
+from nulvrader.dispatch.floor import Floor
 from nulvrader.dispatch.judge import Judge
 from nulvrader.dispatch.traffic import Traffic
 from nulvrader.dispatch.routes import Ways
+from simulation.floors import Floor as Plant
 from simulation.floors import large
 from tests.support.ways import CASES, PLENTY, random_case
 
 
-def can_all_finish(ways, walls):
+def can_all_finish(ways: Mapping[str, Way], walls: Collection[str]) -> bool:
     """By a search of all states: each vehicle stands on one node, and goes on where the next one is
     free."""
     names = sorted(ways)
@@ -37,11 +43,11 @@ def can_all_finish(ways, walls):
 
 
 class AgainstAllStates(unittest.TestCase):
-    def test_small_layouts(self):
+    def test_small_layouts(self) -> None:
         """With states enough the look says what the search of all states says. With few it never
         says yes where the search says no."""
         chance = random.Random(66)
-        counts = collections.Counter()
+        counts = collections.Counter[str]()
         for case in range(CASES):
             ways, walls = random_case(chance)
             true = can_all_finish(ways, walls)
@@ -57,7 +63,7 @@ class AgainstAllStates(unittest.TestCase):
         self.assertGreater(CASES - counts['all can finish'], CASES * 0.1)
         self.assertLess(counts['refused, with 300 states'], counts['all can finish'] * 0.01)
 
-    def test_who_finishes_can(self):
+    def test_who_finishes_can(self) -> None:
         """The vehicles that are said to finish do so in some order, the others staying or making
         room: it is the best state's order, so the others may be taken to go no further than
         there."""
@@ -68,7 +74,7 @@ class AgainstAllStates(unittest.TestCase):
             told = finishing(ways, walls)
             if told == set(ways):
                 continue
-            cuts = [{}]
+            cuts: list[dict[str, Any]] = [{}]
             for name in sorted(set(ways) - told):
                 cuts = [
                     {**cut, name: ways[name][:end]}
@@ -82,7 +88,7 @@ class AgainstAllStates(unittest.TestCase):
             some += 1
         self.assertGreater(some, CASES // 60)
 
-    def test_the_order_of_names_is_nothing(self):
+    def test_the_order_of_names_is_nothing(self) -> None:
         """Moves that take nothing from anybody lead to one state, in whichever order they are
         made."""
         chance = random.Random(68)
@@ -95,18 +101,18 @@ class AgainstAllStates(unittest.TestCase):
             again = self.settled({new: ways[old] for new, old in renamed.items()}, walls)
             self.assertEqual(settled, {renamed[new]: at for new, at in again.items()})
 
-    def settled(self, ways, walls):
+    def settled(self, ways: Mapping[str, Way], walls: Collection[str]) -> dict[str, int]:
         floor = Floor(ways, walls)
         state = floor.start()
         floor.settle(state)
         return dict(zip(floor.names, state.at))
 
-    def test_moves_that_are_tried_first(self):
+    def test_moves_that_are_tried_first(self) -> None:
         """Whoever is said to finish by moves of any kind can; and where the moves of a look are
         tried again, after a release by its first one too, all finish by them that did. One ground
         serves for all of it."""
         chance, ground = random.Random(69), Ground()
-        counts = collections.Counter()
+        counts = collections.Counter[str]()
         for case in range(CASES // 3):
             ways, walls = random_case(chance)
             true = can_all_finish(ways, walls)
@@ -138,15 +144,15 @@ class AgainstAllStates(unittest.TestCase):
         self.assertGreater(counts['by any moves'], CASES // 30)
         self.assertGreater(counts['after a release'], CASES // 10)
 
-    def test_those_that_are_wanted(self):
+    def test_those_that_are_wanted(self) -> None:
         """Some vehicles are asked for alone: with states enough they are said to finish where they
         do in some order, the others going as far as they have to."""
         chance = random.Random(71)
-        counts = collections.Counter()
+        counts = collections.Counter[bool]()
         for case in range(CASES // 6):
             ways, walls = random_case(chance)
             wanted = set(chance.sample(sorted(ways), chance.randint(1, len(ways))))
-            cuts = [{}]
+            cuts: list[dict[str, Any]] = [{}]
             for name in sorted(set(ways) - wanted):
                 cuts = [
                     {**cut, name: ways[name][:end]}
@@ -165,44 +171,44 @@ class AgainstAllStates(unittest.TestCase):
 
 
 class ByHand(unittest.TestCase):
-    def test_two_that_face_each_other(self):
+    def test_two_that_face_each_other(self) -> None:
         line = 'abcd'
         self.assertEqual(
             finishing({'east': tuple(line), 'west': tuple(reversed(line))}), frozenset()
         )
 
-    def test_a_passing_place(self):
+    def test_a_passing_place(self) -> None:
         """East waits at p, beside the track, while west goes by."""
         self.assertEqual(
             finishing({'east': tuple('abpcd'), 'west': tuple('dcba')}, budget=0), {'east', 'west'}
         )
 
-    def test_both_in_the_stretch(self):
+    def test_both_in_the_stretch(self) -> None:
         self.assertEqual(finishing({'east': tuple('bcde'), 'west': tuple('dcba')}), frozenset())
 
-    def test_a_full_ring(self):
+    def test_a_full_ring(self) -> None:
         ring = {'a': tuple('abcx'), 'b': tuple('bcay'), 'c': tuple('cabz')}
         self.assertEqual(finishing(ring), frozenset())
         self.assertEqual(finishing({name: ring[name] for name in 'ab'}), {'a', 'b'})
 
-    def test_an_end_on_the_way_of_another(self):
+    def test_an_end_on_the_way_of_another(self) -> None:
         """One ends where the other has to pass, so the other goes first."""
         ways = {'ends': tuple('abc'), 'passes': tuple('xcd')}
         self.assertEqual(finishing(ways), {'ends', 'passes'})
         self.assertEqual(finishing(after_release(ways, 'ends', 2)), {'ends'})
 
-    def test_a_wall(self):
+    def test_a_wall(self) -> None:
         ways = {'shut': tuple('abc'), 'open': tuple('xyz')}
         self.assertEqual(finishing(ways, {'c'}), {'open'})
 
-    def test_one_that_is_shut_in_makes_room(self):
+    def test_one_that_is_shut_in_makes_room(self) -> None:
         """It can't reach its end behind a wall, but may leave the node that the other needs."""
         self.assertEqual(finishing({'shut': tuple('bpq'), 'open': tuple('abc')}, {'q'}), {'open'})
 
-    def test_a_node_that_is_passed_twice(self):
+    def test_a_node_that_is_passed_twice(self) -> None:
         self.assertEqual(finishing({'there and back': tuple('abcba')}), {'there and back'})
 
-    def test_a_large_layout(self):
+    def test_a_large_layout(self) -> None:
         """Forty vehicles in bays of one ring of eighty nodes, of which each goes to the bay of the
         one before it: one has to wait on the ring. With eighty on the ring besides, none can leave
         its bay. Neither takes long."""
@@ -225,13 +231,13 @@ class ByHand(unittest.TestCase):
 
 
 class Released(unittest.TestCase):
-    def test_vehicles_that_are_released_by_the_look_finish(self):
+    def test_vehicles_that_are_released_by_the_look_finish(self) -> None:
         """Vehicles hold one to three nodes ahead, and go on at random; a release is made where all
         can finish after it. Each finishes from every state where all can. Released where the next
         node is free alone, some stand for good.
         """
         chance = random.Random(70)
-        stuck = collections.Counter()
+        stuck = collections.Counter[bool]()
         for case in range(CASES // 3):
             ways, walls = random_case(chance)
             if not can_all_finish(ways, walls):
@@ -243,7 +249,13 @@ class Released(unittest.TestCase):
         print(f'look: without it {stuck[False]} of these cases stand for good')
         self.assertGreater(stuck[False], CASES // 300)
 
-    def run_out(self, ways, walls, chance, looks):
+    def run_out(
+        self,
+        ways: Mapping[str, Way],
+        walls: Collection[str],
+        chance: random.Random,
+        looks: bool,
+    ) -> list[str]:
         """The vehicles that do not finish."""
         seen = {name: 0 for name in ways}
         base = {name: 0 for name in ways}
@@ -276,7 +288,7 @@ class Released(unittest.TestCase):
 
 
 class AfterAStart(unittest.TestCase):
-    def test_a_judge_that_knows_no_moves(self):
+    def test_a_judge_that_knows_no_moves(self) -> None:
         """Twenty vehicles on the floor of the simulated plant are started and released as a judge
         allows it, so that all can finish all the while. One that has just begun, and knows none of
         the moves, finds how. (A search in one order alone does not in turns 10, 15 and 40 of
@@ -285,7 +297,7 @@ class AfterAStart(unittest.TestCase):
             with self.subTest(seed):
                 self.drive(random.Random(seed), large(), 45)
 
-    def drive(self, chance, floor, turns):
+    def drive(self, chance: random.Random, floor: Plant, turns: int) -> None:
         layout = floor.layout()
         ways = Ways(layout)
         stations = [station.node for station in layout.stations.values()]
@@ -308,7 +320,7 @@ class AfterAStart(unittest.TestCase):
             )
         self.assertGreater(len(traffic.ways), 10)
 
-    def released(self, traffic, judge, chance):
+    def released(self, traffic: Traffic, judge: Judge, chance: random.Random) -> Traffic:
         for name in chance.sample(sorted(traffic.ways), len(traffic.ways)):
             way = traffic.ways[name]
             taken = traffic.walls | {other[0] for key, other in traffic.ways.items() if key != name}
@@ -321,7 +333,7 @@ class AfterAStart(unittest.TestCase):
                 traffic = traffic.released(name, 1)
         return traffic
 
-    def ended(self, traffic, chance):
+    def ended(self, traffic: Traffic, chance: random.Random) -> Traffic:
         """Some of those at the end of their way have no order then."""
         for name, way in list(traffic.ways.items()):
             if len(way) == 1 and chance.random() < 0.1:
@@ -329,7 +341,14 @@ class AfterAStart(unittest.TestCase):
                 traffic = Traffic(others, {}, {**traffic.parked, name: frozenset(way)}, traffic.out)
         return traffic
 
-    def started(self, traffic, judge, chance, ways, stations):
+    def started(
+        self,
+        traffic: Traffic,
+        judge: Judge,
+        chance: random.Random,
+        ways: Ways,
+        stations: Sequence[str],
+    ) -> Traffic:
         for name, held in list(traffic.parked.items()):
             for _ in range(3):
                 way = ways.way((*held, chance.choice(stations), chance.choice(stations)))

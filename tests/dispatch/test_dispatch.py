@@ -1,12 +1,17 @@
 """The dispatcher: what it gives and releases, over the built program, and what it may, without
 one."""
+from __future__ import annotations
+
 import os
 import re
 import unittest
+from collections.abc import Callable, Sequence
+from typing import Any
 
 from tests.support.dispatching import LAYOUT, ONE, TWO, OverADesk, Told
 from nulvrader.desk.client import Desk
 from nulvrader.dispatch.dispatcher import Dispatcher
+from nulvrader.dispatch.lanes import Way
 from nulvrader.dispatch.memory import Memory
 from nulvrader.dispatch.shut_in import BY_ITSELF, Course, ShutIn, is_on_course
 from nulvrader.dispatch.judge import Judge
@@ -25,19 +30,19 @@ SHUT_IN = 'since KIT/0001 goes on to d, KIT/0002 goes on to a'
 class Careless(Judge):
     """Allows whatever is asked, and sees who can't finish then."""
 
-    def may_release(self, traffic, vehicle, nodes):
+    def may_release(self, traffic: Traffic, vehicle: str, nodes: int) -> bool:
         return True
 
-    def plainly(self, traffic, vehicle, way):
+    def plainly(self, traffic: Traffic, vehicle: str, way: Way) -> bool | None:
         return True
 
-    def may_start(self, traffic, vehicle, way):
+    def may_start(self, traffic: Traffic, vehicle: str, way: Way) -> bool:
         return True
 
 
 @over_sockets
 class Orders(OverADesk):
-    def test_a_job_from_its_beginning_to_its_end(self):
+    def test_a_job_from_its_beginning_to_its_end(self) -> None:
         self.assertEqual(self.turn(), [])
         self.desk.add_job('J1', 'L1', 'B')
         self.assertRegex(
@@ -54,12 +59,12 @@ class Orders(OverADesk):
         self.assertRegex(self.turn()[0], r'^KIT/0001: order \S+ has ended at bb$')
         self.assertEqual((self.place('L1'), self.held(ONE)), ('station B', ['bb']))
 
-    def test_the_nearest_vehicle_takes_it(self):
+    def test_the_nearest_vehicle_takes_it(self) -> None:
         self.turn()
         self.desk.add_job('J3', 'L3', 'D')
         self.assertRegex(self.turn()[0], '^KIT/0002: takes J3')
 
-    def test_the_oldest_goes_first(self):
+    def test_the_oldest_goes_first(self) -> None:
         """Where an order takes no detour for another job."""
         self.dispatcher.chooser.detour = 0
         self.turn()
@@ -72,7 +77,7 @@ class Orders(OverADesk):
         self.told(ONE, 'ab')
         self.assertRegex(self.turn()[0], r'^KIT/0001: takes J9 \(L1 from A to B\), 3 edges')
 
-    def test_two_jobs_in_one_order(self):
+    def test_two_jobs_in_one_order(self) -> None:
         """Both lead from A to B; a third one, to D, would be a detour."""
         self.turn()
         for key, node in ((ONE, 'ab'), (TWO, 'cb')):
@@ -93,7 +98,7 @@ class Orders(OverADesk):
         self.turn()
         self.assertEqual((self.place('L1'), self.place('L2')), ('station B', 'station B'))
 
-    def test_a_drop_where_another_vehicle_stands(self):
+    def test_a_drop_where_another_vehicle_stands(self) -> None:
         """KIT/0001 stands at the pick, and KIT/0002 at the drop and is in manual mode: it is said
         why the job waits. Once KIT/0002 is ready it is led away, and the job begins."""
         self.told(TWO, 'cb', mode='MANUAL')
@@ -104,14 +109,14 @@ class Orders(OverADesk):
             self.turn(20),
             [
                 'job J1 waits: KIT/0001 stands at the pick, at ab; KIT/0002 stands at the drop,'
-                ' at cb'
+                ' at cb, until they go on'
             ],
         )
         self.told(TWO, 'cb')
         self.assertRegex(self.turn()[0], r'^KIT/0002: drives to db, by order \S+$')
         self.assertRegex(self.turn()[0], '^KIT/0001: takes J1')
 
-    def test_a_restart(self):
+    def test_a_restart(self) -> None:
         """A dispatcher that is started anew goes on with the orders that are open."""
         self.turn()
         self.desk.add_job('J1', 'L1', 'B')
@@ -124,7 +129,7 @@ class Orders(OverADesk):
         self.turn()
         self.assertEqual(self.place('L1'), 'station B')
 
-    def test_age_after_a_restart(self):
+    def test_age_after_a_restart(self) -> None:
         """Of two jobs from A the one that was seen first goes first. To a dispatcher that is
         started anew both are new: that of the lesser name goes first."""
         for key, node in ((ONE, 'ab'), (TWO, 'cb')):
@@ -141,7 +146,7 @@ class Orders(OverADesk):
         self.turn()
         self.assertEqual(list(self.dispatcher.book.waiting), ['J1', 'J2'])
 
-    def test_jobs_from_before_its_start(self):
+    def test_jobs_from_before_its_start(self) -> None:
         """Where they lead is known at once, however many were added before it began."""
         self.desk.add_job('J1', 'L1', 'B')
         self.desk.add_job('J2', 'L3', 'D')
@@ -150,7 +155,7 @@ class Orders(OverADesk):
         self.assertRegex(lines[1], r'^KIT/0002: takes J2 \(L3 from C to D\), 3 edges')
         self.assertEqual((self.held(ONE), self.held(TWO)), (['a', 'ab', 'b'], ['c', 'cb', 'd']))
 
-    def test_a_drive_of_a_person(self):
+    def test_a_drive_of_a_person(self) -> None:
         """It is released further as any order, and has ended at its last node."""
         self.turn()
         self.desk.start_drive('G1', ONE, 'bb', 0)
@@ -164,13 +169,15 @@ class Orders(OverADesk):
         self.assertEqual(self.turn(), ['KIT/0001: order G1 has ended at bb'])
         self.assertEqual(self.held(ONE), ['bb'])
 
-    def line(self, *more, judge=None, parking=None):
+    def line(
+        self, *more: str, judge: Judge | None = None, parking: Sequence[str] | None = None
+    ) -> tuple[Desk, Dispatcher, Told, list[str]]:
         """A desk on whose line a, b, c, d one vehicle is at either end, where loads stand at A and
         D, with its dispatcher, its vehicles' states and its lines. `more` are further rows of the
         layout."""
         serving = Serving(os.path.join(self.folder.name, 'line.db'), 10**6)
         self.addCleanup(serving.__exit__)
-        line = [f'edge,{x}{y},{x},{y}' for x, y in ('ab', 'ba', 'bc', 'cb', 'cd', 'dc')]
+        line = [f'edge,{pair},{pair[0]},{pair[1]}' for pair in ('ab', 'ba', 'bc', 'cb', 'cd', 'dc')]
         stations = [f'station,{name.upper()},{name},3' for name in 'abd']
         layout = (
             '\n'.join(
@@ -186,7 +193,7 @@ class Orders(OverADesk):
             told(key, node)
         for load, start in (('L1', 'A'), ('L2', 'D')):
             desk.register_load(load, start)
-        lines = []
+        lines: list[str] = []
         return (
             desk,
             Dispatcher(
@@ -201,7 +208,7 @@ class Orders(OverADesk):
             lines,
         )
 
-    def cross(self, desk, told):
+    def cross(self, desk: Desk, told: Told) -> None:
         """A person gives both vehicles orders, each to where the other one stands."""
         for order, key, node, job, load, target in (
             ('P1', ONE, 'a', 'J1', 'L1', 'D'),
@@ -211,7 +218,7 @@ class Orders(OverADesk):
             desk.start_order(order, key, job=job, edges=0)
             told(key, node)
 
-    def test_orders_that_shut_one_another_in(self):
+    def test_orders_that_shut_one_another_in(self) -> None:
         """Once nothing moves one of the orders is cancelled."""
         desk, dispatcher, told, lines = self.line()
         self.assertTrue(dispatcher.turn())
@@ -231,8 +238,9 @@ class Orders(OverADesk):
             {node: str(key) for node, key in held(desk).nodes.items()},
             {'a': 'KIT/0001', 'd': 'KIT/0002'},
         )
-        name = desk.instant_actions(ONE)['actions'][0]['actionId']
-        told(ONE, 'a', 0, 'x', instant=[name])
+        pending: Any = desk.instant_actions(ONE)
+        assert pending is not None
+        told(ONE, 'a', 0, 'x', instant=[pending['actions'][0]['actionId']])
         dispatcher.turn()
         self.assertRegex(
             '\n'.join(lines),
@@ -240,7 +248,7 @@ class Orders(OverADesk):
             'its load L1 ',
         )
 
-    def test_orders_that_it_should_not_have_given(self):
+    def test_orders_that_it_should_not_have_given(self) -> None:
         """One that starts whatever it can says that it has shut vehicles in by itself. In the same
         turn another vehicle is placed. No place is given where it could lead one away."""
         desk, dispatcher, told, lines = self.line(
@@ -266,25 +274,25 @@ class Orders(OverADesk):
             fr'^KIT/0002: cancels order \S+, of J2: it and others block one another, {BY_ITSELF}$',
         )
 
-    def test_an_order_of_a_person_that_shuts_two_in(self):
+    def test_an_order_of_a_person_that_shuts_two_in(self) -> None:
         """KIT/0001 is under way from a to d and stands at c when a person places KIT/0002 at d and
         gives it an order to a."""
 
-        def order(desk):
+        def order(desk: Desk) -> None:
             desk.add_job('J2', 'L2', 'A')
             desk.start_order('person-1', TWO, job='J2', edges=0)
 
         self.check_cancels(order, 'of J2')
 
-    def test_a_drive_of_a_person_that_shuts_two_in(self):
+    def test_a_drive_of_a_person_that_shuts_two_in(self) -> None:
         """The person has it drive to a."""
         self.check_cancels(lambda desk: desk.start_drive('person-1', TWO, 'a', 0), 'a drive to a')
 
-    def check_cancels(self, send, told_of):
+    def check_cancels(self, send: Callable[[Desk], object], told_of: str) -> None:
         """The order that a person sends to KIT/0002 is cancelled."""
         desk, dispatcher, told, lines = self.line('node,q,,')
 
-        def place(node):
+        def place(node: str) -> None:
             told(TWO, desk.vehicle(TWO).node, mode='MANUAL')
             desk.place(TWO, 'person-' + node, node)
             told(TWO, node)
@@ -308,10 +316,10 @@ class Orders(OverADesk):
             ],
         )
 
-    def test_orders_that_shut_one_another_in_while_others_move(self):
+    def test_orders_that_shut_one_another_in_while_others_move(self) -> None:
         """A third vehicle goes round a ring beside the line all the while. One of the orders is
         cancelled after a minute, and only one."""
-        ring = [f'edge,{x}{y},{x},{y}' for x, y in ('pq', 'qr', 'rs', 'sp')]
+        ring = [f'edge,{pair},{pair[0]},{pair[1]}' for pair in ('pq', 'qr', 'rs', 'sp')]
         desk, dispatcher, told, lines = self.line(
             *(f'node,{name},,' for name in 'pqrs'), *ring, 'station,P,p,9', 'station,R,r,9'
         )
@@ -319,7 +327,7 @@ class Orders(OverADesk):
         desk.register_vehicle(third, 'p')
         told(third, 'p')
         desk.register_load('M', 'P')
-        reasons, moves, at = set(), 0, 0
+        reasons, moves, at = set[str | None](), 0, 0.0
         self.assertTrue(dispatcher.turn())
         self.cross(desk, told)
         while self.now < 150:
@@ -328,7 +336,7 @@ class Orders(OverADesk):
             reasons.add(dispatcher.waits().get('KIT/0001'))
             at = at or self.now * any('cancels' in line for line in lines)
             for key, node in ((ONE, 'a'), (TWO, 'd')):
-                pending = desk.instant_actions(key)
+                pending: Any = desk.instant_actions(key)
                 told(key, node, instant=[pending['actions'][0]['actionId']] if pending else ())
             moves += self.go_round(desk, told, third)
         self.assertGreater(moves, 50)
@@ -340,10 +348,11 @@ class Orders(OverADesk):
         self.assertIn(at, range(61, 75))
         self.assertEqual(desk.vehicle(TWO).order, 'P2')
 
-    def go_round(self, desk, told, key):
+    def go_round(self, desk: Desk, told: Told, key: VehicleKey) -> bool:
         """Lets a vehicle drive to the end of what is released to it and do there what is to be
         done, and gives it the next job where it has none. Whether it drove."""
-        message, row = desk.order_message(key), desk.vehicle(key)
+        message: Any = desk.order_message(key)
+        row = desk.vehicle(key)
         if message is None:
             load = desk.load('M')
             if load.job is None:
@@ -353,13 +362,13 @@ class Orders(OverADesk):
         last = [node for node in message['nodes'] if node['released']][-1]
         left = [act for node in message['nodes'] if not node['released'] for act in node['actions']]
         told(key, last['nodeId'], last['sequenceId'], 'f' * (2 - len(left)))
-        return last['nodeId'] != row.node
+        return bool(last['nodeId'] != row.node)
 
 
 class Pure(unittest.TestCase):
     """What may be released and started, without a desk."""
 
-    def test_what_was_to_be(self):
+    def test_what_was_to_be(self) -> None:
         """Whether a vehicle does what it was to do at the end of the turn before."""
         way, end = tuple('abcd'), tuple('d')
         for before, asked, order, left, wanted in (
@@ -384,7 +393,7 @@ class Pure(unittest.TestCase):
             with self.subTest(before=before, asked=asked, order=order):
                 self.assertEqual(is_on_course(before, Course(order, left), asked), wanted)
 
-    def test_what_a_short_look_misses_in_the_first_turn(self):
+    def test_what_a_short_look_misses_in_the_first_turn(self) -> None:
         """Three vehicles on a ring of four nodes can all finish. A look at one state does not find
         how; the first one of a dispatcher is longer, and the moves that it has found are kept."""
         ways = {
@@ -403,7 +412,7 @@ class Pure(unittest.TestCase):
             self.assertEqual(shut_in.end_turn(traffic, 0.0), [])
             self.assertEqual(shut_in.told() == {}, first)
 
-    def test_one_that_stands_still_is_not_shut_in(self):
+    def test_one_that_stands_still_is_not_shut_in(self) -> None:
         """KIT/0001 is paused at b and goes to e by the single track c, d. KIT/0002 comes from e and
         ends at c: it waits, since the other one could not get by; though it could go while that one
         stands."""
@@ -416,7 +425,7 @@ class Pure(unittest.TestCase):
             judge.may_release(Traffic({'KIT/0002': tuple('edcbz')}, traffic.still), 'KIT/0002', 1)
         )
 
-    def test_one_that_cannot_finish_stays(self):
+    def test_one_that_cannot_finish_stays(self) -> None:
         """Another one without an order stands at its end. It stays where it is, unless it is in the
         way."""
         traffic = Traffic({'KIT/0001': tuple('abc')}, {}, {'KIT/0002': frozenset('c')})
@@ -425,7 +434,7 @@ class Pure(unittest.TestCase):
         crossed = Traffic({'KIT/0001': tuple('abc'), 'KIT/0003': tuple('xay')}, {}, traffic.parked)
         self.assertTrue(judge.may_release(crossed, 'KIT/0001', 1))
 
-    def test_the_way_out_of_a_dead_end(self):
+    def test_the_way_out_of_a_dead_end(self) -> None:
         """KIT/0002 stands at the end of the dead end b, c, without an order, and gets out by a.
         KIT/0001 goes there and would shut it in, so it is not let to a, though it is in the way of
         a third one."""
@@ -442,22 +451,22 @@ class Pure(unittest.TestCase):
             {node: Ways(layout).way_out(node) for node in ('a', 'ab')}, {'a': (), 'ab': ('a',)}
         )
 
-    def test_no_order_to_where_another_stands(self):
+    def test_no_order_to_where_another_stands(self) -> None:
         traffic = Traffic({}, {}, {'KIT/0001': frozenset('a'), 'KIT/0002': frozenset('c')})
         self.assertFalse(Judge().may_start(traffic, 'KIT/0001', tuple('abc')))
         self.assertTrue(Judge().may_start(traffic, 'KIT/0001', tuple('ab')))
         self.assertTrue(Judge().may_start(traffic, 'KIT/0002', tuple('cbc')))
 
-    def test_no_order_by_which_two_shut_one_another_in(self):
+    def test_no_order_by_which_two_shut_one_another_in(self) -> None:
         traffic = Traffic({'KIT/0001': tuple('abcd')}, {}, {'KIT/0002': frozenset('d')})
         self.assertFalse(Judge().may_start(traffic, 'KIT/0002', tuple('dcba')))
 
-    def test_ways_are_those_of_the_layout(self):
+    def test_ways_are_those_of_the_layout(self) -> None:
         layout = read_layout(LAYOUT)
         ways = Ways(layout)
         for start in layout.nodes:
             for target in layout.nodes:
-                route = layout.route(start, target)
+                route = layout.route(start, target) or []
                 nodes = (start, *(layout.edges[edge].finish for edge in route))
                 self.assertEqual(
                     (ways.way((start, target)), ways.hops(start, target)), (nodes, len(route))

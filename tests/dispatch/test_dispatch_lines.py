@@ -7,6 +7,7 @@ import signal
 import subprocess
 import sys
 import unittest
+from typing import Any
 from unittest import mock
 
 from tests.support.dispatching import LAYOUT, ONE, TWO, OverADesk, Told
@@ -20,7 +21,7 @@ from tests.support.desks import Serving, over_sockets
 class Lines(OverADesk):
     places = ()
 
-    def test_a_failed_drop_is_told(self):
+    def test_a_failed_drop_is_told(self) -> None:
         self.turn()
         self.desk.add_job('J1', 'L1', 'B')
         self.turn()
@@ -35,7 +36,7 @@ class Lines(OverADesk):
             ),
         )
 
-    def test_a_failed_pick_is_told(self):
+    def test_a_failed_pick_is_told(self) -> None:
         self.turn()
         self.desk.add_job('J1', 'L1', 'B')
         self.turn()
@@ -50,7 +51,7 @@ class Lines(OverADesk):
             ),
         )
 
-    def test_a_vehicle_that_is_placed(self):
+    def test_a_vehicle_that_is_placed(self) -> None:
         self.turn()
         self.desk.add_job('J1', 'L1', 'B')
         self.turn()
@@ -63,7 +64,7 @@ class Lines(OverADesk):
         )
         self.assertRegex(self.turn()[0], line)
 
-    def test_a_load_that_is_carried_on(self):
+    def test_a_load_that_is_carried_on(self) -> None:
         """An order takes L1 to D and L2 to B on the way. L2 is carried on from B before the order
         ends: its job is done, if the dispatcher has seen the load at B; else that is not known."""
         for case, (first, second) in enumerate((('J1', 'J2'), ('J3', 'J4'))):
@@ -96,7 +97,7 @@ class Lines(OverADesk):
                 self.desk.correct_load('L1', f'Q{case}', 'A')
                 self.desk.correct_load('L2', f'S{case}', 'A')
 
-    def test_a_cancel_by_a_person(self):
+    def test_a_cancel_by_a_person(self) -> None:
         self.turn()
         self.desk.add_job('J1', 'L1', 'B')
         self.turn()
@@ -122,7 +123,7 @@ class Lines(OverADesk):
         self.assertEqual(lines[0], 'KIT/0001: goes on')
         self.assertRegex(lines[1], r'^KIT/0002: takes J2')
 
-    def test_a_silent_vehicle(self):
+    def test_a_silent_vehicle(self) -> None:
         """KIT/0001 waits at b until KIT/0002 has left c, and is silent by then: it is released
         nothing until it is heard again."""
         self.turn()
@@ -142,7 +143,7 @@ class Lines(OverADesk):
         self.assertEqual(self.turn(), ['KIT/0001: goes on'])
         self.assertEqual(self.held(ONE), ['b', 'c', 'cb'])
 
-    def test_a_vehicle_that_does_not_go_on(self):
+    def test_a_vehicle_that_does_not_go_on(self) -> None:
         """Nothing is released to one that is not ready, or paused, until it is again."""
         self.turn()
         self.desk.add_job('J1', 'L1', 'D')
@@ -161,7 +162,7 @@ class Lines(OverADesk):
         self.told(ONE, 'b', 4, 'f')
         self.assertEqual((self.turn(), self.held(ONE)), (['KIT/0001: goes on'], ['b', 'c', 'd']))
 
-    def test_a_way_that_is_blocked(self):
+    def test_a_way_that_is_blocked(self) -> None:
         """A person puts KIT/0002 on the way of the other one, two nodes ahead: that one stays where
         it is."""
         self.turn()
@@ -176,7 +177,7 @@ class Lines(OverADesk):
         )
         self.assertEqual(self.held(ONE), ['b'])
 
-    def test_one_that_would_block_another(self):
+    def test_one_that_would_block_another(self) -> None:
         """A person gives both orders with no edge. KIT/0001 is to go to where KIT/0002 stands, and
         that one has not confirmed its order yet. It could not leave its bay if the first one stood
         before it."""
@@ -202,7 +203,7 @@ class Lines(OverADesk):
         self.turn()
         self.assertEqual((self.held(ONE), self.held(TWO)), (['b'], ['c', 'cb', 'd']))
 
-    def test_no_vehicle_is_free(self):
+    def test_no_vehicle_is_free(self) -> None:
         """It is said once that jobs wait, and of each vehicle without an order why it gets none;
         again where that changes, and after a restart."""
         self.turn()
@@ -237,7 +238,7 @@ class Lines(OverADesk):
         self.told(TWO, 'db')
         self.assertEqual([self.turn(), self.turn(20)], [[], [line]])
 
-    def test_a_refusal_is_told_once(self):
+    def test_a_refusal_is_told_once(self) -> None:
         refused = Refused('Spent', 44, 409, {}, 'It is spent', 'Nothing helps.')
         self.turn()
         self.told(TWO, 'cb', mode='MANUAL')
@@ -257,12 +258,12 @@ class Lines(OverADesk):
         self.assertEqual(self.turn(), [])
         self.assertEqual(self.held(ONE), ['a', 'b', 'bb'])
 
-    def test_a_fault_of_the_desk(self):
+    def test_a_fault_of_the_desk(self) -> None:
         """A request is answered 503, whichever it is: the turn ends there, and another one begins.
         A turn has the two reports, the exports of jobs and vehicles, and the order."""
         real, left = self.dispatcher.desk.ask, 0
 
-        def ask(*words):
+        def ask(*words: Any) -> Answer:
             nonlocal left
             left -= 1
             return real(*words) if left else Answer(503, b'{"name":"Storage","refusal":91}')
@@ -278,7 +279,7 @@ class Lines(OverADesk):
         self.assertRegex(self.lines[1], '^KIT/0001: takes J1')
         self.assertEqual(self.lines[2:], ['the desk answers again'])
 
-    def test_a_desk_that_is_away(self):
+    def test_a_desk_that_is_away(self) -> None:
         self.turn()
         self.serving.process.kill()
         self.serving.process.wait(300)
@@ -288,7 +289,7 @@ class Lines(OverADesk):
         self.assertEqual(len(self.lines), 1)
         self.assertRegex(self.lines[0], r'^the desk does not answer: ')
 
-    def test_the_program(self):
+    def test_the_program(self) -> None:
         """It waits for its desk, gives an order, and ends by a signal."""
         self.desk.add_job('J1', 'L1', 'B')
         words = [
@@ -300,6 +301,7 @@ class Lines(OverADesk):
             '0.1',
         ]
         with subprocess.Popen(words, stdout=subprocess.PIPE, text=True) as process:
+            assert process.stdout
             try:
                 lines = [process.stdout.readline(), process.stdout.readline()]
             finally:
@@ -309,7 +311,7 @@ class Lines(OverADesk):
         self.assertRegex(lines[1], r'^\d\d:\d\d:\d\d KIT/0001: takes J1 \(L1 from A to B\)')
         self.assertIsNotNone(self.desk.vehicle(ONE).order)
 
-    def test_parking_places_that_are_none(self):
+    def test_parking_places_that_are_none(self) -> None:
         """The program ends with 2, and says where the file is wrong."""
         path = os.path.join(self.folder.name, 'parking.csv')
         words = [sys.executable, os.path.join(TOOLS, 'dispatch'), '--desk', self.address]
@@ -321,11 +323,13 @@ class Lines(OverADesk):
             self.assertEqual(done.returncode, 2)
             self.assertIn(told, done.stderr)
 
-    def test_the_program_and_faults(self):
+    def test_the_program_and_faults(self) -> None:
         """Faults of the desk, at its start and later, do not end the program."""
-        program, real, asked, slept = module('dispatch'), Desk.ask, [], []
+        program, real = module('dispatch'), Desk.ask
+        asked: list[tuple[Any, ...]] = []
+        slept: list[int] = []
 
-        def ask(*words):
+        def ask(*words: Any) -> Answer:
             asked.append(words)
             return (
                 Answer(503, b'{"name":"Memory","refusal":90}')
@@ -333,7 +337,7 @@ class Lines(OverADesk):
                 else real(*words)
             )
 
-        def sleep(_):
+        def sleep(_: float) -> None:
             slept.append(0)
             if len(slept) == 5:
                 raise KeyboardInterrupt
@@ -358,7 +362,7 @@ class Lines(OverADesk):
             self.assertTrue(line.startswith(wanted), out)
         self.assertEqual(len(found), 5, out)
 
-    def test_a_desk_without_a_layout(self):
+    def test_a_desk_without_a_layout(self) -> None:
         """The program waits until it has one, and goes by it."""
         with Serving(os.path.join(self.folder.name, 'new.db'), 10**6) as serving:
             desk = Desk('127.0.0.1:%d' % serving.port, timeout=PATIENCE)
@@ -371,6 +375,7 @@ class Lines(OverADesk):
                 '0.1',
             ]
             with subprocess.Popen(words, stdout=subprocess.PIPE, text=True) as process:
+                assert process.stdout
                 try:
                     lines = [process.stdout.readline()]
                     desk.set_layout(LAYOUT)
@@ -392,11 +397,12 @@ class Lines(OverADesk):
         ):
             self.assertIn(' ' + wanted, line)
 
-    def test_a_layout_that_becomes_another_one(self):
+    def test_a_layout_that_becomes_another_one(self) -> None:
         """Another desk takes the port: no order is given, and that is an alarm once, until the desk
         is there again."""
         self.desk.add_job('J1', 'L1', 'B')
-        alarms, layout = [], self.dispatcher.layout
+        alarms: list[str] = []
+        layout = self.dispatcher.layout
         self.dispatcher.alarm = alarms.append
         self.dispatcher.layout = read_layout(LAYOUT.replace(b'station,A,ab,3', b'station,A,ab,4'))
         self.assertEqual([self.dispatcher.turn() for _ in range(3)], [False] * 3)
@@ -407,7 +413,7 @@ class Lines(OverADesk):
         self.assertEqual(self.lines[-1], 'the desk answers again')
 
 
-def text_of(*path):
+def text_of(*path: str) -> str:
     with open(os.path.join(ROOT, *path)) as file:
         return file.read()
 
@@ -415,7 +421,7 @@ def text_of(*path):
 class Unit(unittest.TestCase):
     """The service of systemd, as docs/OPERATE.md installs it."""
 
-    def setUp(self):
+    def setUp(self) -> None:
         self.unit, self.conf = text_of(
             'examples', 'systemd', 'nulvrader-dispatch.service'
         ), text_of('examples', 'systemd', 'nulvrader.conf')
@@ -426,18 +432,21 @@ class Unit(unittest.TestCase):
         )
         self.options = dict(zip(words[::2], words[1::2], strict=True))
 
-    def said(self, name):
-        return re.search(f'^{name}=(.*)$', self.unit, re.M).group(1)
+    def said(self, name: str) -> str:
+        found = re.search(f'^{name}=(.*)$', self.unit, re.M)
+        assert found
+        return found.group(1)
 
-    def test_its_files(self):
+    def test_its_files(self) -> None:
         """The desk is that of nulvrader.conf, which is that of the other unit."""
-        socket = re.search(
+        found = re.search(
             '^ListenStream=(.*)$', text_of('examples', 'systemd', 'nulvrader-proxy.socket'), re.M
-        ).group(1)
+        )
+        assert found
         self.assertEqual(self.options['--desk'], '${NULVRADER_DESK}')
-        self.assertIn('\nNULVRADER_DESK=unix:%s\n' % socket, self.conf)
+        self.assertIn('\nNULVRADER_DESK=unix:%s\n' % found.group(1), self.conf)
 
-    def test_its_line(self):
+    def test_its_line(self) -> None:
         """It is taken, and waits for a desk where none listens. Where it ends, the unit starts it
         again."""
         here = {'--desk': '127.0.0.1:1'}
@@ -450,6 +459,7 @@ class Unit(unittest.TestCase):
             stdout=subprocess.PIPE,
             text=True,
         ) as process:
+            assert process.stdout
             try:
                 line = process.stdout.readline()
             finally:

@@ -1,47 +1,36 @@
 """Parking places, given and chosen, and who is to drive there: by hand, over the built program, and
 over a sketch of a plant in which vehicles without an order would stand in the way for good."""
-import re
-import unittest
+from __future__ import annotations
 
-from nulvrader.common.layouts import Edge, Station, of_parts
+import os
+import re
+import tempfile
+import unittest
+from collections.abc import Callable, Collection, Mapping
+from unittest import mock
+
 from nulvrader.common.names import VehicleKey
-from nulvrader.desk.client import Desk, NoAnswer, Refused, Vehicle
-from nulvrader.dispatch.dispatcher import REST
+from nulvrader.common.plain_files import NotPlain
+from nulvrader.desk.client import Desk, NoAnswer, Refused
+from nulvrader.dispatch.drives import REST
 from nulvrader.dispatch.judge import Judge
+from nulvrader.dispatch.lanes import Way
 from nulvrader.dispatch.parking import IDLE, BadParking, Parking, chosen, passed, read_parking
 from nulvrader.dispatch.routes import Ways
-from nulvrader.dispatch.snapshot import Seen
 from nulvrader.dispatch.traffic import Traffic
 from simulation.floors import large, small
 from simulation.sketch import Sketch
+from simulation.sketched import Figures
+from tests.support.bays import RING, layout, seen
 from tests.support.desks import over_sockets
 from tests.support.dispatching import ONE, TWO, OverADesk
-from tests.support.programs import PATIENCE, TOOLS
+from tests.support.programs import PATIENCE, TOOLS, module
 
 assert TOOLS
 
 
-def layout(one_way=(), both_ways=(), stations=''):
-    """Of edges such as `ab`; each station stands at the node of its name in lower case."""
-    pairs = [*one_way, *both_ways, *(pair[::-1] for pair in both_ways)]
-    nodes = sorted({node for pair in pairs for node in pair})
-    edges = [Edge(pair, *pair) for pair in pairs]
-    return of_parts(nodes, edges, [Station(name.upper(), name, 9) for name in stations])
-
-
-# A ring a > b > c > d > a with stations in the bays s at a and t at c, a bay p at b without one,
-# and q behind it.
-RING = layout(('ab', 'bc', 'cd', 'da'), ('as', 'ct', 'bp', 'pq'), 'st')
-
-
-def seen(number, node):
-    key = VehicleKey('KIT', f'{number:04d}')
-    row = Vehicle(key, node, 1, True, False, False, None, None, None, None, 1)
-    return Seen(row, (), None, frozenset((node,)), 0)
-
-
 class Places(unittest.TestCase):
-    def test_what_a_file_names(self):
+    def test_what_a_file_names(self) -> None:
         for text, places in (
             ('node,behind\np,\n', ('p',)),
             ('\ufeffnode,behind\r\nq,1\r\n\r\n', ('q', 'p')),
@@ -49,7 +38,17 @@ class Places(unittest.TestCase):
         ):
             self.assertEqual(read_parking(text, RING), places)
 
-    def test_what_is_no_file_of_places(self):
+    def test_what_is_no_regular_file(self) -> None:
+        """A FIFO and a device are not read, and nobody waits for them."""
+        dispatch = module('dispatch')
+        with tempfile.TemporaryDirectory() as folder:
+            fifo = os.path.join(folder, 'fifo')
+            os.mkfifo(fifo)
+            for path in (fifo, '/dev/zero', folder):
+                with self.subTest(path), self.assertRaises(NotPlain):
+                    dispatch.places_of(path, RING)
+
+    def test_what_is_no_file_of_places(self) -> None:
         for text, told in (
             ('', 'line 1: the header is not node,behind'),
             ('p,\n', 'line 1: the header'),
@@ -64,17 +63,17 @@ class Places(unittest.TestCase):
             with self.subTest(text), self.assertRaisesRegex(BadParking, f'^{told}'):
                 read_parking(text, RING)
 
-    def test_what_a_layout_has(self):
+    def test_what_a_layout_has(self) -> None:
         """Over the ring lead ways, but none over the bay without a station, nor behind it."""
         self.assertEqual(passed(RING), set('abcd'))
         self.assertEqual(chosen(RING), ('p', 'q'))
 
-    def test_no_place_without_a_way_out(self):
+    def test_no_place_without_a_way_out(self) -> None:
         """From q leads no edge, and to r none."""
         one = layout(('ab', 'bc', 'cd', 'da', 'bq', 'rb'), ('as', 'ct', 'bp'), 'st')
         self.assertEqual(chosen(one), ('p',))
 
-    def test_stations_where_there_is_nothing_else(self):
+    def test_stations_where_there_is_nothing_else(self) -> None:
         """On the floors of the simulated plants only bays are passed by nobody, and the ends of
         dead ends."""
         for floor in (small(), large()):
@@ -84,23 +83,30 @@ class Places(unittest.TestCase):
 
 
 class Who(unittest.TestCase):
-    def setUp(self):
+    def setUp(self) -> None:
         self.judge = Judge()
         self.judge.begin_turn()
         self.parking = Parking(Ways(RING), self.judge)
 
-    def propose(self, at, wanted=(), since=0.0, now=0.0, ways=()):
+    def propose(
+        self,
+        at: str,
+        wanted: Collection[str] = (),
+        since: float = 0.0,
+        now: float = 0.0,
+        ways: Mapping[str, Way] | None = None,
+    ) -> tuple[str, str] | None:
         idle = [seen(n, node) for n, node in enumerate(at)]
-        traffic = Traffic(dict(ways), {}, {one.name: one.nodes for one in idle})
+        traffic = Traffic(ways or {}, {}, {one.name: one.nodes for one in idle})
         times = {one.name: since for one in idle}
         found = self.parking.propose(idle, times, wanted, (), traffic, now)
         return None if found is None else (found.vehicle, ''.join(found.way))
 
-    def test_one_that_stands_at_a_drop(self):
+    def test_one_that_stands_at_a_drop(self) -> None:
         self.assertEqual(self.propose('s', wanted='s'), ('KIT/0000', 'sabp'))
         self.assertIsNone(self.propose('s', wanted='t'))
 
-    def test_one_that_stands_at_a_pick(self):
+    def test_one_that_stands_at_a_pick(self) -> None:
         """It would take the job itself if it could, so the one at the drop makes room."""
         idle = [seen(1, 's'), seen(2, 't')]
         traffic = Traffic({}, {}, {one.name: one.nodes for one in idle})
@@ -108,23 +114,23 @@ class Who(unittest.TestCase):
             found = self.parking.propose(idle[:1], {'KIT/0001': 0.0}, 't', 's', traffic, now)
             self.assertEqual(None if found is None else found.vehicle, wanted)
         found = self.parking.propose(idle, {'KIT/0001': 0.0}, 't', 's', traffic, IDLE)
-        self.assertEqual(found.vehicle, 'KIT/0002')
+        self.assertEqual(None if found is None else found.vehicle, 'KIT/0002')
 
-    def test_one_on_the_way_of_another(self):
+    def test_one_on_the_way_of_another(self) -> None:
         on = {'KIT/0009': ('a', 'b', 'c', 't')}
         self.assertEqual(self.propose('b', ways=on), ('KIT/0000', 'bp'))
 
-    def test_one_that_is_idle(self):
+    def test_one_that_is_idle(self) -> None:
         self.assertIsNone(self.propose('s', now=IDLE - 1))
         self.assertEqual(self.propose('s', now=IDLE), ('KIT/0000', 'sabp'))
         self.assertIsNone(self.propose('p', now=IDLE))
 
-    def test_places_that_are_taken(self):
+    def test_places_that_are_taken(self) -> None:
         """One stands at p: the other can't go by to q."""
         self.assertIsNone(self.propose('ps', wanted='s'))
         self.assertEqual(self.propose('qs', wanted='s'), ('KIT/0001', 'sabp'))
 
-    def test_one_that_another_ends_at(self):
+    def test_one_that_another_ends_at(self) -> None:
         """The bay p is the end of another's way, so it goes on to q, before that one comes."""
         on = {'KIT/0009': ('c', 'd', 'a', 'b', 'p')}
         self.assertEqual(self.propose('s', wanted='s', ways=on), ('KIT/0000', 'sabpq'))
@@ -133,14 +139,15 @@ class Who(unittest.TestCase):
 class Run(unittest.TestCase):
     """Over a sketch of the small plant, with a dispatcher that checks its plan after each turn."""
 
-    def run_with(self, drive=None, jobs=6):
+    def run_with(self, drive: Callable[..., int] | None = None, jobs: int = 6) -> Figures:
         """A run in which one job waits at a time, until all are done, for 50 minutes at most. The
         desk's call for drives is this one, if one is named."""
-        sketch, given = Sketch(small(), 7, 40, 2), []
+        sketch, given = Sketch(small(), 7, 40, 2), list[int]()
         if drive is not None:
-            sketch.start_drive = drive
+            mock.patch.object(sketch, 'start_drive', drive).start()
+            self.addCleanup(mock.patch.stopall)
 
-        def add():
+        def add() -> None:
             if not sketch.jobs_open and len(given) < jobs:
                 sketch.add_jobs(1)
                 given.append(1)
@@ -149,17 +156,17 @@ class Run(unittest.TestCase):
         sketch.run(3000.0, lambda: sketch.figures.done == jobs)
         return sketch.figures
 
-    def test_one_job_at_a_time(self):
+    def test_one_job_at_a_time(self) -> None:
         """Each is done."""
         figures = self.run_with()
         self.assertEqual(figures.done, 6)
         self.assertGreater(figures.counts['drives'], 0)
 
-    def test_a_desk_without_drives(self):
+    def test_a_desk_without_drives(self) -> None:
         """It is asked once; and a job waits for good for a vehicle that stands where it leads."""
-        asked = []
+        asked: list[object] = []
 
-        def drive(*words):
+        def drive(*words: object) -> int:
             asked.append(words)
             raise Refused('NoPath', 0, 404, {}, 'there is no such path', '')
 
@@ -170,12 +177,14 @@ class Run(unittest.TestCase):
 class Raced(Desk):
     """A desk at which something happens just before a drive is asked for, or just after it."""
 
-    def __init__(self, address):
+    def __init__(self, address: str) -> None:
         super().__init__(address, timeout=PATIENCE)
-        self.before = self.after = lambda order: None
-        self.asked, self.refused = [], []
+        self.before: Callable[[str], object] = lambda order: None
+        self.after: Callable[[str], object] = lambda order: None
+        self.asked: list[tuple[str, str, str]] = []
+        self.refused: list[str] = []
 
-    def start_drive(self, order, vehicle, to, edges):
+    def start_drive(self, order: str, vehicle: VehicleKey, to: str, edges: int) -> int:
         self.asked.append((order, str(vehicle), to))
         self.before(order)
         try:
@@ -192,21 +201,21 @@ class Older(Desk):
 
     asked = 0
 
-    def start_drive(self, order, vehicle, to, edges):
+    def start_drive(self, order: str, vehicle: VehicleKey, to: str, edges: int) -> int:
         self.asked += 1
         return self._members('POST', '/drives-of-later', {}).number('orderUpdateId')
 
 
 @over_sockets
 class OverTheProgram(OverADesk):
-    def a_desk(self):
+    def a_desk(self) -> Desk:
         self.raced = Raced(self.address)
         return self.raced
 
-    def names(self):
+    def names(self) -> list[str]:
         return [order for order, _, _ in self.raced.asked]
 
-    def run_until(self, places, most=60):
+    def run_until(self, places: Mapping[str, str], most: int = 60) -> None:
         """Turns in which both vehicles drive what they are given, until these loads are there and
         no vehicle has an order. No person does anything."""
         for _ in range(most):
@@ -219,7 +228,7 @@ class OverTheProgram(OverADesk):
                 return
         self.fail('\n'.join(self.lines))
 
-    def test_two_that_change_places(self):
+    def test_two_that_change_places(self) -> None:
         """KIT/0001 stands in the bay of A and KIT/0002 in that of C, with a job from A to C and one
         back."""
         self.turn()
@@ -229,7 +238,7 @@ class OverTheProgram(OverADesk):
         self.assertGreater(len(self.names()), 0)
         self.assertEqual(len(set(self.names())), len(self.names()))
 
-    def test_one_that_stands_at_a_drop(self):
+    def test_one_that_stands_at_a_drop(self) -> None:
         """It is led to the nearest bay that no job needs, edge by edge, while the job begins."""
         self.turn()
         self.desk.add_job('J1', 'L1', 'C')
@@ -241,7 +250,7 @@ class OverTheProgram(OverADesk):
         self.assertIn(ended, self.lines)
         self.assertEqual(self.held(TWO), ['db'])
 
-    def test_one_that_a_person_puts_in_the_way(self):
+    def test_one_that_a_person_puts_in_the_way(self) -> None:
         """KIT/0001 is on its way from A to D when KIT/0002 is placed at d. It is led to the bay
         that KIT/0001 leaves: that of D is nearer, but KIT/0001 goes there."""
         self.turn()
@@ -252,7 +261,7 @@ class OverTheProgram(OverADesk):
         self.assertRegex(self.turn()[0], r'^KIT/0002: drives to ab, by order \S+$')
         self.run_until({'L1': 'station D'})
 
-    def test_one_that_is_idle_on_the_ring(self):
+    def test_one_that_is_idle_on_the_ring(self) -> None:
         self.turn()
         self.told(ONE, 'ab', mode='MANUAL')
         self.turn()
@@ -271,7 +280,7 @@ class OverTheProgram(OverADesk):
             self.turn(IDLE)
         self.assertEqual(len(self.raced.asked), 1)
 
-    def test_what_comes_between(self):
+    def test_what_comes_between(self) -> None:
         """The desk refuses the drive, since something happens after the look and before the call:
         it is said once. Another drive is asked for after a while, by another name."""
         for name, happens in (
@@ -298,13 +307,13 @@ class OverTheProgram(OverADesk):
                 self.assertEqual(len(set(self.names())), len(self.names()))
                 self.doCleanups()
 
-    def test_no_answer_to_a_drive(self):
+    def test_no_answer_to_a_drive(self) -> None:
         """The desk has started it all the same: it is seen in the next turn, and no second one is
         asked for."""
         self.turn()
         self.desk.add_job('J1', 'L1', 'C')
 
-        def cut(order):
+        def cut(order: str) -> None:
             raise NoAnswer('the connection was closed', True)
 
         self.raced.after = cut
@@ -317,11 +326,11 @@ class OverTheProgram(OverADesk):
         self.assertIn(told, self.lines)
         self.assertEqual([line for line in self.lines if 'cancels' in line], [])
 
-    def test_a_desk_without_drives(self):
+    def test_a_desk_without_drives(self) -> None:
         """It is asked once, and that is said."""
-        self.a_desk = lambda: self.older
         self.older = Older(self.address, timeout=PATIENCE)
-        self.begin()
+        with mock.patch.object(self, 'a_desk', lambda: self.older):
+            self.begin()
         self.turn()
         self.desk.add_job('J1', 'L1', 'C')
         for _ in range(50):
@@ -334,7 +343,7 @@ class OverTheProgram(OverADesk):
 
 
 class Swap(unittest.TestCase):
-    def test_two_that_change_places(self):
+    def test_two_that_change_places(self) -> None:
         """One at s and one at t, with a job from each to the other: the first makes room at p."""
         idle = [seen(1, 's'), seen(2, 't')]
         judge = Judge()
@@ -343,6 +352,7 @@ class Swap(unittest.TestCase):
         self.assertFalse(judge.may_start(traffic, 'KIT/0001', tuple('sabct')))
         parking = Parking(Ways(RING), judge)
         found = parking.propose(idle, {}, {'s', 't'}, ['s', 't'], traffic, 0.0)
+        assert found is not None
         self.assertEqual((found.vehicle, found.to), ('KIT/0001', 'p'))
         after = traffic.started('KIT/0001', found.way)
         self.assertTrue(judge.may_start(after, 'KIT/0002', tuple('tcdas')))

@@ -1,12 +1,16 @@
 """The standing plan: its plain check, and that a judge has one behind whatever happens, of which
 the first move is always allowed."""
+from __future__ import annotations
+
 import collections
 import random
 import unittest
+from collections.abc import Collection
 from unittest import mock
 
+from nulvrader.dispatch.closures import Closures
 from nulvrader.dispatch.deadlock import look
-from nulvrader.dispatch.plan import Plan
+from nulvrader.dispatch.plan import Moves, Plan
 from nulvrader.dispatch.judge import Judge
 from nulvrader.dispatch.traffic import Still, Traffic
 from simulation.floors import small
@@ -26,25 +30,28 @@ class Check(unittest.TestCase):
     WAYS = {'ends': tuple('abc'), 'passes': tuple('xcd')}
     BOTH = frozenset(WAYS)
 
-    def fault(self, moves, finishing=BOTH, walls=()):
+    def fault(
+        self, moves: Moves, finishing: Collection[str] = BOTH, walls: Collection[str] = ()
+    ) -> str | None:
         return Plan(self.WAYS, walls, moves, frozenset(finishing)).fault()
 
-    def test_one_that_can_be_carried_out(self):
+    def test_one_that_can_be_carried_out(self) -> None:
         self.assertIsNone(self.fault([('passes', 0), ('ends', 0)]))
         self.assertIsNone(self.fault([('passes', 1), ('passes', 0), ('ends', 1), ('ends', 0)]))
 
-    def test_what_is_wrong(self):
-        for moves, finishing, walls, told in (
+    def test_what_is_wrong(self) -> None:
+        rows: tuple[tuple[Moves, Collection[str], Collection[str], str], ...] = (
             ([('ends', 0), ('passes', 0)], self.BOTH, (), 'passes is to go to c, where ends is'),
             ([('passes', 1), ('ends', 0)], self.BOTH, (), 'ends is to go to c, where passes is'),
             ([('passes', 0), ('ends', 1)], self.BOTH, (), 'ends does not finish'),
             ([('passes', 0), ('ends', 0)], self.BOTH, 'b', 'ends is to go to b, where a wall is'),
             ([], {'strange'}, (), 'strange does not finish'),
-        ):
+        )
+        for moves, finishing, walls, told in rows:
             with self.subTest(told):
                 self.assertRegex(self.fault(moves, finishing, walls) or '', '^' + told)
 
-    def test_whether_something_can_move(self):
+    def test_whether_something_can_move(self) -> None:
         for ways, finishing, told in (
             ({'a': tuple('xy')}, 'a', True),
             ({'a': tuple('xy')}, '', False),
@@ -57,7 +64,7 @@ class Floor:
     """Vehicles on small ways, of which each holds one node at a time and goes on as a judge allows
     it. People pause and place them."""
 
-    def __init__(self, chance, judge):
+    def __init__(self, chance: random.Random, judge: Judge) -> None:
         self.chance, self.judge = chance, judge
         while True:
             self.ways, walls = random_case(chance)
@@ -66,10 +73,12 @@ class Floor:
         nodes = sorted({node for way in self.ways.values() for node in way})
         self.out = {node: tuple(chance.sample(nodes, 1)) for node in nodes if chance.random() < 0.1}
         self.nodes = nodes
-        self.still, self.begun = set(), set(self.ways)
+        self.still, self.begun = set[str](), set(self.ways)
         self.walls = {f'wall {node}': frozenset([node]) for node in walls}
+        self.pairs = sorted({pair for way in self.ways.values() for pair in zip(way, way[1:])})
+        self.closed = Closures()
 
-    def traffic(self):
+    def traffic(self) -> Traffic:
         going = {name: way for name, way in self.ways.items() if name in self.begun}
         return Traffic(
             {name: way for name, way in going.items() if name not in self.still},
@@ -87,16 +96,17 @@ class Floor:
                 },
             },
             self.out,
+            self.closed,
         )
 
-    def taken(self):
+    def taken(self) -> frozenset[str]:
         return frozenset().union(*(way[:1] for way in self.ways.values()), *self.walls.values())
 
-    def pause(self):
+    def pause(self) -> None:
         name = self.chance.choice(sorted(self.ways))
         self.still ^= {name}
 
-    def place(self):
+    def place(self) -> None:
         """A person places one, whose order has ended."""
         free = [node for node in self.nodes if node not in self.taken()]
         if free:
@@ -105,21 +115,35 @@ class Floor:
             self.begun.discard(name)
             self.still.discard(name)
 
-    def someone_has_to_come_first(self):
-        """Whether one stands that has to go on before others may: with an order, or without one in
-        a dead end."""
-        return bool(self.still & self.begun) or any(
-            node in self.out for held in self.traffic().parked.values() for node in held
-        )
+    def close(self) -> None:
+        """A person closes a node or an edge, or opens it."""
+        nodes, edges = {*self.closed.nodes}, {**self.closed.edges}
+        if self.pairs and self.chance.random() < 0.5:
+            pair = self.chance.choice(self.pairs)
+            if edges.pop(pair, None) is None:
+                edges[pair] = '-'.join(pair)
+        else:
+            nodes ^= {self.chance.choice(self.nodes)}
+        self.closed = Closures(frozenset(nodes), edges)
 
-    def end(self):
+    def someone_has_to_come_first(self) -> bool:
+        """Whether one stands that has to go on before others may: with an order, or without one in
+        a dead end or on the way of others; or something is closed."""
+        traffic = self.traffic()
+        ahead = {node for way in traffic.ways.values() for node in way[1:]}
+        stand = frozenset().union(*traffic.parked.values())
+        return bool(self.closed.names or traffic.still or stand & ahead or stand & self.out.keys())
+
+    def end(self) -> None:
         self.begun -= {name for name, way in self.ways.items() if len(way) == 1}
 
-    def may_go(self, name):
+    def may_go(self, name: str) -> bool:
         way = self.ways[name]
-        return name in self.begun - self.still and len(way) > 1 and way[1] not in self.taken()
+        goes = name in self.begun - self.still and len(way) > 1
+        is_closed = self.closed.first_on(way[:2]) is not None
+        return goes and not is_closed and way[1] not in self.taken()
 
-    def can_finish(self, number):
+    def can_finish(self, number: int) -> set[str]:
         """Who finishes by a look with states enough, one by one, in a view."""
         ways, walls = self.traffic().views()[number]
         return {
@@ -130,15 +154,15 @@ class Floor:
 class Kept(unittest.TestCase):
     """A judge over many turns, in which vehicles go on, stand and are placed."""
 
-    def check(self, judge, traffic, where):
+    def check(self, judge: Judge, traffic: Traffic, where: object) -> None:
         for plan in judge.outlook(traffic).plans():
             self.assertIsNone(plan.fault(), (where, traffic))
 
-    def test_there_always_is_a_plan(self):
+    def test_there_always_is_a_plan(self) -> None:
         """Each plan can be carried out as it stands; whoever finishes by it does by the next one
         too, unless a person has done something; and while one can move by it, a move is allowed.
         None can where one that stands has to go on before."""
-        chance, counts = random.Random(90), collections.Counter()
+        chance, counts = random.Random(90), collections.Counter[str]()
         for case in range(CASES // 10):
             judge = Judge()
             floor = Floor(chance, judge)
@@ -148,8 +172,10 @@ class Kept(unittest.TestCase):
                 act = chance.random()
                 if act < 0.15:
                     floor.pause()
-                elif act < 0.25:
+                elif act < 0.2:
                     floor.place()
+                elif act < 0.25:
+                    floor.close()
                 floor.end()
                 traffic = floor.traffic()
                 self.check(judge, traffic, (case, turn))
@@ -168,7 +194,9 @@ class Kept(unittest.TestCase):
         self.assertGreater(counts['granted'], CASES // 15)
         self.assertGreater(counts['can move'], CASES // 15)
 
-    def release(self, floor, judge, where, counts):
+    def release(
+        self, floor: Floor, judge: Judge, where: object, counts: collections.Counter[str]
+    ) -> int:
         """Lets vehicles go on by a node each, in any order, as the judge allows it."""
         moved = 0
         for name in floor.chance.sample(sorted(floor.ways), len(floor.ways)):
@@ -182,18 +210,18 @@ class Kept(unittest.TestCase):
                 counts['refused'] += 1
         return moved
 
-    def test_nobody_is_shut_in_behind_a_pause_or_a_placement(self):
+    def test_nobody_is_shut_in_behind_a_pause_or_a_placement(self) -> None:
         """Against looks with states enough, in the turn in which a person has done something and
         in those behind it: each grant leaves all able to finish whom the judge's plan names, and
         it names all of whom there is one that finishes at all where all do."""
-        chance, counts = random.Random(91), collections.Counter()
+        chance, counts = random.Random(91), collections.Counter[str]()
         for case in range(CASES // 15):
             judge = Judge()
             floor = Floor(chance, judge)
             for turn in range(10):
                 judge.begin_turn()
                 if chance.random() < 0.4:
-                    chance.choice((floor.pause, floor.place))()
+                    chance.choice((floor.pause, floor.place, floor.close))()
                 floor.end()
                 for number, one in enumerate(judge.outlook(floor.traffic()).found):
                     ways, walls = floor.traffic().views()[number]
@@ -217,7 +245,7 @@ class Kept(unittest.TestCase):
 
 
 class ByHand(unittest.TestCase):
-    def test_the_bay_of_one_that_is_paused(self):
+    def test_the_bay_of_one_that_is_paused(self) -> None:
         """KIT/0001 is paused on its way to the bay d. No other one is sent there, since both could
         not end there; once it goes on, all is as it was."""
         still = {'KIT/0001': Still(frozenset('b'), tuple('bcd'))}
@@ -228,7 +256,7 @@ class ByHand(unittest.TestCase):
             traffic = Traffic({}, still, parked, {'d': ('c',)})
             self.assertIs(judge.may_start(traffic, 'KIT/0002', tuple(way)), told, way)
 
-    def test_room_over_others(self):
+    def test_room_over_others(self) -> None:
         """c can finish, b is in its way, and a in that of b; a and b end where a wall is. All that
         are in the way over others make room; the one that is in nobody's way stays."""
         ways = {
@@ -245,7 +273,7 @@ class ByHand(unittest.TestCase):
         after = traffic.released('a', 2)
         self.assertTrue(judge.may_release(after, 'b', 1))
 
-    def test_a_resumed_vehicle_is_not_waited_for_some_turns(self):
+    def test_a_resumed_vehicle_is_not_waited_for_some_turns(self) -> None:
         """Who finishes is looked for at once where one goes on that stood: by moves that were good
         before it alone would not be seen to finish."""
         ways = {'KIT/0001': tuple('abc'), 'KIT/0002': tuple('xby')}
@@ -263,19 +291,19 @@ class ByHand(unittest.TestCase):
 class InAPlant(unittest.TestCase):
     """The simulated plant ends where the dispatcher's plan is wrong, or is not followed."""
 
-    def setUp(self):
+    def setUp(self) -> None:
         self.plant = Plant(Plans('small'), mock.Mock(address='127.0.0.1:1'), None)
         self.plant.vehicles['KIT/0001'] = mock.Mock(last_moved=100.0)
 
-    def check(self, now, plan):
+    def check(self, now: float, plan: Plan) -> None:
         self.plant.clock.now = now
         self.plant.check_plans([plan])
 
-    def test_one_that_can_not_be_carried_out(self):
+    def test_one_that_can_not_be_carried_out(self) -> None:
         with self.assertRaisesRegex(Wrong, r'carried out: KIT/0001 is to go to b, where a wall is'):
             self.check(1.0, Plan({'KIT/0001': 'ab'}, 'b', [('KIT/0001', 0)], frozenset()))
 
-    def test_one_that_is_not_followed(self):
+    def test_one_that_is_not_followed(self) -> None:
         """Once nothing has moved for long since something could."""
         can = Plan({'KIT/0001': 'ab'}, '', [('KIT/0001', 0)], frozenset(['KIT/0001']))
         stands = Plan({'KIT/0001': 'ab'}, 'b', [], frozenset())
@@ -287,7 +315,7 @@ class InAPlant(unittest.TestCase):
 
 
 class Waves(unittest.TestCase):
-    def test_many_jobs_at_once(self):
+    def test_many_jobs_at_once(self) -> None:
         """On a sketch of the small plant as many jobs come at once as it has room for, and are
         done; the plan is checked after each turn."""
         sketch = Sketch(small(), 5, 40, 1)
@@ -298,7 +326,7 @@ class Waves(unittest.TestCase):
         self.assertGreater(figures.done, 20)
         self.assertLess(figures.still, 60)
 
-    def test_one_that_is_wrong_ends_it(self):
+    def test_one_that_is_wrong_ends_it(self) -> None:
         sketch = Sketch(small(), 5, 40, 1)
         wrong = Plan({'a': 'xy'}, 'y', [('a', 0)], frozenset())
         with mock.patch.object(Judge, 'plans', lambda self, traffic: [wrong]):

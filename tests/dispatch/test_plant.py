@@ -9,6 +9,7 @@ import os
 import subprocess
 import sys
 import unittest
+from collections.abc import Sequence
 from unittest import mock
 
 from nulvrader.desk.client import NoAnswer
@@ -60,7 +61,7 @@ CIRCLE = (
 
 @over_sockets
 class APartOfADay(unittest.TestCase):
-    def test_all_goes_wrong_that_can(self):
+    def test_all_goes_wrong_that_can(self) -> None:
         """Each job is done, or stopped for a reason; the file is lawful; nothing collided: else the
         run itself ends with a fault. And nothing stands."""
         quick = Nature(speed=2.5, action=(3.0, 8.0), failing=20, battery=3000.0)
@@ -92,13 +93,13 @@ class APartOfADay(unittest.TestCase):
 class Compared(unittest.TestCase):
     """The same jobs in the same plant, in which nothing else goes wrong."""
 
-    def test_without_the_look_vehicles_wait_for_each_other(self):
+    def test_without_the_look_vehicles_wait_for_each_other(self) -> None:
         """The look alone is left out: whatever is seen without one holds there too."""
         for seed in SEEDS:
             with self.subTest(seed=seed), self.assertRaisesRegex(Wrong, CIRCLE):
                 run(DESK, dataclasses.replace(SMALL, seed=seed), 'free')
 
-    def test_so_they_do_in_the_plant_of_a_day(self):
+    def test_so_they_do_in_the_plant_of_a_day(self) -> None:
         """Where nothing else goes wrong there; with the look no circle lasts."""
         plan = Plan(jobs=3000).calm()
         with self.assertRaisesRegex(Wrong, CIRCLE):
@@ -107,14 +108,14 @@ class Compared(unittest.TestCase):
         self.assertEqual(day.stands, TIME_OVER)
         self.assertGreater(day.done, 0)
 
-    def test_with_it_they_do_not(self):
+    def test_with_it_they_do_not(self) -> None:
         for seed in SEEDS:
             with self.subTest(seed=seed):
                 day = run(DESK, dataclasses.replace(SMALL, seed=seed), 'look')
                 self.assertIsNone(day.stands)
                 self.assertEqual((day.done, day.stopped), (SMALL.jobs, {}))
 
-    def test_whole_ways_at_once(self):
+    def test_whole_ways_at_once(self) -> None:
         """In the same time fewer jobs are done where each order has its whole way from the
         beginning."""
         plan = dataclasses.replace(SMALL, vehicles=5, jobs=1000, limit=900.0)
@@ -131,7 +132,7 @@ class Compared(unittest.TestCase):
 class Faulty(unittest.TestCase):
     """A run ends at the moment at which something is wrong in it."""
 
-    def test_a_vehicle_that_drives_on(self):
+    def test_a_vehicle_that_drives_on(self) -> None:
         """Each vehicle goes on over what its order announces, be it released or not."""
         with mock.patch.object(Vehicle, 'is_released', lambda self, number: number in self.nodes):
             with self.assertRaisesRegex(
@@ -140,10 +141,10 @@ class Faulty(unittest.TestCase):
             ):
                 run(DESK, SMALL, 'look')
 
-    def test_a_load_that_is_elsewhere(self):
+    def test_a_load_that_is_elsewhere(self) -> None:
         """One is carried away, and nobody tells the desk."""
 
-        def stolen(plant):
+        def stolen(plant: Plant) -> None:
             load, place = next(
                 (load, place)
                 for load, place in plant.goods.places().items()
@@ -162,10 +163,10 @@ class Faulty(unittest.TestCase):
                     'look',
                 )
 
-    def test_a_load_in_two_orders(self):
+    def test_a_load_in_two_orders(self) -> None:
         """A vehicle takes another's load along."""
 
-        def taken(plant):
+        def taken(plant: Plant) -> None:
             one, other = [one for one in plant.vehicles.values() if one.open_loads()][:2]
             other.nodes.update({at + 100: node for at, node in one.nodes.items()})
             other.statuses.update(one.statuses)
@@ -180,10 +181,10 @@ class Faulty(unittest.TestCase):
                     'look',
                 )
 
-    def test_a_vehicle_that_is_elsewhere(self):
+    def test_a_vehicle_that_is_elsewhere(self) -> None:
         """One is moved by hand, and nobody tells the desk."""
 
-        def pushed(plant):
+        def pushed(plant: Plant) -> None:
             vehicle = next(one for one in plant.vehicles.values() if not one.node_is_left())
             free = next(node for node in plant.floor.bays if node not in plant.track.nodes)
             plant.track.put(vehicle.name, free)
@@ -201,7 +202,7 @@ class Faulty(unittest.TestCase):
 
 @over_sockets
 class Demo(unittest.TestCase):
-    def test_the_demo(self):
+    def test_the_demo(self) -> None:
         """The dispatcher is a program of its own there."""
         words = [
             sys.executable,
@@ -220,7 +221,7 @@ class Demo(unittest.TestCase):
 
 
 class WhyShutIn(unittest.TestCase):
-    def test_one_that_was_so_before_a_start(self):
+    def test_one_that_was_so_before_a_start(self) -> None:
         """A dispatcher that was started anew says what the one before has said, also where the desk
         does not answer its first turn."""
         made = mock.Mock(**{'plans.return_value': ()})
@@ -240,7 +241,7 @@ class WhyShutIn(unittest.TestCase):
 
 
 class Pauses(unittest.TestCase):
-    def test_a_pause_that_comes_late(self):
+    def test_a_pause_that_comes_late(self) -> None:
         """The gateway of a vehicle is away for longer than a person wants it to be paused. It goes
         on nevertheless: once the pause has reached it, it is told so; also where the desk did not
         answer the person."""
@@ -252,13 +253,14 @@ class Pauses(unittest.TestCase):
                     mock.Mock(pending='startPause'),
                     mock.Mock(),
                 )
-                plant.people.desk, plant.people.some_vehicle = desk, lambda with_order: vehicle
+                plant.people.desk = desk
+                self.enterContext(
+                    mock.patch.object(plant.people, 'some_vehicle', lambda with_order: vehicle)
+                )
                 desk.vehicle.return_value, desk.pause.side_effect = row, answer
                 desk.resume.side_effect = lambda key: vehicle.configure_mock(paused=False)
-                plant.clock.after(
-                    200,
-                    lambda: (vehicle.configure_mock(paused=True), row.configure_mock(pending=None)),
-                )
+                plant.clock.after(200, lambda: vehicle.configure_mock(paused=True))
+                plant.clock.after(200, lambda: row.configure_mock(pending=None))
                 with contextlib.suppress(NoAnswer):
                     plant.people.pause()
                 plant.clock.run(lambda: plant.clock.now > 1000)
@@ -270,13 +272,19 @@ class TheBench(unittest.TestCase):
     """`bench/day` over runs of an hour that are made up: in two days 9 jobs are done, and in the
     calm runs as many as are named."""
 
-    def bench(self, ours, theirs, second=None, cancels=()):
-        def run(_, plan, kind, say):
+    def bench(
+        self,
+        ours: int,
+        theirs: int,
+        second: str | Wrong | None = None,
+        cancels: Sequence[str] = (),
+    ) -> tuple[int, str]:
+        def run(_: str, plan: Plan, kind: str, say: object) -> Day:
             if plan.limit == 7200.0:
                 return Day(3600.0, done=ours if kind == 'look' else theirs, stands=TIME_OVER)
             if plan.seed == 2 and isinstance(second, Wrong):
                 raise second
-            stands = second if plan.seed == 2 else None
+            stands = None if plan.seed != 2 or isinstance(second, Wrong) else second
             return Day(
                 3600.0,
                 done=9,
@@ -287,9 +295,10 @@ class TheBench(unittest.TestCase):
 
         program = module('day', 'bench')
         with mock.patch.multiple(program, run=run, end_by_signal=lambda: None):
-            return within(program, '--program', sys.executable, '--seeds', '1', '2')[:2]
+            status, said, _ = within(program, '--program', sys.executable, '--seeds', '1', '2')
+        return status, said
 
-    def test_its_status(self):
+    def test_its_status(self) -> None:
         for ours, theirs, second, status in (
             (5, 4, None, 0),
             (5, 5, None, 1),
@@ -300,7 +309,7 @@ class TheBench(unittest.TestCase):
             with self.subTest((ours, theirs, second)):
                 self.assertEqual(self.bench(ours, theirs, second)[0], status)
 
-    def test_vehicles_that_the_dispatcher_has_shut_in(self):
+    def test_vehicles_that_the_dispatcher_has_shut_in(self) -> None:
         """An order that the dispatcher cancels is no fault, unless nothing but the dispatcher has
         led to it."""
         for why, status in ((WHY, 0), (BEFORE, 1), (BY_ITSELF, 1)):
@@ -312,12 +321,12 @@ class TheBench(unittest.TestCase):
                     (status, 2, status),
                 )
 
-    def test_waves(self):
+    def test_waves(self) -> None:
         """A calm run and one in which all goes wrong for each seed and size, and no other. They end
         with their time, and have the jobs at once."""
         plans = []
 
-        def run(_, plan, kind, say):
+        def run(_: str, plan: Plan, kind: str, say: object) -> Day:
             plans.append((plan.trouble == CALM, plan.seed, plan.habits.wave, plan.habits.jobs))
             return Day(plan.limit, done=9, stands=TIME_OVER)
 
@@ -331,7 +340,7 @@ class TheBench(unittest.TestCase):
         )
         self.assertEqual(said.count('| calm, waves of 300, seed 4 | 9 |'), 2)
 
-    def test_how_long_vehicles_were_shut_in(self):
+    def test_how_long_vehicles_were_shut_in(self) -> None:
         """For a while nobody knows whether the look was only too short."""
         for seconds, why, wanted in (
             (60.0, BY_ITSELF, 0),
@@ -347,7 +356,7 @@ class TheBench(unittest.TestCase):
                     told(dataclasses.replace(day, seconds=1.0)),
                 )
 
-    def test_its_rows(self):
+    def test_its_rows(self) -> None:
         """Each is printed when its run ends, and all at the end."""
         row = '| day, seed 1 | 9 | 2 | 1 | 9 | 0 % | 0 s | 1.0 | 0 s |\n'
         self.assertEqual(

@@ -7,6 +7,9 @@ import random
 import sqlite3
 import tempfile
 import unittest
+from collections.abc import Callable, Collection
+from typing import Any
+from unittest import mock
 
 from nulvrader.desk.client import NoAnswer, Refused, Stop
 from nulvrader.common.names import VehicleKey
@@ -28,31 +31,31 @@ class WhatIsWrong(unittest.TestCase):
     """What the plant ends at. On the small floor N00 and N01 follow one another, and a siding leads
     from N00 to the bay N00b."""
 
-    def setUp(self):
+    def setUp(self) -> None:
         self.track = Track(FLOORS['small']().layout().edges)
         self.track.put('a', 'N00')
 
-    def wrong(self, text, call, *words):
+    def wrong(self, text: str, call: Callable[..., object], *words: object) -> None:
         with self.assertRaisesRegex(Wrong, text):
             call(*words)
 
-    def test_two_on_a_node(self):
+    def test_two_on_a_node(self) -> None:
         self.wrong('a and b are on the node N00', self.track.put, 'b', 'N00')
         self.track.put('b', 'N01')
         self.track.leave('a', 'N00.N01')
         self.wrong('b and a are on the node N01', self.track.arrive, 'a')
 
-    def test_two_on_an_edge(self):
+    def test_two_on_an_edge(self) -> None:
         """From both of its ends; and the node behind a vehicle is taken until it has arrived."""
         self.track.put('b', 'N00b')
         self.track.leave('a', 'N00.N00b')
         self.wrong('a and b are on the edge', self.track.leave, 'b', 'N00b.N00')
         self.wrong('a and c are on the node N00', self.track.put, 'c', 'N00')
 
-    def test_an_edge_from_elsewhere(self):
+    def test_an_edge_from_elsewhere(self) -> None:
         self.wrong('a drives along N01.N02, and is at N00', self.track.leave, 'a', 'N01.N02')
 
-    def test_what_may_be(self):
+    def test_what_may_be(self) -> None:
         self.track.put('b', 'N01')
         self.track.leave('b', 'N01.N02')
         self.track.arrive('b')
@@ -61,7 +64,7 @@ class WhatIsWrong(unittest.TestCase):
         self.track.put('c', 'N00')
         self.assertEqual(self.track.nodes, {'N02': 'b', 'N01': 'a', 'N00': 'c'})
 
-    def test_loads(self):
+    def test_loads(self) -> None:
         goods = Goods()
         goods.add('load', 'station A')
         self.wrong(
@@ -85,7 +88,7 @@ class WhatIsWrong(unittest.TestCase):
             goods.places,
         )
 
-    def test_track_that_was_not_given(self):
+    def test_track_that_was_not_given(self) -> None:
         given = Given()
         edges = [
             {'edgeId': 'N00.N01', 'sequenceId': 1, 'released': True},
@@ -107,9 +110,10 @@ class WhatIsWrong(unittest.TestCase):
 class AVehicle(unittest.TestCase):
     """One at N00, which has an order to pick L there and to put it down at the end of an edge."""
 
-    def setUp(self):
+    def setUp(self) -> None:
         floor = FLOORS['small']()
-        self.clock, self.goods, self.given, self.failed = Clock(), Goods(), Given(), set()
+        self.clock, self.goods, self.given = Clock(), Goods(), Given()
+        self.failed: set[str] = set()
         key = VehicleKey('KIT', 'a')
         self.vehicle = Vehicle(
             key,
@@ -134,30 +138,31 @@ class AVehicle(unittest.TestCase):
             for n, (node, kind) in enumerate((('N00', 'pick'), ('N01', 'drop')))
         ]
         edges = [{'edgeId': 'N00.N01', 'sequenceId': 1, 'released': True}]
-        self.message = message = {
+        message: dict[str, Any] = {
             'headerId': 0,
             'orderId': 'o',
             'orderUpdateId': 0,
             'nodes': nodes,
             'edges': edges,
         }
+        self.message = message
         self.given.note('KIT/a', message)
         self.vehicle.take_order(message)
 
-    def run_all(self):
+    def run_all(self) -> None:
         self.clock.run(lambda: False)
 
-    def test_a_load_that_is_not_there(self):
+    def test_a_load_that_is_not_there(self) -> None:
         with self.assertRaisesRegex(Wrong, '^KIT/a is to pick L at N00s, which is not there$'):
             self.run_all()
 
-    def test_a_load_that_others_have_moved(self):
+    def test_a_load_that_others_have_moved(self) -> None:
         """Where others tell the desk of loads too it is a pick that fails."""
         self.goods.alone = False
         self.run_all()
         self.assertEqual(self.failed, {'o.0', 'o.1'})
 
-    def test_a_load_that_it_does_not_carry(self):
+    def test_a_load_that_it_does_not_carry(self) -> None:
         """That its drop fails is right where its pick has failed, in the same order."""
         nodes = [{**self.message['nodes'][0], 'actions': []}, self.message['nodes'][1]]
         self.vehicle.nature = Nature(failing=1000)
@@ -175,7 +180,7 @@ class AVehicle(unittest.TestCase):
         ):
             self.run_all()
 
-    def test_a_restart(self):
+    def test_a_restart(self) -> None:
         """It comes where the vehicle does nothing and the desk knows all, as here in a pause behind
         the pick. With it the order is lost."""
         self.goods.add('L', 'station N00s')
@@ -196,7 +201,7 @@ class AVehicle(unittest.TestCase):
         )
         self.assertFalse(self.vehicle.goes_on())
 
-    def test_a_load_that_is(self):
+    def test_a_load_that_is(self) -> None:
         """Its track is its own until the order has ended. What it does is told by a state of after
         that."""
         self.goods.add('L', 'station N00s')
@@ -216,7 +221,7 @@ class AVehicle(unittest.TestCase):
         self.vehicle.posted = self.vehicle.state()['headerId']
         self.assertTrue(self.vehicle.has_told('L'))
 
-    def test_an_order_that_is_cancelled(self):
+    def test_an_order_that_is_cancelled(self) -> None:
         self.vehicle.take_instant(
             {'headerId': 0, 'actions': [{'actionId': 'c', 'actionType': 'cancelOrder'}]}
         )
@@ -225,7 +230,7 @@ class AVehicle(unittest.TestCase):
         self.assertEqual(self.vehicle.open_loads(), set())
 
 
-def action(name, kind, load, station):
+def action(name: str, kind: str, load: str, station: str) -> dict[str, Any]:
     said = {'loadId': load, 'stationName': station}
     return {
         'actionId': name,
@@ -237,23 +242,23 @@ def action(name, kind, load, station):
 class WhyAJobIsStopped(unittest.TestCase):
     """The order o1 has two jobs, and o2 one of them again."""
 
-    def setUp(self):
+    def setUp(self) -> None:
         self.reasons = Reasons()
         self.reasons.give(
             'o1', [Stop('pick', 'j1'), Stop('pick', 'j2'), Stop('drop', 'j2'), Stop('drop', 'j1')]
         )
         self.reasons.give('o2', [Stop('pick', 'j3'), Stop('drop', 'j3')])
 
-    def none(self, job):
+    def none(self, job: str) -> None:
         with self.assertRaisesRegex(Wrong, f'^{job} is stopped, and nobody has a reason$'):
             self.reasons.why_stopped(job)
 
-    def test_its_own_action(self):
+    def test_its_own_action(self) -> None:
         self.reasons.failed.add('o1.2')
         self.assertEqual(self.reasons.why_stopped('j2'), 'an action of it failed')
         self.none('j1')
 
-    def test_its_order(self):
+    def test_its_order(self) -> None:
         """A call whose answer is lost may have been carried out; one that is refused was not."""
         refused = Refused('NoOrder', 1, 409, {}, '', '')
         for fault, is_kept in (
@@ -275,14 +280,14 @@ class WhyAJobIsStopped(unittest.TestCase):
             self.cancel(refused)
             self.assertEqual('o1' in self.reasons.orders, is_kept)
 
-    def cancel(self, fault):
+    def cancel(self, fault: Exception | None) -> None:
         with contextlib.suppress(Refused, NoAnswer, Killed), self.reasons.noted(
             self.reasons.orders, 'o1', BY_PERSON
         ):
             if fault is not None:
                 raise fault
 
-    def test_done(self):
+    def test_done(self) -> None:
         goods = Goods()
         goods.drops['o1.3'] = 'L1', 'A'
         self.reasons.check_done('j1', 'L1', 'A', goods)
@@ -301,12 +306,12 @@ class WhyAJobIsStopped(unittest.TestCase):
 class OverAScript(unittest.TestCase):
     """A shell script stands for the desk's program."""
 
-    def setUp(self):
+    def setUp(self) -> None:
         folder = tempfile.TemporaryDirectory()
         self.addCleanup(folder.cleanup)
         self.program, self.db = (os.path.join(folder.name, name) for name in ('desk', 'plant.db'))
 
-    def served(self, *lines):
+    def served(self, *lines: str) -> Served:
         with open(self.program, 'w') as file:
             file.write('#!/bin/sh\n' + '\n'.join(lines) + '\n')
         os.chmod(self.program, 0o755)
@@ -314,10 +319,11 @@ class OverAScript(unittest.TestCase):
 
 
 class AProgram(OverAScript):
-    def test_one_that_ends_by_itself(self):
+    def test_one_that_ends_by_itself(self) -> None:
         served = self.served('echo listening on 127.0.0.1:1', 'echo fault: Storage >&2', 'exit 3')
         served.start()
         self.addCleanup(served.stop)
+        assert served.process is not None
         served.process.wait(120)
         with self.assertRaisesRegex(
             Wrong, '^the desk ended by itself: status 3, and it said: fault: Storage$'
@@ -325,7 +331,7 @@ class AProgram(OverAScript):
             served.supervise()
         self.assertEqual(served.starts, 1)
 
-    def test_one_that_is_killed(self):
+    def test_one_that_is_killed(self) -> None:
         served = self.served('echo listening on 127.0.0.1:1', 'exec sleep 600')
         served.start()
         self.addCleanup(served.stop)
@@ -344,23 +350,23 @@ class WhatTheDeskHas(OverAScript):
         b' L2\nleft: 0\n'
     )
 
-    def setUp(self):
+    def setUp(self) -> None:
         super().setUp()
-        self.plant = Plant(Plan('small', 1), self.served('exit 0'), lambda *_: None)
+        self.plant = Plant(Plan('small', 1), self.served('exit 0'), mock.Mock())
         self.plant.goods.add('L1', 'station A')
         self.plant.goods.add('L2', 'vehicle KIT/0001')
 
-    def compare(self, at_station, checking=b''):
+    def compare(self, at_station: bytes, checking: bytes = b'') -> None:
         self.plant.compare_places(
             read_stock(
                 self.REPORT % (at_station.count(b'L'), at_station, checking.count(b'L'), checking)
             )
         )
 
-    def test_each_load_once(self):
+    def test_each_load_once(self) -> None:
         self.compare(b'  L1\n')
 
-    def test_a_load_twice(self):
+    def test_a_load_twice(self) -> None:
         """Though one of its places is the true one, and no load is missing."""
         for lists in (
             (b'  L1\n  L2\n',),
@@ -373,11 +379,11 @@ class WhatTheDeskHas(OverAScript):
             ):
                 self.compare(*lists)
 
-    def test_a_load_that_is_nowhere(self):
+    def test_a_load_that_is_nowhere(self) -> None:
         with self.assertRaisesRegex(Wrong, '^the desk has L3, which is nowhere$'):
             self.compare(b'  L1\n  L3\n')
 
-    def test_a_job_that_has_not_ended(self):
+    def test_a_job_that_has_not_ended(self) -> None:
         """Where all have, as the plant saw. One that only stands, or whose time is over, has such
         jobs."""
         with contextlib.closing(sqlite3.connect(self.db)) as base:
@@ -400,17 +406,17 @@ class WaitsInCircles(unittest.TestCase):
 
     A, B, C = (VehicleKey('KIT', name) for name in 'abc')
 
-    def setUp(self):
+    def setUp(self) -> None:
         self.circles = Circles(120.0)
         self.b, self.c = Wait(self.B, 'o2', 'N2', 'node N3', self.C, True), Wait(
             self.C, 'o3', 'N3', 'edge E', self.B, True
         )
         self.waits = [Wait(self.A, 'o1', 'N1', 'node N2', self.B, False), self.b, self.c]
 
-    def look(self, now, excused=()):
+    def look(self, now: float, excused: Collection[str] = ()) -> None:
         self.circles.look(self.waits, excused, now)
 
-    def test_one_that_lasts(self):
+    def test_one_that_lasts(self) -> None:
         """KIT/a is not in it."""
         self.look(10.0, ['KIT/a'])
         self.look(130.0)
@@ -421,7 +427,7 @@ class WaitsInCircles(unittest.TestCase):
         with self.assertRaisesRegex(Wrong, f'^a circle from 10 s on, for 121 s: {told}$'):
             self.look(131.0)
 
-    def test_one_that_is_excused(self):
+    def test_one_that_is_excused(self) -> None:
         """As long as one in it is paused; then its time begins."""
         self.look(0.0)
         self.look(100.0, ['KIT/c'])
@@ -431,7 +437,7 @@ class WaitsInCircles(unittest.TestCase):
         with self.assertRaises(Wrong):
             self.look(231.0)
 
-    def test_one_that_ends(self):
+    def test_one_that_ends(self) -> None:
         """Between the two c does not wait, so b does not wait for itself."""
         self.look(0.0)
         self.waits = [self.waits[0], dataclasses.replace(self.b, in_circle=False)]
@@ -441,14 +447,14 @@ class WaitsInCircles(unittest.TestCase):
         self.look(230.0)
         self.assertEqual(self.circles.longest, 120.0)
 
-    def test_two(self):
+    def test_two(self) -> None:
         d, e = (VehicleKey('KIT', name) for name in 'de')
         others = [Wait(e, 'o5', 'N5', 'node N4', d, True), Wait(d, 'o4', 'N4', 'node N5', e, True)]
         self.assertEqual(circles([*self.waits, *others]), [(self.b, self.c), tuple(others[::-1])])
 
 
 class LongWaits(unittest.TestCase):
-    def test_why(self):
+    def test_why(self) -> None:
         """The longest has its reason, and so has each of more than 300 s."""
         day = Day()
         lines = []
@@ -473,7 +479,7 @@ class LongWaits(unittest.TestCase):
 
 
 class TheFloors(unittest.TestCase):
-    def test_each_node_leads_to_each(self):
+    def test_each_node_leads_to_each(self) -> None:
         for name, make in FLOORS.items():
             layout = make().layout()
             for target in layout.nodes:

@@ -12,8 +12,8 @@ from .traffic import Traffic
 from .routes import Ways
 
 JOBS = 30
-"""So many of the oldest jobs are tried in a turn, and so many of the others, in each turn the next
-ones."""
+"""So many of the most urgent jobs are tried in a turn, and so many of the others, in each turn the
+next ones."""
 
 LOOKS = 8
 """So many pairs of a job and a vehicle get a look in one turn, if it takes one to see whether the
@@ -23,11 +23,7 @@ KEPT = 20_000
 """Of so many pairs it is kept when they had their last look."""
 
 MORE = 300
-"""So many jobs are tried as further ones of an order, from the oldest on."""
-
-AGE = 120.0
-"""A job that has waited for so many seconds counts as an edge nearer, and for n times as many as
-n * n edges: among new ones the nearest goes first, and none waits for ever."""
+"""So many jobs are tried as further ones of an order, from the most urgent on."""
 
 
 @dataclass(frozen=True)
@@ -70,18 +66,18 @@ class Chooser:
         self._turn, self._left, self._now = self._turn + 1, LOOKS, now
 
     def is_put_off(self, one: Waiting) -> bool:
-        """Whether others come before this job: it is not one of the oldest, or a vehicle had no
-        look for it yet."""
+        """Whether others come before this job: it is not one of the most urgent, or a vehicle had
+        no look for it yet."""
         return one.job in self._put_off
 
     def propose(
         self, idle: Sequence[Seen], waiting: Sequence[Waiting], traffic: Traffic
     ) -> Proposal | None:
         """The first order that may be started: for a vehicle that is in the way of others, else for
-        a job and a vehicle that is near, where the time counts that the job has waited."""
-        oldest, others = waiting[:JOBS], waiting[JOBS:]
+        a job and a vehicle that is near, where it counts how urgent the job is."""
+        first, others = waiting[:JOBS], waiting[JOBS:]
         jobs = [
-            *oldest,
+            *first,
             *(others[(self._turn * JOBS + n) % len(others)] for n in range(min(JOBS, len(others)))),
         ]
         self._put_off = {one.job for one in others}
@@ -133,7 +129,7 @@ class Chooser:
         pairs = []
         for number, one in enumerate(jobs):
             stops = [self.ways.node_of(name) for name in (one.origin, one.target)]
-            nearer = (max(0.0, self._now - one.since) / AGE) ** 2
+            nearer = one.nearer(self._now)
             for seen in idle:
                 hops = self.ways.hops(seen.row.node, stops[0])
                 if hops is not None:

@@ -31,9 +31,10 @@ from __future__ import annotations
 
 import itertools
 import random
-from collections.abc import Collection, Iterable, Iterator, Mapping, Sequence
+from collections.abc import Collection, Mapping, Sequence
 from dataclasses import dataclass
 
+from .floor import Floor, State
 from .lanes import Ground, Way
 from .plan import Moves
 
@@ -45,294 +46,6 @@ TRY = 20
 fourth one four times, and so on."""
 
 
-class State:
-    """Where the vehicles stand: `at` has the index on its way of each, `taken` the nodes of all,
-    and `moves` how they came there."""
-
-    __slots__ = ('at', 'taken', 'moves')
-
-    def __init__(self, at: list[int], taken: int, moves: list[tuple[int, int]]) -> None:
-        self.at, self.taken, self.moves = at, taken, moves
-
-    def copy(self) -> State:
-        return State(self.at.copy(), self.taken, self.moves.copy())
-
-
-class Floor:
-    """Vehicles on their ways. Vehicles are numbers here; `names` has their names."""
-
-    def __init__(
-        self, ways: Mapping[str, Way], walls: Collection[str], ground: Ground | None = None
-    ) -> None:
-        self.ground = ground = Ground() if ground is None else ground
-        self.names = sorted(ways)
-        on = [ground.lane_of(name, ways[name]) for name in self.names]
-        self.lanes = [lane for lane, _ in on]
-        self.starts = [at for _, at in on]
-        self.walls = ground.bits(walls)
-
-    def start(self) -> State:
-        """Each vehicle at the beginning of its way, which may be amid its lane."""
-        taken = 0
-        for lane, at in zip(self.lanes, self.starts):
-            taken |= lane.bits[at]
-        return State(self.starts.copy(), taken, [])
-
-    def move(self, state: State, vehicle: int, to: int) -> None:
-        """Has a vehicle go ahead to the node of this index."""
-        bits = self.lanes[vehicle].bits
-        state.taken = state.taken ^ bits[state.at[vehicle]] | bits[to]
-        state.at[vehicle] = to
-        state.moves.append((vehicle, to))
-
-    def others(self, state: State, vehicle: int) -> int:
-        """The nodes where others stand, and the walls. A wall stays one, though a vehicle leaves
-        it."""
-        return state.taken ^ self.lanes[vehicle].bits[state.at[vehicle]] | self.walls
-
-    def shared(self, state: State, among: Iterable[int]) -> int:
-        """The nodes that two or more of these vehicles still have before them."""
-        lanes, at = self.lanes, state.at
-        once = more = 0
-        for vehicle in among:
-            rest = lanes[vehicle].rest[at[vehicle]]
-            more |= once & rest
-            once |= rest
-        return more
-
-    def furthest(self, state: State, vehicle: int, shared: int) -> int:
-        """The index of the last node to which the vehicle can go over free nodes and where it is in
-        nobody's way."""
-        lane, best = self.lanes[vehicle], state.at[vehicle]
-        bits, others = lane.bits, self.others(state, vehicle)
-        if bits[best + 1] & others or not lane.rest[best] & ~shared:
-            return best
-        if not lane.rest[best] & others:
-            return next(
-                (index for index in range(lane.end, best, -1) if not bits[index] & shared), best
-            )
-        for index in range(best + 1, lane.end + 1):
-            if bits[index] & others:
-                break
-            if not bits[index] & shared:
-                best = index
-        return best
-
-    def settle(self, state: State, among: Iterable[int] | None = None) -> None:
-        """Makes all moves that take nothing from anybody. It leads to the same state in whichever
-        order they are made. Where vehicles are named, no other one that has not finished has a node
-        in common with these."""
-        lanes, at, moved = self.lanes, state.at, True
-        left: Iterable[int] = range(len(lanes)) if among is None else among
-        while moved:
-            moved, left = False, [vehicle for vehicle in left if at[vehicle] < lanes[vehicle].end]
-            shared = self.shared(state, left)
-            for vehicle in left:
-                to = self.furthest(state, vehicle, shared)
-                if to > at[vehicle]:
-                    self.move(state, vehicle, to)
-                    moved, shared = True, self.shared(state, left)
-
-    def is_free(self, state: State, vehicle: int, to: int) -> bool:
-        """Whether the nodes ahead of a vehicle are free, to the one of this index."""
-        lane, at = self.lanes[vehicle], state.at[vehicle]
-        taken = lane.rest[at] & self.others(state, vehicle)
-        if taken & ~lane.rest[to]:
-            return False  # one that is not passed again behind it
-        return not taken or not any(bit & taken for bit in lane.bits[at + 1 : to + 1])
-
-    def follow(self, state: State, moves: Moves) -> None:
-        """Makes those of these moves that lead ahead over free nodes."""
-        numbers = {name: vehicle for vehicle, name in enumerate(self.names)}
-        for name, left in moves:
-            vehicle = numbers.get(name)
-            if vehicle is not None:
-                to = self.lanes[vehicle].end - left
-                if to > state.at[vehicle] and self.is_free(state, vehicle, to):
-                    self.move(state, vehicle, to)
-
-    def finished(self, state: State) -> frozenset[int]:
-        return frozenset(
-            vehicle for vehicle, lane in enumerate(self.lanes) if state.at[vehicle] == lane.end
-        )
-
-    def has_all(self, state: State, goal: Iterable[int]) -> bool:
-        """Whether these have finished."""
-        return all(state.at[vehicle] == self.lanes[vehicle].end for vehicle in goal)
-
-    def steps(self, state: State, among: Iterable[int], goal: frozenset[int]) -> Iterator[State]:
-        """The states after one of these vehicles has gone ahead over free nodes, the farthest
-        first, by which it does not shut in one of the goal, nor one of these it."""
-        for vehicle in among:
-            lane, index, others = (
-                self.lanes[vehicle],
-                state.at[vehicle],
-                self.others(state, vehicle),
-            )
-            to = next((at for at in range(index, lane.end) if lane.bits[at + 1] & others), lane.end)
-            for at in range(to, index, -1):
-                after = state.copy()
-                self.move(after, vehicle, at)
-                if not self.shuts_in(after, vehicle, goal) and (
-                    vehicle not in goal or self.passes(after, vehicle, goal)
-                ):
-                    yield after
-
-    def passes(self, state: State, vehicle: int, others: Iterable[int]) -> bool:
-        """Whether the vehicle and each of these others can both finish, were the two alone."""
-        lane = self.lanes[vehicle]
-        left = lane.end - state.at[vehicle]
-        for other in others:
-            it = self.lanes[other]
-            if other != vehicle and lane.all & it.all:
-                if not self.ground.passes(lane, it)[left] >> it.end - state.at[other] & 1:
-                    return False
-        return True
-
-    def together(self, state: State, goal: Iterable[int]) -> frozenset[int]:
-        """Those of the goal of which each two can both finish: of two that can't the first
-        alone."""
-        found: list[int] = []
-        for vehicle in sorted(goal):
-            if self.passes(state, vehicle, found):
-                found.append(vehicle)
-        return frozenset(found)
-
-    def lost(self, state: State) -> frozenset[int]:
-        """The vehicles that do not finish any more, whatever moves: those on whose way a wall or a
-        vehicle that has finished stands; and those whose next node is taken for good, by one of
-        these or in a ring of vehicles of which each waits for the next, and those that wait for
-        these."""
-        ends = self.walls
-        for vehicle in self.finished(state):
-            ends |= self.lanes[vehicle].bits[-1]
-        shut_in = {
-            vehicle
-            for vehicle, (lane, at) in enumerate(zip(self.lanes, state.at))
-            if lane.rest[at] & ends
-        }
-        return frozenset(shut_in | self.waiting_for_good(state))
-
-    def waiting_for_good(self, state: State) -> set[int]:
-        """The vehicles whose next node is taken for good: by a wall, by one that has finished, or
-        in a ring of vehicles of which each waits for the next; and those that wait for these."""
-        at, lanes = state.at, self.lanes
-        on = {lane.bits[index]: vehicle for vehicle, (lane, index) in enumerate(zip(lanes, at))}
-        told: dict[int, bool] = {}
-        for first in range(len(lanes)):
-            row, now = [], first
-            while now not in told:
-                if now in row:
-                    told[now] = True
-                elif at[now] == lanes[now].end:
-                    told[now] = True  # it stays there
-                else:
-                    after = lanes[now].bits[at[now] + 1]
-                    other = on.get(after, now)
-                    row.append(now)
-                    if after & self.walls:
-                        told[now] = True
-                    elif other == now:
-                        told[now] = False
-                    else:
-                        now = other
-            for vehicle in row:
-                told[vehicle] = told[now]
-        return {
-            vehicle for vehicle, stays in told.items() if stays and at[vehicle] < lanes[vehicle].end
-        }
-
-    def shuts_in(self, state: State, vehicle: int, goal: frozenset[int]) -> bool:
-        """Whether the vehicle has finished on a node that one of these still has before it."""
-        lane = self.lanes[vehicle]
-        if state.at[vehicle] < lane.end:
-            return False
-        return any(
-            self.lanes[other].rest[state.at[other]] & lane.bits[-1]
-            for other in goal
-            if other != vehicle
-        )
-
-    def goal(self, state: State) -> frozenset[int]:
-        """Those that perhaps finish: of vehicles that end at the same node one alone does."""
-        found, lost = set(self.finished(state)), self.lost(state)
-        ends = {self.lanes[vehicle].bits[-1] for vehicle in found}
-        for vehicle, lane in enumerate(self.lanes):
-            if vehicle not in found and vehicle not in lost and lane.bits[-1] not in ends:
-                found.add(vehicle)
-                ends.add(lane.bits[-1])
-        return frozenset(found)
-
-    def groups(self, state: State) -> list[list[int]]:
-        """The vehicles that have not finished, in groups of which none has a node in common with
-        another, now or later."""
-        found: list[tuple[int, list[int]]] = []
-        for vehicle, (lane, at) in enumerate(zip(self.lanes, state.at)):
-            if at < lane.end:
-                nodes, members = lane.bits[at] | lane.rest[at], [vehicle]
-                for group in [group for group in found if group[0] & nodes]:
-                    nodes, members = nodes | group[0], members + group[1]
-                    found.remove(group)
-                found.append((nodes, members))
-        return [sorted(members) for _, members in found]
-
-    def search(
-        self, first: State, group: Sequence[int], goal: frozenset[int], budget: int
-    ) -> State:
-        """A state behind this one, after moves of the group alone, in which those of the goal have
-        finished; or, where none is found in so many, that in which the most have. It is tried again
-        and again, with the vehicles in another order each time: a search that has begun badly takes
-        long to get out of it, and one in another order seldom begins so. Each second try is longer.
-        """
-        chance, order, best = random.Random(0), list(group), first
-        for n in itertools.count(1):
-            found, looked, is_all = self.tried(
-                first, order, goal, min(max(TRY, len(order)) * (n & -n), budget)
-            )
-            if self.count(found, group) > self.count(best, group) or self.has_all(found, goal):
-                best = found
-            budget -= looked
-            if is_all or budget <= 0 or self.has_all(best, goal):
-                break
-            chance.shuffle(order)
-        return best
-
-    def tried(
-        self, first: State, order: Sequence[int], goal: frozenset[int], most: int
-    ) -> tuple[State, int, bool]:
-        """The best state that is found in so many, with those vehicles first that come first here;
-        how many were looked at; and whether there are no others."""
-        best, count, looked = first, self.count(first, order), 0
-        seen, rows = {tuple(first.at)}, [self.steps(first, order, goal)]
-        while not self.has_all(best, goal) and rows and looked < most:
-            state = next(rows[-1], None)
-            if state is None:
-                rows.pop()
-                continue
-            self.settle(state, order)
-            key = tuple(state.at)
-            if key in seen:
-                continue
-            seen.add(key)
-            looked += 1
-            over = self.count(state, order)
-            if over > count or self.has_all(state, goal):
-                best, count = state, over
-            if goal.isdisjoint(self.waiting_for_good(state)):
-                rows.append(self.steps(state, order, goal))
-        return best, looked, not rows
-
-    def count(self, state: State, among: Iterable[int]) -> int:
-        """How many of these have finished."""
-        return sum(1 for vehicle in among if state.at[vehicle] == self.lanes[vehicle].end)
-
-    def found(self, state: State) -> Found:
-        lanes, names = self.lanes, self.names
-        moves = [(names[vehicle], lanes[vehicle].end - to) for vehicle, to in state.moves]
-        left = {name: lane.end - at for name, lane, at in zip(names, lanes, state.at)}
-        return Found(frozenset(name for name, nodes in left.items() if not nodes), moves, left)
-
-
 @dataclass(frozen=True)
 class Found:
     """Vehicles that finish by these moves; `left` has of each vehicle how many nodes of its way are
@@ -341,6 +54,13 @@ class Found:
     finishing: frozenset[str]
     moves: Moves
     left: Mapping[str, int]
+
+
+def found_in(floor: Floor, state: State) -> Found:
+    lanes, names = floor.lanes, floor.names
+    moves = [(names[vehicle], lanes[vehicle].end - to) for vehicle, to in state.moves]
+    left = {name: lane.end - at for name, lane, at in zip(names, lanes, state.at)}
+    return Found(frozenset(name for name, nodes in left.items() if not nodes), moves, left)
 
 
 def along(
@@ -358,7 +78,7 @@ def along(
     floor.follow(state, moves)
     if settle:
         floor.settle(state)
-    return floor.found(state)
+    return found_in(floor, state)
 
 
 def look(
@@ -378,17 +98,65 @@ def look(
     else:
         goal = frozenset(vehicle for vehicle, name in enumerate(floor.names) if name in wanted)
         if not goal.isdisjoint(floor.lost(first)):
-            return floor.found(first)
+            return found_in(floor, first)
     state = first
     for group in floor.groups(first):
         here = goal.intersection(group)
         together = floor.together(state, here)
         if wanted is not None and together != here:
             break
-        state = floor.search(state, group, together, budget)
+        state = search(floor, state, group, together, budget)
         if wanted is not None and not floor.has_all(state, here):
             break
-    return floor.found(state)
+    return found_in(floor, state)
+
+
+def search(
+    floor: Floor, first: State, group: Sequence[int], goal: frozenset[int], budget: int
+) -> State:
+    """A state behind this one, after moves of the group alone, in which those of the goal have
+    finished; or, where none is found in so many, that in which the most have. It is tried again
+    and again, with the vehicles in another order each time: a search that has begun badly takes
+    long to get out of it, and one in another order seldom begins so. Each second try is longer.
+    """
+    chance, order, best = random.Random(0), list(group), first
+    for n in itertools.count(1):
+        found, looked, is_all = tried(
+            floor, first, order, goal, min(max(TRY, len(order)) * (n & -n), budget)
+        )
+        if floor.count(found, group) > floor.count(best, group) or floor.has_all(found, goal):
+            best = found
+        budget -= looked
+        if is_all or budget <= 0 or floor.has_all(best, goal):
+            break
+        chance.shuffle(order)
+    return best
+
+
+def tried(
+    floor: Floor, first: State, order: Sequence[int], goal: frozenset[int], most: int
+) -> tuple[State, int, bool]:
+    """The best state that is found in so many, with those vehicles first that come first here;
+    how many were looked at; and whether there are no others."""
+    best, count, looked = first, floor.count(first, order), 0
+    seen, rows = {tuple(first.at)}, [floor.steps(first, order, goal)]
+    while not floor.has_all(best, goal) and rows and looked < most:
+        state = next(rows[-1], None)
+        if state is None:
+            rows.pop()
+            continue
+        floor.settle(state, order)
+        key = tuple(state.at)
+        if key in seen:
+            continue
+        seen.add(key)
+        looked += 1
+        over = floor.count(state, order)
+        if over > count or floor.has_all(state, goal):
+            best, count = state, over
+        if goal.isdisjoint(floor.waiting_for_good(state)):
+            rows.append(floor.steps(state, order, goal))
+    return best, looked, not rows
 
 
 def finishing(

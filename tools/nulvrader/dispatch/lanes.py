@@ -56,9 +56,11 @@ class Ground:
         self._passes: dict[tuple[Lane, Lane], list[int]] = {}
 
     def bit(self, node: str) -> int:
+        """Returns the bit of a node, the next free one where the node has none yet."""
         return self._bits.setdefault(node, 1 << len(self._bits))
 
     def bits(self, nodes: Iterable[str]) -> int:
+        """Returns the bits of these nodes in one number."""
         found = 0
         for node in nodes:
             found |= self.bit(node)

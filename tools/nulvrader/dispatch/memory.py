@@ -5,6 +5,7 @@ from __future__ import annotations
 from collections.abc import Mapping
 from dataclasses import dataclass, field
 
+from ..common.names import new_reference
 from .job_book import Waiting
 from .snapshot import Seen
 
@@ -35,6 +36,13 @@ class Memory:
         self.is_heard = self.header != header
         if self.is_heard:
             self.header, self.heard = header, now
+
+    def ask(self) -> str:
+        """Returns a new name for an order or a drive that is about to be asked for, and remembers
+        it. So an order that the desk has started, though its answer was lost, is known as one that
+        the dispatcher has asked for."""
+        self.asked = new_reference()
+        return self.asked
 
     def begin(
         self,

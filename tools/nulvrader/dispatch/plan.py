@@ -7,7 +7,7 @@ are free then, and all whom it names finish by them. Where it keeps all others a
 the first of its moves can be made at once, or as soon as a vehicle has driven off a node that it
 still holds: as long as vehicles drive what they are given, something can always move, however
 short the look is. Where it does not, one that stands has to go on first: a vehicle that is paused,
-or one without an order in a dead end.
+or one without an order in a dead end or on the way of others; or what is closed has to be opened.
 
 What is here is a plain check of that. It shares nothing with the search that finds the moves."""
 from __future__ import annotations

@@ -14,7 +14,8 @@ KEPT = 20_000
 
 
 class Ways:
-    """The ways of one layout."""
+    """The ways of one layout. `edges` has the name of the edge that a way takes between two
+    nodes."""
 
     def __init__(self, layout: Layout) -> None:
         self.layout = layout
@@ -23,9 +24,15 @@ class Ways:
         self._out: dict[str, list[tuple[str, str]]] = defaultdict(list)
         for name, edge in sorted(layout.edges.items()):
             self._out[edge.start].append((name, edge.finish))
+        self.edges = {
+            (start, finish): name
+            for start, row in self._out.items()
+            for name, finish in reversed(row)
+        }
 
     def hops(self, start: str, target: str) -> int | None:
-        """How many edges a shortest walk has, or None where there is none."""
+        """Returns how many edges a shortest walk from `start` to `target` has, or None where there
+        is none. The distances to a target are computed once and kept."""
         if target not in self._far:
             self._far[target] = self.layout.distances(target)
         return self._far[target].get(start)
@@ -42,6 +49,7 @@ class Ways:
         return self._kept[asked]
 
     def _way(self, stops: Sequence[str]) -> tuple[str, ...] | None:
+        """Finds what `way` returns, without what that keeps."""
         nodes = [stops[0]]
         for target in stops[1:]:
             far = self.hops(nodes[-1], target)

@@ -60,7 +60,7 @@ def changes(
         if course.order is None:
             found.append(f'{name} stands at {course.way[0]}')
         else:
-            found.append('%s goes on to %s' % (name, course.end))
+            found.append(f'{name} goes on to {course.end}')
     return 'since ' + ', '.join(sorted(found, key=natural)) if found else BY_ITSELF
 
 

@@ -5,6 +5,7 @@ from collections.abc import Mapping
 from dataclasses import dataclass, field, replace
 from functools import cached_property
 
+from .closures import Closures
 from .deadlock import after_release
 from .lanes import Way
 
@@ -30,12 +31,13 @@ class Traffic:
     """All vehicles by name. `ways` has those that go on with their order: the last node that each
     holds, and all behind it. `still` has those that have an order and do not go on. `parked` has
     the nodes that each vehicle without an order holds. `out` has of each node that is in a dead end
-    the nodes behind it on the way out."""
+    the nodes behind it on the way out. `closed` is what is to be opened again later."""
 
     ways: Mapping[str, Way]
     still: Mapping[str, Still] = field(default_factory=dict)
     parked: Mapping[str, frozenset[str]] = field(default_factory=dict)
     out: Mapping[str, Way] = field(default_factory=dict)
+    closed: Closures = Closures()
 
     def standing(self) -> dict[str, frozenset[str]]:
         """The nodes that each vehicle holds that does not go on."""
@@ -43,25 +45,31 @@ class Traffic:
 
     @cached_property
     def walls(self) -> frozenset[str]:
-        """The nodes that stay taken as long as those that stand do."""
-        return frozenset().union(*self.standing().values())
+        """The nodes that stay taken as long as those that stand do, and what is closed is."""
+        return self.closed.walls.union(*self.standing().values())
 
     def is_open(self, vehicle: str, way: Way) -> bool:
-        """Whether no other vehicle holds a node of this way that stands, as this one does without
-        an order."""
-        return self.walls.intersection(way) <= self.parked[vehicle]
+        """Whether nothing of this way is closed, and no other vehicle holds a node of it that
+        stands, as this one does without an order."""
+        is_closed = self.closed.first_on(way) is not None
+        return not is_closed and self.walls.intersection(way) <= self.parked[vehicle]
 
     def all_ways(self) -> dict[str, Way]:
         return {**self.ways, **{name: one.way for name, one in self.still.items()}}
 
     def views(self) -> Views:
         """What is looked at: the ways and the walls where nobody that stands goes away; where those
-        that do not go on do so again; and where those without an order get out, too."""
-        now = self.ways, self.walls
+        that do not go on do so again; and where those without an order get out, too, and all that
+        is closed is opened."""
+        now = self._walled(self.ways), self.walls
         if not self.still:
             return now, now, (self.ways_later(), frozenset())
-        walls = frozenset().union(*self.parked.values())
-        return now, (self.all_ways(), walls), (self.ways_later(), frozenset())
+        walls = self.closed.walls.union(*self.parked.values())
+        return now, (self._walled(self.all_ways()), walls), (self.ways_later(), frozenset())
+
+    def _walled(self, ways: Mapping[str, Way]) -> Mapping[str, Way]:
+        """These ways, on which each closed edge leads to a wall."""
+        return {name: self.closed.walled(way) for name, way in ways.items()}
 
     def ways_later(self) -> dict[str, Way]:
         """All ways, each with that out of a dead end behind its end, and then a node of its own:
@@ -117,6 +125,7 @@ class Traffic:
         }
         return (
             self.still == before.still
+            and self.closed == before.closed
             and {**before.parked, **ended} == self.parked
             and self.ways.keys() | ended.keys() == before.ways.keys()
             and all(is_rest(way, before.ways[name]) for name, way in self.ways.items())

@@ -1,0 +1,402 @@
+"""What people say to the dispatcher: the text, its file and the commands that write it, over the
+built program and against who or what harms the file."""
+from __future__ import annotations
+
+import datetime
+import errno
+import os
+import random
+import signal
+import subprocess
+import sys
+import tempfile
+import threading
+import unittest
+from collections.abc import Callable
+from unittest import mock
+
+from tests.support.desks import over_sockets
+from tests.support.dispatching import OverADesk
+from tests.support.programs import TOOLS, ran, until
+
+from nulvrader.dispatch import instruct, instructions_file
+from nulvrader.dispatch.instructions import (
+    HEADER,
+    Instructions,
+    NoInstructions,
+    Urgency,
+    moment_of,
+    read,
+)
+from nulvrader.dispatch.instructions_file import Followed, changing, read_file
+
+DUE = 1_798_122_600  # 2026-12-24T14:30:00Z
+FULL = Instructions(
+    {'J1': Urgency(DUE, 2), 'J2': Urgency(None, 9), 'J3': Urgency(0)},
+    frozenset({'N7'}),
+    frozenset({'N1-N2'}),
+)
+
+
+class Text(unittest.TestCase):
+    def test_what_it_is(self) -> None:
+        self.assertEqual(
+            FULL.text(),
+            f'{HEADER}\njob,J1,2026-12-24T14:30:00Z,2\njob,J2,,9\njob,J3,1970-01-01T00:00:00Z,\n'
+            'node,N7,,\nedge,N1-N2,,\n',
+        )
+        self.assertEqual(read(FULL.text()), FULL)
+        self.assertEqual(read(HEADER), Instructions())
+
+    def test_what_is_none(self) -> None:
+        for line, told in (
+            ('job,J1', 'is not kind,name'),
+            ('job,,,', 'is not kind,name'),
+            ('job,J 1,,', 'is not kind,name'),
+            ('job,J1,,,', 'is not kind,name'),
+            ('', 'is not kind,name'),
+            ('zone,Z,,', 'is no job, node or edge'),
+            ('node,N7,,1', 'is no job, node or edge'),
+            ('edge,E1,2026-12-24T14:30:00Z,', 'is no job, node or edge'),
+            ('job,J1,,10', 'is no priority'),
+            ('job,J1,,-1', 'is no priority'),
+            ('job,J1,,\u0661', 'is no priority'),
+            ('job,J1,14:30,', 'is no moment'),
+            ('job,J1,1969-12-31T23:59:59Z,', 'is no moment'),
+            ('job,J1,2026-02-30T14:30:00Z,', 'is no moment'),
+            ('job,J1,2026-12-24T14:30:00+,', 'is no moment'),
+            ('job,J0,,', 'is no job, node or edge'),
+        ):
+            text = f'{HEADER}\njob,J0,,1\n{line}\n'
+            with self.subTest(line), self.assertRaisesRegex(NoInstructions, f'^line 3: .*({told})'):
+                read(text)
+        for text in ('', 'job,J1,,1\n', f'\ufeff{HEADER}\n'):
+            with self.subTest(text), self.assertRaisesRegex(NoInstructions, '^line 1: the header'):
+                read(text)
+
+    def test_any_text(self) -> None:
+        """Texts that are changed at random are read, or are none, and what is read is written as
+        it was."""
+        chance, texts = random.Random(7), 0
+        for _ in range(3000):
+            text = list(FULL.text())
+            for _ in range(chance.randint(1, 3)):
+                at = chance.randrange(len(text))
+                text[at] = chance.choice([chr(chance.randrange(0x300)), '', ',', '\n', '0'])
+            try:
+                found = read(''.join(text))
+            except NoInstructions:
+                continue
+            self.assertEqual(read(found.text()), found)
+            texts += 1
+        self.assertGreater(texts, 100)
+
+
+class InAFolder(unittest.TestCase):
+    def setUp(self) -> None:
+        self.folder = tempfile.TemporaryDirectory()
+        self.addCleanup(self.folder.cleanup)
+        self.path = os.path.join(self.folder.name, 'instructions.csv')
+
+    def put(self, text: str) -> None:
+        with open(self.path, 'w', encoding='utf-8') as file:
+            file.write(text)
+
+    def write(self, changed: Instructions) -> None:
+        with changing(self.path) as (_, write):
+            write(changed)
+
+
+class File(InAFolder):
+    def test_what_is_written(self) -> None:
+        """Nobody else may write it, and all may read it."""
+        self.assertEqual(read_file(self.path), Instructions())
+        before = os.umask(0o077)
+        self.addCleanup(os.umask, before)
+        for text in (FULL, Instructions(), FULL):
+            self.write(text)
+            self.assertEqual(read_file(self.path), text)
+        self.assertEqual(os.stat(self.path).st_mode & 0o777, 0o644)
+        self.assertEqual(os.listdir(self.folder.name), ['instructions.csv'])
+
+    def test_one_at_a_time(self) -> None:
+        """Forty threads close a node each: all are closed."""
+
+        def close(number: int) -> None:
+            with changing(self.path) as (before, write):
+                write(Instructions({}, before.nodes | {f'N{number}'}))
+
+        threads = [threading.Thread(target=close, args=(number,)) for number in range(40)]
+        for thread in threads:
+            thread.start()
+        for thread in threads:
+            thread.join()
+        self.assertEqual(read_file(self.path).nodes, {f'N{number}' for number in range(40)})
+
+    def test_one_that_does_not_end(self) -> None:
+        """A command that hangs holds the others up for a while."""
+        with mock.patch.object(instructions_file, 'PATIENCE', 0.2):
+            with changing(self.path):
+                with self.assertRaisesRegex(OSError, 'another command writes there'):
+                    self.write(FULL)
+        self.write(FULL)
+
+    def test_a_fault_while_it_is_written(self) -> None:
+        """Where any call fails, as on a full disk, the old file stays, and nothing beside it."""
+        self.write(FULL)
+        for call in ('open', 'fchmod', 'fsync', 'rename'):
+            fault = OSError(errno.ENOSPC, 'No space left on device')
+            real = os.open
+
+            def only_new(path: object, *words: object, **more: object) -> int:
+                if str(path).endswith('.new'):
+                    raise fault
+                return real(path, *words, **more)  # type: ignore[arg-type]
+
+            fails = mock.Mock(side_effect=only_new if call == 'open' else fault)
+            with mock.patch.object(os, call, fails), self.subTest(call):
+                with self.assertRaisesRegex(OSError, 'No space'):
+                    self.write(Instructions())
+            self.assertEqual(read_file(self.path), FULL)
+            self.assertEqual(os.listdir(self.folder.name), ['instructions.csv'])
+
+    def test_a_full_disk(self) -> None:
+        """The limit of a process stands for it: a file of more bytes can't be written."""
+        self.write(FULL)
+        program = (
+            'import resource, signal, sys\n'
+            f'sys.path.insert(0, {TOOLS!r})\n'
+            'from nulvrader.dispatch.instructions import Instructions\n'
+            'from nulvrader.dispatch.instructions_file import changing\n'
+            'signal.signal(signal.SIGXFSZ, signal.SIG_IGN)\n'
+            'resource.setrlimit(resource.RLIMIT_FSIZE, (1000, 1000))\n'
+            f'with changing({self.path!r}) as (before, write):\n'
+            '    write(Instructions({}, frozenset(f"N{n}" for n in range(1000))))\n'
+        )
+        done = subprocess.run([sys.executable, '-c', program], capture_output=True, text=True)
+        self.assertIn('File too large', done.stderr)
+        self.assertEqual(read_file(self.path), FULL)
+        self.assertEqual(os.listdir(self.folder.name), ['instructions.csv'])
+
+    def test_a_kill_at_any_moment(self) -> None:
+        """A process that writes one text and another in turn is killed while it does: each time one
+        of both is there, and the next one writes as if nothing had been."""
+        texts = FULL, Instructions({f'J{n}': Urgency(DUE, 1) for n in range(2000)})
+        program = (
+            'import sys\n'
+            f'sys.path.insert(0, {TOOLS!r})\n'
+            'from nulvrader.dispatch.instructions import read\n'
+            'from nulvrader.dispatch.instructions_file import changing\n'
+            'texts = [read(text) for text in sys.argv[1:]]\n'
+            'print("begun", flush=True)\n'
+            'while True:\n'
+            '    for text in texts:\n'
+            f'        with changing({self.path!r}) as (before, write):\n'
+            '            write(text)\n'
+        )
+        chance = random.Random(5)
+        for _ in range(12):
+            words = [sys.executable, '-c', program, *(text.text() for text in texts)]
+            with subprocess.Popen(words, stdout=subprocess.PIPE) as process:
+                assert process.stdout is not None
+                process.stdout.readline()
+                begun = os.stat(self.folder.name).st_mtime_ns
+                until(lambda: os.stat(self.folder.name).st_mtime_ns != begun, 'it writes')
+                for _ in range(chance.randrange(2000)):
+                    os.getpid()
+                process.send_signal(signal.SIGKILL)
+                process.wait()
+            self.assertIn(read_file(self.path), texts)
+            self.write(FULL)
+            self.assertEqual(os.listdir(self.folder.name), ['instructions.csv'])
+
+    def test_hostile_files(self) -> None:
+        """Something else in its place is told, and nobody waits for it or reads on for ever; a link
+        in the place of what is written is not followed."""
+        other = os.path.join(self.folder.name, 'other')
+        kinds: tuple[tuple[Callable[[], object], str], ...] = (
+            (lambda: os.mkfifo(self.path), 'is a FIFO'),
+            (lambda: os.mkdir(self.path), 'is a folder'),
+            (lambda: os.symlink('/dev/zero', self.path), 'is a device'),
+            (lambda: os.symlink(self.path, self.path), 'Too many levels'),
+            (lambda: self.put('x' * 2_000_000), 'more than 1048576 bytes'),
+            (lambda: self.put('\x00' * 100), 'the header is not'),
+        )
+        for make, told in kinds:
+            make()
+            with self.subTest(told), self.assertRaisesRegex(NoInstructions, told):
+                read_file(self.path)
+            with self.subTest(told), self.assertRaises((NoInstructions, OSError)):
+                self.write(FULL)
+            os.rmdir(self.path) if os.path.isdir(self.path) else os.unlink(self.path)
+        os.symlink(other, f'{self.path}.new')
+        self.write(FULL)
+        self.assertFalse(os.path.exists(other))
+        with open(self.path, 'wb') as file:
+            file.write(b'\xff\xfe')
+        with self.assertRaisesRegex(NoInstructions, 'it is no text'):
+            read_file(self.path)
+
+    def test_one_that_is_followed(self) -> None:
+        """It is read again where it has changed; one that can't be read is a fault until it can,
+        and so is one that is gone."""
+        followed = Followed(self.path)
+        self.assertEqual(followed.now(), Instructions())
+        self.write(FULL)
+        self.assertEqual(followed.now(), FULL)
+        with mock.patch.object(instructions_file, 'read_file', side_effect=AssertionError):
+            self.assertEqual(followed.now(), FULL)
+        self.put('no')
+        for _ in range(2):
+            with self.assertRaisesRegex(NoInstructions, 'the header'):
+                followed.now()
+        os.unlink(self.path)
+        with self.assertRaisesRegex(NoInstructions, 'the file is gone'):
+            followed.now()
+        self.write(Instructions())
+        self.assertEqual(followed.now(), Instructions())
+        fault = NoInstructions('an error of the disk')
+        self.write(FULL)
+        with mock.patch.object(instructions_file, 'read_file', side_effect=fault):
+            self.assertRaises(NoInstructions, followed.now)
+        self.assertEqual(followed.now(), FULL)
+
+
+class Times(unittest.TestCase):
+    def test_the_nearest_one(self) -> None:
+        """A time without a day is at most twelve hours from now."""
+        now = datetime.datetime.now().timestamp()
+        for hour in range(24):
+            found = instruct.due(f'{hour:02d}:17')
+            assert found is not None
+            told = datetime.datetime.fromtimestamp(found)
+            self.assertEqual((told.hour, told.minute, told.second), (hour, 17, 0))
+            self.assertLessEqual(abs(found - now), 13 * 3600 + 60)
+
+    def test_with_a_day(self) -> None:
+        for text in ('2026-12-24T14:30Z', '2026-12-24T14:30:00+00:00', '2026-12-24 16:30+02:00'):
+            self.assertEqual(instruct.due(text), DUE)
+        local = moment_of(DUE).astimezone().strftime('%Y-%m-%dT%H:%M')
+        self.assertEqual(instruct.due(local), DUE)
+        self.assertIsNone(instruct.due('none'))
+
+    def test_what_is_no_time(self) -> None:
+        for text in (
+            '',
+            '24:00',
+            '1430',
+            '14:60',
+            '2026-02-30T08:00',
+            '9999999-12-24T08:00',
+            'now',
+        ):
+            with self.subTest(text), self.assertRaisesRegex(Exception, 'is no time such as'):
+                instruct.due(text)
+
+
+@over_sockets
+class Commands(OverADesk):
+    """`job`, `close` and `open` over the built program."""
+
+    def setUp(self) -> None:
+        super().setUp()
+        self.path = os.path.join(self.folder.name, 'instructions.csv')
+
+    def ran(self, name: str, *words: str) -> tuple[int, str, str]:
+        desk = () if name == 'open' else ('--desk', self.address)
+        return ran(name, *words, *desk, '--instructions', self.path)
+
+    def test_a_job(self) -> None:
+        """What was said of it before stays, and what was said of jobs that have ended goes."""
+        self.desk.add_job('J1', 'L1', 'B')
+        self.desk.add_job('J2', 'L2', 'B')
+        due = moment_of(DUE).astimezone().strftime('%Y-%m-%d %H:%M %Z')
+        self.assertEqual(
+            self.ran('job', 'J1', '--due', '2026-12-24T14:30Z'),
+            (0, f'J1: due {due}, priority 0\n', ''),
+        )
+        self.assertEqual(
+            self.ran('job', 'J1', '--priority', '2'), (0, f'J1: due {due}, priority 2\n', '')
+        )
+        self.assertEqual(
+            self.ran('job', 'J2', '--priority', '9')[:2], (0, 'J2: not due, priority 9\n')
+        )
+        both = f'J1: due {due}, priority 2\nJ2: not due, priority 9\n'
+        self.assertEqual(self.ran('job'), (0, both, ''))
+        self.assertEqual(self.ran('job', 'J2'), (0, 'J2: not due, priority 9\n', ''))
+        self.assertEqual(read_file(self.path).jobs, {'J1': Urgency(DUE, 2), 'J2': Urgency(None, 9)})
+        self.desk.stop_job('J2')
+        self.assertEqual(self.ran('job', 'J1', '--due', 'none')[0], 0)
+        self.assertEqual(read_file(self.path).jobs, {'J1': Urgency(None, 2)})
+        self.assertEqual(self.ran('job', 'J1', '--priority', '0')[0], 0)
+        self.assertEqual(read_file(self.path).jobs, {})
+
+    def test_what_is_closed(self) -> None:
+        self.assertEqual(
+            self.ran('close', 'b', 'c-d'), (0, 'node b is closed\nedge c-d is closed\n', '')
+        )
+        self.assertEqual(self.ran('close', 'b')[0], 0)
+        self.assertEqual(self.ran('close')[1], 'node b is closed\nedge c-d is closed\n')
+        self.assertEqual(self.ran('open', 'c-d'), (0, 'edge c-d is open\n', ''))
+        self.assertEqual(self.ran('open')[1], 'node b is closed\n')
+        self.assertEqual(
+            self.ran('open', 'b', 'c-d'),
+            (1, '', 'open: no node or edge c-d is closed\n'),
+        )
+        self.assertEqual(read_file(self.path), Instructions({}, frozenset('b')))
+
+    def test_what_is_wrong(self) -> None:
+        """Nothing is changed, and no file is made."""
+        for words, status, told in (
+            (('job', 'J9', '--priority', '1'), 1, 'job: the desk has no live job J9\n'),
+            (('close', 'zz'), 1, 'close: the layout has no node or edge zz\n'),
+            (('close', 'b', 'zz'), 1, 'close: the layout has no node or edge zz\n'),
+            (('close', '--edge', 'b'), 1, 'close: the layout has no node or edge b\n'),
+            (('job', 'J1', '--priority', '10'), 2, 'invalid choice'),
+            (('job', 'J1', '--due', 'soon'), 2, 'is no time such as'),
+            (('job', '--due', '14:30'), 2, 'name it'),
+            (('job', 'J\x1b1', '--due', '14:30'), 2, 'is no name'),
+        ):
+            with self.subTest(words):
+                found = self.ran(*words)
+                self.assertEqual(found[:2], (status, ''))
+                self.assertIn(told, found[2])
+                self.assertNotIn('\x1b', found[2])
+        self.assertFalse(os.path.exists(self.path))
+
+    def test_no_desk(self) -> None:
+        here = ('--desk', '127.0.0.1:1', '--instructions', self.path)
+        for words in (('job', 'J1', '--priority', '1'), ('close', 'b')):
+            status, out, said = ran(*words, *here)
+            self.assertEqual((status, out), (3, ''))
+            self.assertIn('no program listens there', said)
+        self.assertFalse(os.path.exists(self.path))
+
+    def test_no_file(self) -> None:
+        """None is named, or it can't be written, or is something else."""
+        env = {name: value for name, value in os.environ.items() if name != instruct.PLACE}
+        status, _, said = ran('open', 'b', env=env)
+        self.assertEqual(status, 2)
+        self.assertIn('there is no file: name it by --instructions', said)
+        self.path = '/no/folder/instructions.csv'
+        self.assertEqual(
+            self.ran('close', 'b'), (2, '', 'close: /no/folder: No such file or directory\n')
+        )
+        self.path = os.path.join(self.folder.name, 'fifo')
+        os.mkfifo(self.path)
+        self.assertEqual(
+            self.ran('close', 'b'),
+            (2, '', f'close: {self.path}: it is a FIFO, and not a regular file\n'),
+        )
+
+    def test_a_name_of_both_kinds(self) -> None:
+        known = {'node': {'x'}, 'edge': {'x'}}
+        with self.assertRaisesRegex(instruct.Unknown, 'x is a node and an edge: say which'):
+            instruct._found(['x'], ('node', 'edge'), known, '')
+        self.assertEqual(
+            instruct._found(['x'], ('edge',), known, ''), {'node': set(), 'edge': {'x'}}
+        )
+
+
+if __name__ == '__main__':
+    unittest.main()
