@@ -29,17 +29,15 @@ class Term:
     began: float
 
 
-class Supervisor:
-    """Keeps `tools/standby run` running in a machine; with `is_plain` the desk alone."""
+class Served:
+    """The desk of a machine: where its file, its socket and its state are, and what it has said."""
 
-    def __init__(self, machine: Machine, program: str, terms: list[Term], is_plain: bool) -> None:
-        self.machine, self.program, self.terms, self.is_plain = machine, program, terms, is_plain
-        self.process: subprocess.Popen[bytes] | None = None
-        self.wanted = threading.Event()
+    front = ''  # of the path of its socket and its state, below the machine's `/run`
+
+    def __init__(self, machine: Machine, terms: list[Term]) -> None:
+        self.machine, self.terms = machine, terms
         self.over = False
         self.lines: list[str] = []
-        self.thread = threading.Thread(target=self.run, daemon=True)
-        self.thread.start()
 
     @property
     def db(self) -> str:
@@ -49,12 +47,38 @@ class Supervisor:
     @property
     def socket(self) -> str:
         """The socket of the desk, as this program sees it."""
-        return os.path.join(self.machine.folder, 'run', 'd.sock')
+        return os.path.join(self.machine.folder, 'run', self.front, 'desk.sock')
 
     @property
     def state(self) -> str:
         """The file that says how it is."""
-        return os.path.join(self.machine.folder, 'run', 'standby.json')
+        return os.path.join(self.machine.folder, 'run', self.front, 'standby.json')
+
+    def note(self, line: str) -> None:
+        """Keeps a line with its moment, for a person."""
+        self.lines.append(f'{time.monotonic():.3f} {self.machine.name} {line}')
+
+    def start(self) -> None:
+        """Has it run where it may."""
+
+    def wait(self) -> None:
+        """Stops it as a person does, and waits until it has ended; it is not started again until
+        `start`."""
+
+    def close(self) -> None:
+        """Ends it for good."""
+
+
+class Supervisor(Served):
+    """Keeps `tools/standby run` running in a machine; with `is_plain` the desk alone."""
+
+    def __init__(self, machine: Machine, program: str, terms: list[Term], is_plain: bool) -> None:
+        super().__init__(machine, terms)
+        self.program, self.is_plain = program, is_plain
+        self.process: subprocess.Popen[bytes] | None = None
+        self.wanted = threading.Event()
+        self.thread = threading.Thread(target=self.run, daemon=True)
+        self.thread.start()
 
     def words(self) -> list[str]:
         """Returns the words that start it."""
@@ -66,7 +90,7 @@ class Supervisor:
     def run(self) -> None:
         """Starts it again and again, while it is wanted."""
         while not self.over:
-            if not self.wanted.wait(1) or not self.machine.is_up():
+            if not self.wanted.wait(1) or not self.machine.is_mounted:
                 time.sleep(0.05)
                 continue
             try:
@@ -90,12 +114,7 @@ class Supervisor:
             with contextlib.suppress(OSError, ValueError), open(self.state) as file:
                 self.terms.append(Term(self.machine.number, float(json.load(file)['held'])))
 
-    def note(self, line: str) -> None:
-        """Keeps a line with its moment, for a person."""
-        self.lines.append(f'{time.monotonic():.3f} {self.machine.name} {line}')
-
     def start(self) -> None:
-        """Has it run."""
         self.wanted.set()
 
     def pids(self) -> list[int]:
@@ -116,15 +135,13 @@ class Supervisor:
             with contextlib.suppress(ProcessLookupError):
                 os.kill(pid, number)
 
-    def wait(self, number: int = signal.SIGTERM) -> None:
-        """Stops it, and waits until it has ended."""
+    def wait(self) -> None:
         for seconds in until():
-            self.stop(number if seconds < 30 else signal.SIGKILL)
+            self.stop(signal.SIGTERM if seconds < 30 else signal.SIGKILL)
             if self.process is None or self.process.poll() is not None:
                 return
 
     def close(self) -> None:
-        """Ends it for good."""
         self.over = True
         for _ in until():
             self.stop(signal.SIGKILL)

@@ -9,12 +9,13 @@ import time
 from collections.abc import Callable
 from typing import TYPE_CHECKING
 
-from .namespaces import Machine
+from .namespaces import NETWORK, Machine
 
 if TYPE_CHECKING:
     from .rounds import Drill
 
 Mend = Callable[[], None]
+BRICK = 'glusterfsd'  # the program that serves a copy
 WATCHDOG = 5.0  # seconds after which a machine that doesn't feed its watchdog is reset
 
 
@@ -58,24 +59,50 @@ def kill(drill: Drill, machine: Machine) -> Mend:
 
 
 def freeze(drill: Drill, machine: Machine) -> Mend:
-    """The machine is paused, as a virtual one is, and goes on later where it was."""
+    """The machine is paused, as a virtual one is with its watchdog, and goes on later where it
+    was."""
+    machine.is_paused = True
     machine.cut()
     machine.freeze()
 
     def thaw() -> None:
         machine.join()
         machine.thaw()
+        machine.is_paused = False
 
     return thaw
 
 
 def hang(drill: Drill, machine: Machine) -> Mend:
     """All programs of the machine stop, while its system answers the network: its locks stay. The
-    drill does what a watchdog does that sbd no longer feeds: it resets the machine."""
+    watchdog that sbd no longer feeds resets the machine."""
     machine.freeze()
-    time.sleep(WATCHDOG)
+    if drill.cluster is None:
+        time.sleep(WATCHDOG)
+    else:
+        drill.cluster.wait_for_reset(machine)
     machine.kill()
     return lambda: drill.boot(machine)
+
+
+def desk(drill: Drill, machine: Machine) -> Mend:
+    """The desk's program is killed; all else of the machine is well."""
+    for pid in drill.programs_of(machine, os.path.basename(drill.program)):
+        os.kill(pid, signal.SIGKILL)
+    return lambda: None
+
+
+def cable(drill: Drill, machine: Machine) -> Mend:
+    """The first cable of the machine is out, by which its copy and its volume go; by the second one
+    the cluster sees that all is well."""
+    machine.cut_network(NETWORK)
+    return machine.join
+
+
+def plant(drill: Drill, machine: Machine) -> Mend:
+    """The cable of the machine to the plant is out; its volume and its cluster are well."""
+    machine.cut_network(machine.networks[-1])
+    return machine.join
 
 
 def tear(drill: Drill, machine: Machine) -> Mend:
@@ -93,7 +120,7 @@ def tear(drill: Drill, machine: Machine) -> Mend:
 def bounce(drill: Drill, machine: Machine) -> Mend:
     """The copy of another machine was away and is stale when the power of the machine fails."""
     other = random.choice(drill.others(machine))
-    for pid in drill.brick_of(other):
+    for pid in drill.programs_of(other, BRICK):
         os.kill(pid, signal.SIGKILL)
     time.sleep(1)
     drill.volume.gluster(machine, 'volume', 'start', 'desk', 'force')
@@ -108,7 +135,7 @@ def part(drill: Drill, machine: Machine) -> Mend:
     other, third = random.sample(drill.others(machine), 2)
     machine.cut_from(other)
     time.sleep(random.uniform(4, 6))
-    for pid in drill.brick_of(third):
+    for pid in drill.programs_of(third, BRICK):
         os.kill(pid, signal.SIGKILL)
     time.sleep(1)
     drill.volume.gluster(third, 'volume', 'start', 'desk', 'force')
@@ -123,6 +150,18 @@ def two(drill: Drill, machine: Machine) -> Mend:
     drill.nobody_answers()
     drill.boot(other)
     return lambda: drill.boot(machine)
+
+
+def total(drill: Drill, machine: Machine) -> Mend:
+    """The power of all three fails: nobody may answer until two are back, in any order."""
+    order = random.sample(drill.machines.all, len(drill.machines.all))
+    for one in order:
+        one.kill()
+    first, second, third = order
+    drill.power_on(first)
+    drill.nobody_answers()
+    drill.boot(first, second)
+    return lambda: drill.boot(third)
 
 
 def full(drill: Drill, machine: Machine) -> Mend:
@@ -156,8 +195,14 @@ KINDS: dict[str, Callable[[Drill, Machine], Mend]] = {
     'deaf': deaf,
     'part': part,
     'two': two,
+    'total': total,
+    'desk': desk,
+    'cable': cable,
+    'plant': plant,
     'full': full,
     'full-one': full_one,
 }
+# These are faults for a cluster, which has more networks than one.
+OF_CLUSTER = ('cable', 'plant')
 # After these the machine may go on itself.
-STAYS = ('full', 'full-one', 'two', 'part')
+STAYS = ('full', 'full-one', 'two', 'total', 'part', 'desk')

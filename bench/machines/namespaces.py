@@ -11,7 +11,7 @@ import signal
 import subprocess
 import sys
 import time
-from collections.abc import Iterator, Sequence
+from collections.abc import Callable, Iterator, Sequence
 from dataclasses import dataclass, field
 from typing import IO
 
@@ -36,6 +36,9 @@ for name, place in [one.split('=') for one in sys.argv[2:]]:
 run('mount', '-t', 'tmpfs', 'shm', '/dev/shm')
 for place in ('/run/gluster', '/run/lock', '/run/crm', '/run/resource-agents'):
     os.makedirs(place, exist_ok=True)
+for place in ('/proc/sysrq-trigger', '/proc/sys/kernel/sysrq'):
+    if os.path.exists(place):  # it would reset this machine, and not the one in the namespace
+        run('mount', '--bind', '/dev/null', place)
 open(os.path.join(folder, 'ready'), 'w').close()
 while True:
     try:
@@ -92,6 +95,11 @@ class Machine:
     pid: int = 0
     started: list[subprocess.Popen[bytes]] = field(default_factory=list)
     folders: dict[str, str] = field(default_factory=lambda: dict(FOLDERS))
+    files: dict[str, str] = field(default_factory=lambda: dict(FILES))
+    networks: tuple[str, ...] = ()  # in which it has an address besides, on the same cable
+    is_paused: bool = False  # with all that would reset it
+    is_mounted: bool = False  # the volume, since it was started
+    was_reset: bool = False  # by its watchdog, and is not started again yet
 
     @property
     def name(self) -> str:
@@ -110,7 +118,9 @@ class Machine:
         must('ip', '-n', self.switch, 'link', 'add', port, 'type', 'veth', 'peer', 'name', 'eth0')
         must('ip', '-n', self.switch, 'link', 'set', 'eth0', 'netns', self.network)
         must('ip', '-n', self.switch, 'link', 'set', port, 'master', 'br0', 'up')
-        must('ip', '-n', self.network, 'addr', 'add', f'{self.address}/24', 'dev', 'eth0')
+        for front in (NETWORK, *self.networks):
+            address = f'{front}.{self.number}/24'
+            must('ip', '-n', self.network, 'addr', 'add', address, 'dev', 'eth0')
         for link in ('lo', 'eth0'):
             must('ip', '-n', self.network, 'link', 'set', link, 'up')
 
@@ -129,6 +139,7 @@ class Machine:
 
     def boot(self) -> None:
         """Starts it, with the folders that it had."""
+        self.was_reset = False
         for name in (*self.folders, 'brick', 'mount'):
             os.makedirs(os.path.join(self.folder, name), exist_ok=True)
         hosts = ['127.0.0.1 localhost', *(f'{NETWORK}.{one} m{one}' for one in range(1, 10))]
@@ -143,7 +154,7 @@ class Machine:
             os.remove(ready)
         words = ['ip', 'netns', 'exec', self.network, 'unshare', '-m', '-u', '-p', '-f']
         words += ['--propagation', 'private', '--kill-child=KILL']
-        places = [f'{name}={place}' for name, place in (self.folders | FILES).items()]
+        places = [f'{name}={place}' for name, place in (self.folders | self.files).items()]
         places += [f'gsyncd={place}' for place in UNUSED]
         words += [sys.executable, '-c', INIT, self.folder, *places]
         with open(os.path.join(self.folder, 'init.out'), 'ab') as out:
@@ -211,11 +222,24 @@ class Machine:
         must(*nft, 'add', 'table', 'inet', 'fault')
         for way, side in (('input', 'saddr'), ('output', 'daddr')):
             must(*nft, f'add chain inet fault {way} {{ type filter hook {way} priority 0; }}')
-            must(*nft, f'add rule inet fault {way} ip {side} {other.address} drop')
+            for front in (NETWORK, *other.networks):
+                must(*nft, f'add rule inet fault {way} ip {side} {front}.{other.number} drop')
+
+    def cut_network(self, front: str) -> None:
+        """Drops all of one of its networks."""
+        nft = ('ip', 'netns', 'exec', self.network, 'nft')
+        must(*nft, 'add', 'table', 'inet', 'fault')
+        for way, side in (('input', 'saddr'), ('output', 'daddr')):
+            must(*nft, f'add chain inet fault {way} {{ type filter hook {way} priority 0; }}')
+            own = f'ip {side} != {front}.{self.number}'
+            must(*nft, f'add rule inet fault {way} ip {side} {front}.0/24 {own} drop')
 
     def programs(self) -> list[int]:
         """Returns the numbers of its programs, as this program sees them."""
-        wanted = os.readlink(f'/proc/{self.pid}/ns/pid')
+        try:
+            wanted = os.readlink(f'/proc/{self.pid}/ns/pid')
+        except OSError:  # it was reset
+            return []
         found = []
         for name in filter(str.isdigit, os.listdir('/proc')):
             with contextlib.suppress(OSError):
@@ -230,7 +254,7 @@ class Machine:
                 os.kill(pid, number)
 
     def freeze(self) -> None:
-        """Stops all its programs, as of a virtual machine that is paused."""
+        """Stops all its programs."""
         for _ in range(2):  # one that was just started by another is stopped, too
             self.signal(signal.SIGSTOP)
 
@@ -252,24 +276,33 @@ class Machine:
 
     def end(self) -> None:
         """Kills its first program, and so all others."""
-        if self.init is None:
+        (init, self.init), (pid, self.pid) = (self.init, None), (self.pid, 0)
+        self.is_mounted = False
+        if init is None:
             return
-        if self.pid:
+        if pid:
             with contextlib.suppress(ProcessLookupError):
-                os.kill(self.pid, signal.SIGKILL)
-        self.init.kill()
-        self.init.wait(PATIENCE)
+                os.kill(pid, signal.SIGKILL)
+        init.kill()
+        init.wait(PATIENCE)
         self.wake()
-        self.init, self.pid = None, 0
 
 
 class Machines:
     """The machines, and the switch between them. With `in_memory` their disks are in memory: for a
-    disk that is slow, or busy with what others do."""
+    disk that is slow, or busy with what others do. `prepare` is called for each before it is
+    made."""
 
-    def __init__(self, folder: str, *, in_memory: bool = False, count: int = 3) -> None:
+    def __init__(
+        self,
+        folder: str,
+        *,
+        in_memory: bool = False,
+        count: int = 3,
+        prepare: Callable[[Machine], None] | None = None,
+    ) -> None:
         mark = f'nv{os.getpid()}'
-        self.in_memory, self.is_mounted = in_memory, False
+        self.in_memory, self.is_mounted, self.prepare = in_memory, False, prepare
         self.folder, self.switch = folder, f'{mark}s'
         self.all = [
             Machine(number, os.path.join(folder, f'm{number}'), self.switch, f'{mark}m{number}')
@@ -297,12 +330,16 @@ class Machines:
             raise NoMachines(f'needs root, and the programs {", ".join(NEEDED)}')
         must('ip', 'netns', 'add', self.switch)
         must('ip', '-n', self.switch, 'link', 'add', 'br0', 'type', 'bridge')
-        must('ip', '-n', self.switch, 'addr', 'add', f'{NETWORK}.254/24', 'dev', 'br0')
         for link in ('lo', 'br0'):
             must('ip', '-n', self.switch, 'link', 'set', link, 'up')
         for machine in self.all:
             os.makedirs(machine.folder, exist_ok=True)
             machine.mount(in_memory=self.in_memory)
+            if self.prepare is not None:
+                self.prepare(machine)
+        for front in (NETWORK, *self.all[0].networks):
+            must('ip', '-n', self.switch, 'addr', 'add', f'{front}.254/24', 'dev', 'br0')
+        for machine in self.all:
             machine.wire()
             machine.boot()
 

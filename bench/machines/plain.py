@@ -11,7 +11,7 @@ import time
 sys.path.insert(0, os.path.join(os.path.dirname(os.path.abspath(__file__)), '..', '..', 'tools'))
 
 from nulvrader.standby.holder import remove_socket  # noqa: E402
-from nulvrader.standby.process import Ended, Process  # noqa: E402
+from nulvrader.standby.process import DeskEnded, Process  # noqa: E402
 from nulvrader.standby.relay import Proofs, Relay  # noqa: E402
 
 
@@ -30,5 +30,5 @@ async def serve(program: str, db: str, socket: str) -> None:
 if __name__ == '__main__':
     try:
         asyncio.run(serve(*sys.argv[1:4]))
-    except Ended as fault:
+    except DeskEnded as fault:
         sys.exit(str(fault))

@@ -10,7 +10,8 @@ import time
 from collections.abc import Sequence
 from dataclasses import dataclass, field
 
-from .desks import DB, Supervisor, Term
+from .cluster import Cluster, Managed
+from .desks import DB, Served, Supervisor, Term
 from .faults import KINDS, STAYS
 from .namespaces import Machine, Machines, NoMachines, until
 from .records import Answered, Judgement, Records
@@ -19,6 +20,7 @@ from .volume import Volume
 
 EXPORT = b'GET /export/loads HTTP/1.1\r\n\r\n'
 TAKEOVER = 300.0  # seconds until another desk has to answer
+HANDED = 60.0  # seconds after which it is looked again who has the desk that is to be stopped
 
 
 @dataclass
@@ -34,16 +36,26 @@ class Figures:
 class Drill:
     """Three machines, a volume, a desk for each machine, and those that ask."""
 
-    def __init__(self, machines: Machines, volume: Volume, program: str, *, is_plain: bool) -> None:
+    def __init__(
+        self,
+        machines: Machines,
+        volume: Volume,
+        program: str,
+        *,
+        is_plain: bool = False,
+        cluster: Cluster | None = None,
+    ) -> None:
         self.machines, self.volume, self.program = machines, volume, program
         self.terms: list[Term] = []
-        self.desks = {
-            machine.number: Supervisor(machine, program, self.terms, is_plain)
-            for machine in machines.all
-        }
+        self.cluster = cluster
+        self.desks: dict[int, Served] = {}
+        for machine in machines.all:
+            if cluster is not None:
+                self.desks[machine.number] = Managed(machine, cluster, self.terms)
+            else:
+                self.desks[machine.number] = Supervisor(machine, program, self.terms, is_plain)
         self.records, self.figures = Records(), Figures()
-        sockets = {number: desk.socket for number, desk in self.desks.items()}
-        self.sockets = sockets
+        self.sockets = {number: desk.socket for number, desk in self.desks.items()}
         self.traffic: Traffic | None = None
 
     def begin(self, vehicles: int) -> None:
@@ -57,6 +69,8 @@ class Drill:
         """Ends all that asks, and the desks."""
         if self.traffic is not None:
             self.traffic.end()
+        if self.cluster is not None:
+            self.cluster.end()
         for desk in self.desks.values():
             desk.close()
 
@@ -66,15 +80,40 @@ class Drill:
         """Returns the other machines."""
         return [one for one in self.machines.all if one is not machine]
 
-    def boot(self, machine: Machine) -> None:
-        """Starts a machine that was killed, with its copy, its mount and its desk."""
+    def boot(self, *machines: Machine) -> None:
+        """Starts machines that were killed, with their copies, mounts and desks, and those that
+        their watchdogs have reset."""
+        for machine in machines:
+            if not machine.is_up():
+                self.power_on(machine)
+        order = list(machines)
+        for _ in until():
+            order += self.reset_ones()
+            if not order:
+                return
+            machine = order.pop(0)
+            if not machine.was_reset and not self.volume.try_to_mount(machine):
+                order.append(machine)
+            elif self.cluster is not None and machine.is_mounted:
+                self.cluster.start(machine)
+        raise NoMachines(f'the volume can not be mounted in {order[0].name}')
+
+    def power_on(self, machine: Machine) -> None:
+        """Starts a machine that was killed, with its copy."""
         machine.boot()
         machine.join()
         self.volume.start_daemon(machine)
-        self.volume.mount(machine)
 
-    def brick_of(self, machine: Machine) -> list[int]:
-        """Returns the numbers of the programs that serve a machine's copy."""
+    def reset_ones(self) -> list[Machine]:
+        """Starts the machines that their watchdogs have reset, with their copies, and returns
+        them."""
+        found = [machine for machine in self.machines.all if machine.was_reset]
+        for machine in found:
+            self.power_on(machine)
+        return found
+
+    def programs_of(self, machine: Machine, name: str) -> list[int]:
+        """Returns the numbers of a machine's programs of a name."""
         found = []
         for pid in machine.programs():
             try:
@@ -82,7 +121,7 @@ class Drill:
                     words = file.read().split(b'\0')
             except OSError:
                 continue
-            if words[0].endswith(b'glusterfsd'):
+            if os.path.basename(words[0]) == name.encode():
                 found.append(pid)
         return found
 
@@ -106,7 +145,7 @@ class Drill:
     def wait_until_whole(self, machine: Machine) -> None:
         """Waits until a machine is connected to all copies, for two minutes at most."""
         for _ in until():
-            if self.volume.is_whole(machine):
+            if not machine.is_up() or self.volume.is_whole(machine):
                 return
 
     def fill(self, machine: Machine) -> str:
@@ -144,17 +183,29 @@ class Drill:
         return found[::-1]
 
     def holder(self, since: float = 0.0, besides: int = 0) -> tuple[Machine, float]:
-        """Waits for an answer of a desk that has begun since a moment, and returns its machine with
-        the moment of its first answer."""
+        """Waits for an answer of the newest desk, if that has begun since a moment, and returns its
+        machine with the moment of its first answer."""
         for _ in until(TAKEOVER):
-            terms = [
-                one for one in list(self.terms) if one.began >= since and one.machine != besides
-            ]
-            for term in sorted(terms, key=lambda one: -one.began):
-                for answer in self.answers_since(term.began):
-                    if answer.machine == term.machine:
-                        return self.machines.all[term.machine - 1], answer.came
+            found = self.answering(since, besides)
+            if found is not None:
+                return found
         raise NoMachines(f'no desk answers within {TAKEOVER:g} s')
+
+    def answering(self, since: float, besides: int) -> tuple[Machine, float] | None:
+        """Returns the machine whose desk is the newest, and its first answer; None where it has not
+        answered yet, or has begun before a moment."""
+        terms = [one for one in list(self.terms) if one.began >= since and one.machine != besides]
+        if not terms:
+            return None
+        term = max(terms, key=lambda one: one.began)
+        for answer in self.answers_since(term.began):
+            if answer.machine == term.machine:
+                return self.machines.all[term.machine - 1], answer.came
+        return None
+
+    def judged(self) -> Judgement:
+        """Judges what was answered."""
+        return Judgement.of(self.records, self.terms)
 
     def control(self, kind: str) -> None:
         """A fault with desks that nothing keeps from writing side by side."""
@@ -165,7 +216,7 @@ class Drill:
         time.sleep(5)
         mend()
         for _ in until():
-            if Judgement.of(self.records, self.terms).writers:
+            if self.judged().writers:
                 break
 
     def round(self, number: int, kind: str) -> None:
@@ -183,6 +234,7 @@ class Drill:
         time.sleep(random.uniform(1, 2))
         mended = time.monotonic()
         mend()
+        self.boot()
         if kind == 'full':
             new, first = self.first_change(mended)
             began = mended
@@ -192,8 +244,8 @@ class Drill:
         self.note(kind, old, began, took)
         healed = self.hand_over()
         lines = f'{kind}: m{old.number} to m{new.number} after {took:.1f} s'
-        judged = Judgement.of(self.records, self.terms)
-        told = f'{len(self.records.loads) - known} loads, healed after {healed:.1f} s; {judged}'
+        told = f'{len(self.records.loads) - known} loads, healed after {healed:.1f} s'
+        told += f'; {self.judged()}'
         print(f'{number}. {lines}; {told}', flush=True)
 
     def first_change(self, since: float) -> tuple[Machine, float]:
@@ -234,16 +286,31 @@ class Drill:
 
     def stop_and_start(self) -> None:
         """Stops the desk as a person does, and starts it once another goes on."""
-        old, _ = self.holder()
         for _ in until():
+            self.boot()
             if all(self.volume.is_whole(one) for one in self.machines.all):
                 break
         began = time.monotonic()
-        desk = self.desks[old.number]
+        first = None
+        while first is None:
+            if time.monotonic() > began + TAKEOVER:
+                raise NoMachines(f'no desk goes on within {TAKEOVER:g} s after a stop')
+            old, _ = self.holder()
+            first = self.stop_and_wait(self.desks[old.number])
+
+    def stop_and_wait(self, desk: Served) -> float | None:
+        """Stops a desk, waits for the next one, and starts the first again. Returns the first
+        answer; None where none comes, as where another one had the desk already."""
+        began = time.monotonic()
         desk.wait()
-        _, first = self.holder(began)
-        self.figures.planned.append(first - began)
+        found = None
+        for _ in until(HANDED):
+            found = self.answering(began, 0)
+            if found is not None:
+                self.figures.planned.append(found[1] - began)
+                break
         desk.start()
+        return None if found is None else found[1]
 
     # The end.
 
@@ -270,7 +337,7 @@ class Drill:
         """Returns the names of the desk's files whose copies differ."""
         found = []
         for name in (DB, f'{DB}-wal'):
-            paths = [os.path.join(one.folder, 'brick', 'desk', name) for one in self.machines.all]
+            paths = [os.path.join(folder, name) for folder in self.volume.copies()]
             sums = set()
             for path in paths:
                 if os.path.exists(path):

@@ -16,7 +16,8 @@ import time
 from collections.abc import Callable
 from typing import Any
 
-from nulvrader.desk.client import Answer, Desk, NoAnswer, Refused, refused
+from nulvrader.desk.answers import refused
+from nulvrader.desk.client import Answer, Desk, NoAnswer, Refused
 from nulvrader.gateway.carrier import Gateway
 from nulvrader.gateway.inbox import FRONT, Inbox
 from nulvrader.gateway.log import Tally

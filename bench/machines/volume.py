@@ -9,14 +9,24 @@ from nulvrader.standby import gluster
 from .namespaces import Machine, Machines, NoMachines, until
 
 NAME = 'desk'
+FLAGS = (  # as in examples/standby/srv-desk.mount
+    '--direct-io-mode=disable',
+    '--attribute-timeout=0',
+    '--entry-timeout=0',
+    '--auto-invalidation=on',
+)
+NOT_YET = 'Peer in Cluster'  # a machine is connected, and not taken in yet
 DAEMONS = ('glusterd', 'glusterfs', 'gluster')
 
 
 class Volume:
-    """The volume. `options` are set in their order."""
+    """The volume. `options` are set in their order. With `has_arbiter` the third machine has the
+    names of files and whose copies are stale, and no copy."""
 
-    def __init__(self, machines: Machines, options: dict[str, str]) -> None:
-        self.machines, self.options = machines, options
+    def __init__(
+        self, machines: Machines, options: dict[str, str], *, has_arbiter: bool = False
+    ) -> None:
+        self.machines, self.options, self.has_arbiter = machines, options, has_arbiter
 
     def gluster(self, machine: Machine, *words: str) -> str:
         """Runs a command of GlusterFS in a machine, which has to succeed, and returns what it
@@ -38,13 +48,24 @@ class Volume:
             if self.gluster(first, 'pool', 'list').count('Connected') == len(self.machines.all):
                 break
         bricks = [f'{one.address}:{one.folder}/brick/{NAME}' for one in self.machines.all]
-        count = str(len(bricks))
-        self.gluster(first, 'volume', 'create', NAME, 'replica', count, *bricks, 'force')
+        kind = ['replica', str(len(bricks)), *(['arbiter', '1'] if self.has_arbiter else [])]
+        for _ in until():
+            try:
+                self.gluster(first, 'volume', 'create', NAME, *kind, *bricks, 'force')
+                break
+            except NoMachines as fault:
+                if NOT_YET not in str(fault):
+                    raise
         pairs = [word for pair in self.options.items() for word in pair]
         self.gluster(first, 'volume', 'set', NAME, *pairs)
         self.gluster(first, 'volume', 'start', NAME)
         for machine in self.machines.all:
             self.mount(machine)
+
+    def copies(self) -> list[str]:
+        """Returns the folders that have a copy."""
+        machines = self.machines.all[: 2 if self.has_arbiter else None]
+        return [os.path.join(one.folder, 'brick', NAME) for one in machines]
 
     def start_daemon(self, machine: Machine) -> None:
         """Starts the daemon of a machine, and waits until it answers."""
@@ -56,28 +77,42 @@ class Volume:
         raise NoMachines(f'glusterd of {machine.name} does not answer')
 
     def mount(self, machine: Machine) -> None:
-        """Mounts it in a machine, which asks itself first, and waits until files can be seen."""
+        """Mounts it in a machine, and waits until files can be seen."""
+        for _ in until():
+            if self.try_to_mount(machine):
+                return
+        raise NoMachines(f'the volume can not be mounted in {machine.name}')
+
+    def try_to_mount(self, machine: Machine) -> bool:
+        """Tries to mount it in a machine, which asks itself first. Whether files can be seen."""
         at, count = machine.number - 1, len(self.machines.all)
         order = [self.machines.all[(at + step) % count] for step in range(count)]
         servers = [f'--volfile-server={one.address}' for one in order]
         place = os.path.join(machine.folder, 'mount')
-        flags = ['--direct-io-mode=disable', '--attribute-timeout=0', '--entry-timeout=0']
-        for _ in until():
-            if f' {place} fuse.glusterfs ' in machine.run('cat', '/proc/mounts').stdout:
-                if not machine.run('stat', '-f', place).returncode:
-                    return
+        words = ['glusterfs', *servers, f'--volfile-id=/{NAME}', *FLAGS, '--process-name', 'fuse']
+        for _ in range(2):
+            if f' {place} fuse.glusterfs ' not in machine.run('cat', '/proc/mounts').stdout:
+                machine.run(*words, place)
+                time.sleep(0.2)
+            elif machine.run('stat', '-f', place).returncode:
                 machine.run('umount', '-l', place)
-            words = [
-                'glusterfs',
-                *servers,
-                f'--volfile-id=/{NAME}',
-                *flags,
-                '--process-name',
-                'fuse',
-            ]
-            machine.run(*words, place)
-            time.sleep(0.2)
-        raise NoMachines(f'the volume can not be mounted in {machine.name}')
+            else:
+                machine.is_mounted = True
+        return machine.is_mounted
+
+    def stale(self) -> list[str]:
+        """Returns the machines that read a file as it was after another one has overwritten it."""
+        found = []
+        for number, machine in enumerate(self.machines.all):
+            other = self.machines.all[number - 1]
+            name = f'{machine.folder}/mount/read', f'{other.folder}/mount/read'
+            for text in ('one', 'two'):
+                other.run('sh', '-c', f'echo {text} | dd of={name[1]} conv=notrunc status=none')
+                read = machine.run('cat', name[0]).stdout.strip()
+                if read != text:
+                    found.append(f'{machine.name} reads a file as it was: {read}, and not {text}')
+            other.run('rm', '-f', name[1])
+        return found
 
     def is_whole(self, machine: Machine) -> bool:
         """Whether all copies are in use, and the mount of a machine is connected to each of

@@ -1,5 +1,5 @@
-"""Looks whether the volume, its options, the lock, the quorum, the clock and the fencing are as
-they must be. It changes nothing, but takes the lock for a moment where nobody has it."""
+"""Checks the volume, its options, the lock, the quorum, the clock and the fencing. Nothing is
+changed or locked."""
 from __future__ import annotations
 
 import glob
@@ -12,36 +12,39 @@ from . import cluster, gluster, lock
 from .gluster import Brick, Client, Unknown, Volume
 
 COPIES = 3
+INVALIDATES = '--auto-invalidation=on'
 OFF = ('off', 'no', 'disable', 'false', '0')
 ON = ('on', 'yes', 'enable', 'true', '1')
 
 
 @dataclass
-class Found:
-    """What is wrong, and what else is to be known."""
+class CheckResult:
+    """What is wrong, and notes on what is right."""
 
     notes: list[str] = field(default_factory=list)
     wrong: list[str] = field(default_factory=list)
 
 
-def look(db: str, volume: str | None, wanted: dict[str, str], *, with_cluster: bool) -> Found:
-    """Looks at all of it."""
-    found = Found()
+def check_all(
+    db: str, volume: str | None, wanted: dict[str, str], *, with_cluster: bool
+) -> CheckResult:
+    """Checks everything: the volume and the cluster only where they are named."""
+    found = CheckResult()
     if volume is not None:
-        look_at_volume(found, volume, wanted)
-    look_at_mount(found, db, volume)
-    look_at_lock(found, db)
+        check_volume(found, volume, wanted)
+    check_mount(found, db, volume)
+    check_lock(found, db)
     if not cluster.is_clock_set():
         found.wrong.append(
             'the clock is not synchronized: messages would go back in time. Run chrony'
         )
     if with_cluster:
-        look_at_cluster(found)
+        check_cluster(found)
     return found
 
 
-def look_at_volume(found: Found, name: str, wanted: dict[str, str]) -> None:
-    """Looks at the volume, its options and its copies."""
+def check_volume(found: CheckResult, name: str, wanted: dict[str, str]) -> None:
+    """Checks the volume, its options and its copies."""
     try:
         volume = gluster.read_volume(gluster.ask('volume', 'info', name), name)
         found.wrong += wrong_volume(volume, wanted)
@@ -52,7 +55,7 @@ def look_at_volume(found: Found, name: str, wanted: dict[str, str]) -> None:
 
 
 def wrong_volume(volume: Volume, wanted: dict[str, str]) -> list[str]:
-    """Returns what is wrong with a volume and its options."""
+    """Returns what is wrong with a volume and its options, of which these are wanted."""
     wrong = []
     if volume.replicas != COPIES or len(volume.bricks) != COPIES:
         told = f'{len(volume.bricks)} bricks with {volume.replicas} copies of each file'
@@ -97,8 +100,8 @@ def unhealed(counts: dict[str, int | None]) -> list[str]:
     return wrong
 
 
-def look_at_mount(found: Found, db: str, volume: str | None) -> None:
-    """Looks whether the file lies on the volume, and the mount uses all copies."""
+def check_mount(found: CheckResult, db: str, volume: str | None) -> None:
+    """Checks whether the file is on a volume, and whether the mount uses all copies."""
     folder = os.path.dirname(os.path.abspath(db))
     try:
         if volume is not None and not lock.is_shared(folder):
@@ -115,10 +118,21 @@ def look_at_mount(found: Found, db: str, volume: str | None) -> None:
         found.wrong.append(f'{shown(folder, 500)} can not be read: {fault.strerror}')
         return
     found.wrong += wrong_clients(clients)
+    if volume is not None:
+        found.wrong += wrong_flags(gluster.flags_of(place))
+
+
+def wrong_flags(flags: list[str] | None) -> list[str]:
+    """Returns what is wrong with the options of a mount."""
+    if flags is None:
+        return ['nobody knows the options of the mount: is this root?']
+    if INVALIDATES in flags:
+        return []
+    return ['the mount has no auto-invalidation=on: files are read as they were']
 
 
 def mount_of(folder: str) -> str:
-    """Returns the folder at which what a folder lies on is mounted."""
+    """Returns the mount point of the file system that a folder is on."""
     while not os.path.ismount(folder):
         folder = os.path.dirname(folder)
     return folder
@@ -136,8 +150,8 @@ def wrong_clients(clients: list[Client]) -> list[str]:
     return wrong
 
 
-def look_at_lock(found: Found, db: str) -> None:
-    """Looks who has the lock."""
+def check_lock(found: CheckResult, db: str) -> None:
+    """Checks whether a machine has the lock, and notes which one."""
     path = shown(lock.path_of(db), 500)
     try:
         is_free = lock.is_free(db)
@@ -154,10 +168,10 @@ def look_at_lock(found: Found, db: str) -> None:
         found.notes.append(f'the desk is on {holder or "a machine that has not said its name"}')
 
 
-def look_at_cluster(found: Found) -> None:
-    """Looks at Corosync, Pacemaker and the watchdog."""
+def check_cluster(found: CheckResult) -> None:
+    """Checks Corosync, Pacemaker and the watchdog."""
     try:
-        quorum = cluster.read_quorum(cluster.said('corosync-quorumtool', '-s'))
+        quorum = cluster.read_quorum(cluster.output_of('corosync-quorumtool', '-s'))
         if quorum.expected < COPIES:
             found.wrong.append(f'Corosync expects {quorum.expected} votes, and needs {COPIES}')
         if not quorum.is_quorate:
@@ -167,7 +181,7 @@ def look_at_cluster(found: Found) -> None:
     except Unknown as fault:
         found.wrong.append(str(fault))
     try:
-        text = cluster.said('cibadmin', '--query', '--scope', 'crm_config')
+        text = cluster.output_of('cibadmin', '--query', '--scope', 'crm_config')
         found.wrong += cluster.wrong_properties(cluster.read_properties(text))
     except Unknown as fault:
         found.wrong.append(str(fault))

@@ -1,4 +1,4 @@
-"""What Corosync, Pacemaker and the system say: the quorum, the fencing, the watchdog, the clock."""
+"""Asks Corosync, Pacemaker and the system: the quorum, the fencing, the watchdog, the clock."""
 from __future__ import annotations
 
 import ctypes
@@ -15,8 +15,8 @@ TIME_ERROR = 5  # adjtimex(2): the clock is not synchronized
 FENCING = ('stonith-enabled', 'stonith-watchdog-timeout', 'no-quorum-policy')
 
 
-def said(*words: str) -> str:
-    """Returns what a program prints, whatever its status."""
+def output_of(*words: str) -> str:
+    """Runs a program, and returns what it prints, whatever its status. Raises `Unknown`."""
     try:
         done = subprocess.run(words, capture_output=True, timeout=SECONDS, check=False)
     except FileNotFoundError:
@@ -28,7 +28,7 @@ def said(*words: str) -> str:
 
 @dataclass(frozen=True)
 class Quorum:
-    """How many votes Corosync expects, how many there are, and whether they are enough."""
+    """How many votes Corosync expects, how many there are, and whether they are a majority."""
 
     expected: int
     total: int
@@ -71,7 +71,7 @@ def wrong_properties(found: dict[str, str]) -> list[str]:
 
 
 class _Timex(ctypes.Structure):
-    """The first part of what adjtimex(2) fills, and room for the rest."""
+    """The struct that adjtimex(2) fills: its first member, and room for the rest."""
 
     _fields_ = [('modes', ctypes.c_uint), ('rest', ctypes.c_char * 512)]
 

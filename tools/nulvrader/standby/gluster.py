@@ -1,7 +1,8 @@
-"""What GlusterFS says of a volume, by `gluster --xml`, and the options that it must have. What it
-prints is read within bounds: the names in it are those of others."""
+"""Asks GlusterFS for a volume, by `gluster --xml`, and reads the options that the volume must have.
+The answers are read within bounds: the names in them may be anybody's."""
 from __future__ import annotations
 
+import glob
 import os
 import re
 import subprocess
@@ -18,12 +19,12 @@ COMMAND = ('gluster', '--mode=script', '--xml')
 
 
 class Unknown(Exception):
-    """GlusterFS has not said it, for this reason."""
+    """What was asked is not known. Its `str()` says why."""
 
 
 @dataclass(frozen=True)
 class Brick:
-    """A copy: its name, and whether it is online."""
+    """A copy of the volume: its name, and whether it is online."""
 
     name: str
     is_online: bool
@@ -42,14 +43,14 @@ class Volume:
 
 
 def volume_name(word: str) -> str:
-    """Reads the name of a volume."""
+    """Reads the name of a volume from the command line."""
     if not re.fullmatch('[A-Za-z0-9_][A-Za-z0-9_-]{0,63}', word, re.A):
         raise ValueError(word)
     return word
 
 
 def read_options(path: str) -> dict[str, str]:
-    """Reads a file of options: a line for each, with its value; comments begin with `#`."""
+    """Reads a file of options: each line has an option and its value. Comments begin with `#`."""
     with opened(path) as file:
         text = file.read(LONGEST).decode()
     found: dict[str, str] = {}
@@ -66,7 +67,7 @@ def read_options(path: str) -> dict[str, str]:
 
 
 def ask(*words: str) -> ElementTree.Element:
-    """Asks GlusterFS, and returns its answer."""
+    """Runs a command of `gluster`, and returns its answer. Raises `Unknown`."""
     try:
         line = [*COMMAND, *words]
         done = subprocess.run(line, capture_output=True, timeout=SECONDS, check=False)
@@ -78,7 +79,7 @@ def ask(*words: str) -> ElementTree.Element:
 
 
 def parse(data: bytes) -> ElementTree.Element:
-    """Reads an answer. One that says a fault is `Unknown`."""
+    """Reads an answer. Raises `Unknown` where it is not XML, or says that the command failed."""
     if len(data) > LONGEST or b'<!DOCTYPE' in data or b'<!ENTITY' in data:
         raise Unknown('gluster has answered what it never does')
     try:
@@ -91,7 +92,7 @@ def parse(data: bytes) -> ElementTree.Element:
 
 
 def number_of(parent: ElementTree.Element, name: str) -> int:
-    """Reads a number that has to be there."""
+    """Returns the number in a child of this name, or raises `Unknown`."""
     text = parent.findtext(name) or ''
     if not re.fullmatch('[0-9]{1,9}', text, re.A):
         raise Unknown(f'gluster has not said {name}')
@@ -116,7 +117,7 @@ def read_volume(answer: ElementTree.Element, name: str) -> Volume:
 
 
 def read_bricks(answer: ElementTree.Element) -> list[Brick]:
-    """Reads the answer of `volume status NAME`: the copies alone, and none of the helpers."""
+    """Reads the answer of `volume status NAME`: the copies, without the helper processes."""
     found = []
     for node in answer.iter('node'):
         path = node.findtext('path') or ''
@@ -127,8 +128,8 @@ def read_bricks(answer: ElementTree.Element) -> list[Brick]:
 
 
 def read_unhealed(answer: ElementTree.Element) -> dict[str, int | None]:
-    """Reads the answer of `volume heal NAME info`: for each copy how many entries are to be healed
-    there; None where nobody knows."""
+    """Reads the answer of `volume heal NAME info`: for each copy how many entries are to be healed,
+    or None where that is not known."""
     found: dict[str, int | None] = {}
     for brick in answer.iter('brick'):
         count = brick.findtext('numberOfEntries') or ''
@@ -139,9 +140,9 @@ def read_unhealed(answer: ElementTree.Element) -> dict[str, int | None]:
 
 @dataclass
 class Client:
-    """The connection of a mount to a copy: whether it is there, and how many of the files that are
-    open are not open at this copy. A file that was locked is not opened again at a copy that comes
-    back, with `client.strict-locks`."""
+    """The connection of a mount to a copy: whether it is there, and how many of the open files are
+    closed at this copy. With `client.strict-locks` a file that was locked is not opened again at a
+    copy that comes back."""
 
     name: str
     is_connected: bool = False
@@ -164,3 +165,16 @@ def read_clients(text: str) -> list[Client]:
         elif found and re.fullmatch(r'fd\.[0-9]+\.remote_fd', name, re.A):
             found[-1].closed += value == '-1'
     return found
+
+
+def flags_of(place: str) -> list[str] | None:
+    """Returns the words of the program that serves a mount; None where none is seen."""
+    for path in glob.glob('/proc/[0-9]*/cmdline'):
+        try:
+            with open(path, 'rb') as file:
+                words = file.read(LONGEST).decode(errors='replace').split('\0')
+        except OSError:
+            continue  # it has ended
+        if os.path.basename(words[0]) == 'glusterfs' and place in words:
+            return words
+    return None

@@ -14,11 +14,11 @@ from collections.abc import Callable
 from dataclasses import dataclass
 
 from ..common.text import shown
-from .lock import Lock, NotHeld, holder_of
-from .process import Ended, Process
+from .lock import Lock, NotHeld, forget, holder_of
+from .process import DeskEnded, Process
 from .relay import Proofs, Relay
 
-AGAIN = 0.2  # seconds from one try to the next
+AGAIN = 0.2  # seconds from one attempt to the next
 WAITING, STARTING, SERVING = 'waiting', 'starting', 'serving'
 
 Say = Callable[[str], None]
@@ -31,9 +31,9 @@ def say(line: str) -> None:
 
 
 @dataclass(frozen=True)
-class Settings:
-    """What is to be run: the desk's program, its file and its port, the Unix socket that clients
-    use and its group, the file that says how it is, and the seconds that a proof may take."""
+class StandbySettings:
+    """The arguments of `run`: the desk's program, file and port, the Unix socket for clients and
+    its group, the file that says how `run` is, and the most seconds that a proof may take."""
 
     program: str
     db: str
@@ -44,9 +44,9 @@ class Settings:
     patience: float
 
 
-class State:
-    """The file that says how this program is: one word, since when it is so, and when the lock was
-    proved last, in seconds of the monotonic clock. It is put in its place as a whole."""
+class StateFile:
+    """Writes the file that says how this program is: a word, since when it is so, and when that was
+    written, in seconds of the monotonic clock. The file is replaced as a whole."""
 
     def __init__(self, path: str | None) -> None:
         self.path = path
@@ -54,7 +54,7 @@ class State:
         self.held: float | None = None  # when the lock was taken
 
     def tell(self, word: str, why: str = '') -> None:
-        """Writes that it is so, as of now."""
+        """Writes that this program is as the word says, at this moment."""
         now = time.monotonic()
         if word != self.word:
             self.word, self.since = word, now
@@ -77,25 +77,25 @@ class State:
                 os.remove(self.path)
 
 
-class Keeper:
-    """Serves a file while it has the lock."""
+class Standby:
+    """Serves a file while it has the lock of the file."""
 
-    def __init__(self, settings: Settings, write: Say = say) -> None:
+    def __init__(self, settings: StandbySettings, write: Say = say) -> None:
         self.settings, self.write = settings, write
         self.lock = Lock(settings.db)
-        self.state = State(settings.state)
+        self.state = StateFile(settings.state)
         self.process = Process(settings.program, settings.db, settings.port)
         self.relay: Relay | None = None
         self.last = ''
 
     def once(self, line: str) -> None:
-        """Says a line, unless it was the last one."""
+        """Writes a line, unless it was the last one."""
         if line != self.last:
             self.last = line
             self.write(line)
 
     def why_not(self) -> str:
-        """Tries to take the lock. Returns why that fails, or nothing."""
+        """Tries to take the lock. Returns why that fails, or '' once it is taken."""
         try:
             if self.lock.take():
                 return ''
@@ -118,20 +118,22 @@ class Keeper:
             await asyncio.sleep(AGAIN)
 
     async def start(self) -> None:
-        """Starts the desk, again and again: the desk of another machine may still have its lock."""
-        self.state.tell(STARTING)
+        """Starts the desk, and tries again where it ends: the desk of another machine may still
+        have its own lock on the file."""
+        loop = asyncio.get_running_loop()
         while True:
             try:
+                await loop.run_in_executor(None, forget, self.settings.db)
                 await self.process.start()
                 return
-            except Ended as fault:
+            except DeskEnded as fault:
                 if fault.status == 2:
                     raise
                 self.once(str(fault))
             await asyncio.sleep(AGAIN)
 
     async def serve(self, proofs: Proofs) -> None:
-        """Serves until the desk ends, which is `Ended`."""
+        """Serves clients until the desk ends, and then raises `DeskEnded`."""
         self.relay = Relay(self.settings.port, proofs)
         path = self.settings.socket
         remove_socket(path)
@@ -143,25 +145,26 @@ class Keeper:
             self.last = ''
             self.write('serving')
             self.state.tell(SERVING)
-            await asyncio.gather(self.process.end(), self.tell_of(proofs))
+            await self.process.end()
         finally:
             server.close()
 
     async def tell_of(self, proofs: Proofs) -> None:
-        """Writes down each second that the lock was proved, where it was."""
-        count = -1
+        """Writes after each new proof of the lock that it was proved."""
+        count = 0
         while True:
             if proofs.count != count:
                 count = proofs.count
-                self.state.tell(SERVING)
+                self.state.tell(self.state.word)
             await asyncio.sleep(0.5)
 
     async def hold(self) -> None:
-        """Starts and serves while the lock can be proved."""
+        """Starts and serves the desk while the lock can be proved; then raises why it ends."""
         proofs = Proofs(self.lock.prove, self.settings.patience)
-        proving = asyncio.ensure_future(proofs.run())
-        serving = asyncio.ensure_future(self.start_and_serve(proofs))
-        done, _ = await asyncio.wait([proving, serving], return_when=asyncio.FIRST_COMPLETED)
+        self.state.tell(STARTING)
+        work = (proofs.run(), self.start_and_serve(proofs), self.tell_of(proofs))
+        tasks = [asyncio.ensure_future(one) for one in work]
+        done, _ = await asyncio.wait(tasks, return_when=asyncio.FIRST_COMPLETED)
         for one in done:
             one.result()
 
@@ -171,7 +174,8 @@ class Keeper:
         await self.serve(proofs)
 
     def stop(self) -> None:
-        """Takes the socket away first, then ends the desk, and then lets the lock go."""
+        """Removes the socket, closes the connections, and kills the desk. The lock is released as
+        this program ends."""
         remove_socket(self.settings.socket)
         if self.relay is not None:
             self.relay.abort()
@@ -179,8 +183,8 @@ class Keeper:
         self.state.remove()
 
     async def run(self) -> int:
-        """Runs until it is over. Returns the status: 0 after a signal, 2 where the desk takes its
-        arguments for wrong, else 1."""
+        """Runs until a signal comes or the lock or the desk is lost. Returns the status: 0 after a
+        signal, 2 where the desk refuses its arguments, else 1."""
         over = asyncio.Event()
         loop = asyncio.get_running_loop()
         for number in (signal.SIGTERM, signal.SIGINT):
@@ -192,7 +196,7 @@ class Keeper:
         return work.result() if work.done() else 0
 
     async def work(self) -> int:
-        """Waits for the lock and holds it. Returns the status once it is lost."""
+        """Waits for the lock, and serves while it is held. Returns the status."""
         try:
             await self.wait()
             await self.hold()
@@ -200,7 +204,7 @@ class Keeper:
             self.write(f'the lock is lost: {fault}')
         except asyncio.TimeoutError:
             self.write(f'the lock could not be proved within {self.settings.patience:g} s')
-        except Ended as fault:
+        except DeskEnded as fault:
             self.write(str(fault))
             return 2 if fault.status == 2 else 1
         except OSError as fault:
@@ -215,11 +219,11 @@ def remove_socket(path: str) -> None:
             os.remove(path)
 
 
-def run(settings: Settings) -> int:
-    """Runs it. The program ends at once, even where a thread waits for the disk."""
-    keeper = Keeper(settings)
+def run(settings: StandbySettings) -> int:
+    """Runs a standby, and ends this program at once, even where a thread waits for the disk."""
+    standby = Standby(settings)
     loop = asyncio.new_event_loop()
-    status = loop.run_until_complete(keeper.run())
+    status = loop.run_until_complete(standby.run())
     sys.stdout.flush()
     sys.stderr.flush()
     os._exit(status)

@@ -1,8 +1,9 @@
-"""The lock that chooses the machine whose desk serves a file: on the file `FILE.holder` beside it.
+"""The lock that chooses the machine whose desk serves a file. It is on `FILE.holder`, beside the
+file.
 
-The desk locks its file, too, which alone keeps two desks from writing. This lock is taken before a
-desk is started, and kept while it runs. So as long as it is held no other machine has started a
-desk, and what this one answers is not out of date."""
+The desk has a lock on its file, too, which by itself keeps two desks from writing. This lock is
+taken before a desk is started, and kept while the desk runs. So while it is held, no other machine
+has started a desk, and what this one answers is not out of date."""
 from __future__ import annotations
 
 import contextlib
@@ -13,22 +14,23 @@ import re
 import stat
 import struct
 import time
+from collections.abc import Iterator
 from dataclasses import dataclass
 
 from ..common.text import shown
 
 END = '.holder'
-RECORD = 128  # bytes of the file: who holds it, since when, and a number that grows
-# A lock for writing on all bytes of the file, of this open file alone (fcntl(2), F_OFD_SETLK).
+RECORD = 128  # bytes of the file: the holder, since when, and a number that grows
+# A write lock on all bytes of the file, which belongs to one open file (fcntl(2), F_OFD_SETLK).
 WHOLE = struct.pack('hhqqi', fcntl.F_WRLCK, os.SEEK_SET, 0, 0, 0)
 TAKEN = (errno.EAGAIN, errno.EACCES)
-# What a volume answers that has lost its copies, or a disk that fails.
+# The errors of a volume that has lost its copies, or of a disk that fails.
 FAILS = (errno.ENOTCONN, errno.EIO, errno.EROFS, errno.EBADFD, errno.ESTALE, errno.ETIMEDOUT)
 NAME = re.compile(r'[A-Za-z0-9._-]{1,64}', re.A)
 
 
 class NotHeld(Exception):
-    """The lock is not held any more, or nobody can tell."""
+    """The lock is not held any more, or it is not known whether it is."""
 
 
 @dataclass(frozen=True)
@@ -40,7 +42,7 @@ class Holder:
 
     @classmethod
     def parse(cls, data: bytes) -> Holder | None:
-        """Reads a record, or None where it is none."""
+        """Reads a record; None where the bytes are none."""
         words = data.decode('ascii', errors='replace').split()
         if len(words) != 3 or not NAME.fullmatch(words[0]):
             return None
@@ -57,18 +59,18 @@ class Holder:
 
 
 def machine_name() -> str:
-    """Returns the name of this machine, as a record has it."""
+    """Returns the name of this machine, as it stands in a record."""
     name = os.uname().nodename.split('.')[0][:64]
     return name if NAME.fullmatch(name) else 'unknown'
 
 
 def path_of(db: str) -> str:
-    """Returns the path of the file that is locked for a desk's file."""
+    """Returns the path of the lock's file for a desk's file."""
     return db + END
 
 
 def _open(path: str, flags: int) -> int:
-    """Opens a regular file, and nothing else: no link, no pipe."""
+    """Opens a regular file, and raises OSError for a link or anything else."""
     number = os.open(path, flags | os.O_NOFOLLOW | os.O_NONBLOCK | os.O_CLOEXEC, 0o640)
     if not stat.S_ISREG(os.fstat(number).st_mode):
         os.close(number)
@@ -77,19 +79,20 @@ def _open(path: str, flags: int) -> int:
 
 
 def holder_of(db: str) -> Holder | None:
-    """Returns who has the lock, or had it last; None where no file says so."""
+    """Returns the machine that has the lock, or had it last; None where no record says so."""
     try:
         number = _open(path_of(db), os.O_RDONLY)
     except FileNotFoundError:
         return None
     try:
+        os.posix_fadvise(number, 0, 0, os.POSIX_FADV_DONTNEED)
         return Holder.parse(os.pread(number, RECORD, 0))
     finally:
         os.close(number)
 
 
 def is_free(db: str) -> bool:
-    """Whether nobody has the lock. Nothing is locked or written for that."""
+    """Whether nobody has the lock. Nothing is locked or written for this answer."""
     number = _open(path_of(db), os.O_RDONLY)
     try:
         told = fcntl.fcntl(number, fcntl.F_OFD_GETLK, WHOLE)
@@ -99,7 +102,7 @@ def is_free(db: str) -> bool:
 
 
 def reason(db: str) -> str | None:
-    """Returns why no desk may start here on a file, if the lock beside it says so."""
+    """Returns why no desk may start on a file here, or None where the lock allows it."""
     path = shown(db, 1000)
     try:
         if not os.path.lexists(path_of(db)):
@@ -125,8 +128,9 @@ def reason(db: str) -> str | None:
 
 
 def is_shared(path: str) -> bool:
-    """Whether a file lies on a file system in user space, as GlusterFS, where a write has reached
-    the copies when it returns. Elsewhere it may be in the memory of this machine alone."""
+    """Whether a file is on a file system in user space such as GlusterFS, where a write that has
+    returned has reached the copies. On other file systems it may be only in this machine's
+    memory."""
     wanted = os.stat(path).st_dev
     place = f'{os.major(wanted)}:{os.minor(wanted)}'
     with contextlib.suppress(OSError), open('/proc/self/mountinfo', encoding='utf-8') as file:
@@ -138,8 +142,30 @@ def is_shared(path: str) -> bool:
     return False
 
 
+@contextlib.contextmanager
+def _failing(path: str) -> Iterator[None]:
+    """Raises `NotHeld` where something within fails."""
+    try:
+        yield
+    except OSError as fault:
+        raise NotHeld(f'{shown(path, 1000)}: {fault.strerror}') from None
+
+
+def forget(db: str) -> None:
+    """Has this machine's memory keep nothing of a desk's file, so that it is read from the volume.
+    A mount may keep what it has read for ever, also where another machine writes the file.
+    `NotHeld` where the volume fails."""
+    for path in (db, f'{db}-wal'):
+        with _failing(path), contextlib.suppress(FileNotFoundError):
+            number = os.open(path, os.O_RDONLY | os.O_NONBLOCK | os.O_CLOEXEC)
+            try:
+                os.posix_fadvise(number, 0, 0, os.POSIX_FADV_DONTNEED)
+            finally:
+                os.close(number)
+
+
 class Lock:
-    """The lock of a desk's file. The methods may wait for the disk."""
+    """The lock for a desk's file. Each method may wait for the disk."""
 
     def __init__(self, db: str) -> None:
         self.path = path_of(db)
@@ -149,8 +175,8 @@ class Lock:
         self.is_shared = False
 
     def take(self) -> bool:
-        """Takes the lock, and proves it. False where another has it; an OSError where the disk
-        fails."""
+        """Takes the lock, and proves it. Returns False where another machine has it, and raises
+        OSError where the disk fails."""
         if self.number < 0:
             self.number = _open(self.path, os.O_RDWR | os.O_CREAT)
         try:
@@ -166,8 +192,8 @@ class Lock:
         return True
 
     def write(self) -> None:
-        """Writes a record by the locked file. On GlusterFS with `client.strict-locks` this fails
-        once the lock is lost, or two of three copies can't be reached."""
+        """Writes a record through the locked file. On GlusterFS with `client.strict-locks` this
+        fails once the lock is lost, or two of three copies can't be reached."""
         self.count += 1
         record = (self.head + str(self.count).encode()).ljust(RECORD - 1) + b'\n'
         if os.pwrite(self.number, record, 0) != RECORD:
@@ -177,13 +203,11 @@ class Lock:
 
     def prove(self) -> None:
         """Returns if the lock was held at some moment since the call, else raises `NotHeld`."""
-        try:
+        with _failing(self.path):
             self.write()
-        except OSError as fault:
-            raise NotHeld(f'{shown(self.path, 1000)}: {fault.strerror}') from None
 
     def close(self) -> None:
-        """Lets the lock go."""
+        """Releases the lock."""
         if self.number >= 0:
             with contextlib.suppress(OSError):
                 os.close(self.number)

@@ -1,4 +1,4 @@
-"""The desk as a child of this program, which dies with it."""
+"""Runs the desk as a child of this program, which dies with it."""
 from __future__ import annotations
 
 import asyncio
@@ -11,20 +11,20 @@ from ..common.text import shown
 LISTENING = b'listening on '
 SET_PARENT_DEATH_SIGNAL = 1  # prctl(2), PR_SET_PDEATHSIG
 FOREVER = '4294967295'
-SAID = 2000  # the most bytes of what a desk has said that are told
+OUTPUT = 2000  # the most bytes of a desk's output that are kept
 
 
-class Ended(Exception):
-    """The desk has ended: its status, and what it said."""
+class DeskEnded(Exception):
+    """The desk has ended, with this status. Its `str()` has what the desk printed last."""
 
     def __init__(self, status: int, said: bytes) -> None:
-        text = shown(said.decode(errors='replace').strip(), SAID)
+        text = shown(said.decode(errors='replace').strip(), OUTPUT)
         super().__init__(f'the desk has ended with status {status}: {text or "it said nothing"}')
         self.status = status
 
 
 def _die_with_parent() -> None:
-    """Has the system kill this process once the one that started it has ended."""
+    """Makes the system kill this process once its parent has ended."""
     ctypes.CDLL(None).prctl(SET_PARENT_DEATH_SIGNAL, signal.SIGKILL, 0, 0, 0)
 
 
@@ -37,7 +37,7 @@ class Process:
         self.said = b''
 
     async def start(self) -> None:
-        """Starts it, and waits until it listens. `Ended` where it ends before."""
+        """Starts the desk, and waits until it listens. Raises `DeskEnded` where it ends before."""
         self.said = b''
         pipe = asyncio.subprocess.PIPE
         self.child = await asyncio.create_subprocess_exec(
@@ -54,17 +54,17 @@ class Process:
             await self.end()
 
     async def end(self) -> None:
-        """Waits until it has ended, and raises `Ended`."""
+        """Waits until the desk has ended, and raises `DeskEnded`."""
         assert self.child is not None and self.child.stdout is not None
         while True:
-            part = await self.child.stdout.read(SAID)
+            part = await self.child.stdout.read(OUTPUT)
             if not part:
                 break
-            self.said = (self.said + part)[-SAID:]
-        raise Ended(await self.child.wait(), self.said)
+            self.said = (self.said + part)[-OUTPUT:]
+        raise DeskEnded(await self.child.wait(), self.said)
 
     def kill(self) -> None:
-        """Kills it at once: each answered call is in the file."""
+        """Kills the desk at once. Each call that it has answered is in the file."""
         if self.child is not None and self.child.returncode is None:
             with contextlib.suppress(ProcessLookupError):
                 self.child.kill()

@@ -1,5 +1,5 @@
-"""Passes connections on to a desk, and what the desk answers only after a proof that this machine
-was the holder when the answer was written."""
+"""Passes connections on to a desk. An answer is passed back only after a proof that this machine
+held the lock when the answer was written."""
 from __future__ import annotations
 
 import asyncio
@@ -7,13 +7,14 @@ import contextlib
 from collections.abc import Callable
 
 PART = 65_536  # bytes that are read at once
-MOST = 256  # the most connections at a time
-EVERY = 1.0  # seconds from one proof to the next, where nobody asks
+MOST = 256  # the most connections at once
+EVERY = 1.0  # seconds from one proof to the next, while nobody waits for one
 
 
 class Proofs:
-    """Proofs that the lock is held, one after the other, each for all that wait as it begins.
-    `prove` raises an exception where it is not held; it runs in a thread, since it may wait."""
+    """Proves again and again that the lock is held, each time for all that wait when the proof
+    begins. `prove` raises an exception where the lock is not held; it may wait for the disk, so it
+    runs in a thread."""
 
     def __init__(self, prove: Callable[[], None], patience: float) -> None:
         self.prove, self.patience = prove, patience
@@ -22,15 +23,15 @@ class Proofs:
         self.count = 0
 
     async def fresh(self) -> None:
-        """Waits for a proof that begins after this call."""
+        """Returns after a proof that has begun after this call."""
         future: asyncio.Future[None] = asyncio.get_running_loop().create_future()
         self.waiting.append(future)
         self.wanted.set()
         await future
 
     async def run(self) -> None:
-        """Goes on until a proof fails, which is the exception, or takes longer than the patience,
-        which is a TimeoutError."""
+        """Runs until a proof fails, and raises its exception, or until one takes longer than the
+        patience, and raises TimeoutError."""
         loop = asyncio.get_running_loop()
         while True:
             with contextlib.suppress(asyncio.TimeoutError):
@@ -46,14 +47,14 @@ class Proofs:
 
 
 class Relay:
-    """Serves connections over to the port of a desk on this machine."""
+    """Passes the connections of clients on to the port of a desk on this machine."""
 
     def __init__(self, port: int, proofs: Proofs) -> None:
         self.port, self.proofs = port, proofs
         self.open: set[asyncio.StreamWriter] = set()
 
     async def serve(self, client: asyncio.StreamReader, answers: asyncio.StreamWriter) -> None:
-        """Serves a connection to its end."""
+        """Serves a client's connection until it ends."""
         if len(self.open) >= MOST:
             answers.transport.abort()
             return
@@ -77,7 +78,7 @@ class Relay:
         desk: asyncio.StreamReader,
         requests: asyncio.StreamWriter,
     ) -> None:
-        """Carries requests until the desk has closed its connection, or the client is gone."""
+        """Passes requests and answers on until the desk or the client closes its connection."""
         up = asyncio.ensure_future(self.send(client, requests))
         try:
             while True:
@@ -93,7 +94,7 @@ class Relay:
                 await up
 
     async def send(self, client: asyncio.StreamReader, requests: asyncio.StreamWriter) -> None:
-        """Sends the desk what a client sends."""
+        """Passes what a client sends on to the desk."""
         while True:
             part = await client.read(PART)
             if not part:
@@ -103,6 +104,6 @@ class Relay:
             await requests.drain()
 
     def abort(self) -> None:
-        """Closes all connections at once; what was not sent is dropped."""
+        """Closes all connections at once, and drops what was not sent."""
         for writer in list(self.open):
             writer.transport.abort()

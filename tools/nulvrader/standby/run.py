@@ -1,4 +1,4 @@
-"""The command line of `tools/standby`."""
+"""Reads the command line of `tools/standby`, and runs its commands."""
 from __future__ import annotations
 
 import argparse
@@ -7,13 +7,13 @@ import sys
 from ..common import entry
 from ..common.text import shown_lines
 from . import checks, gluster, status
-from .holder import Settings, run as run_holder
+from .holder import StandbySettings, run as run_holder
 
 PATIENCE = 15.0
 
 
 def port_number(word: str) -> int:
-    """Reads a port."""
+    """Reads a port from the command line."""
     number = int(word)
     if not 1 <= number <= 65535:
         raise ValueError(word)
@@ -21,17 +21,17 @@ def port_number(word: str) -> int:
 
 
 def seconds(word: str) -> float:
-    """Reads a number of seconds."""
+    """Reads a number of seconds from the command line."""
     number = float(word)
     if not 0.1 <= number <= 3600:
         raise ValueError(word)
     return number
 
 
-def words(text: str) -> argparse.ArgumentParser:
-    """Returns the words of the command line; `text` is the head of the help."""
-    line = entry.parser(text, 'standby')
-    commands = line.add_subparsers(dest='command', required=True, metavar='COMMAND')
+def parser_of(text: str) -> argparse.ArgumentParser:
+    """Returns the parser of the command line; `text` is the head of its help."""
+    parser = entry.parser(text, 'standby')
+    commands = parser.add_subparsers(dest='command', required=True, metavar='COMMAND')
     add_run(
         commands.add_parser('run', help='waits for the lock, and serves the file while it is held')
     )
@@ -40,11 +40,11 @@ def words(text: str) -> argparse.ArgumentParser:
     add_options(
         commands.add_parser('options', help="prints the commands that set a volume's options")
     )
-    return line
+    return parser
 
 
 def add_run(command: argparse.ArgumentParser) -> None:
-    """Adds the words of `run`."""
+    """Adds the arguments of `run`."""
     add = command.add_argument
     add('--program', required=True, metavar='FILE', help='the program of the desk')
     add('--db', required=True, metavar='FILE', help='the file of the desk')
@@ -52,19 +52,21 @@ def add_run(command: argparse.ArgumentParser) -> None:
     add('--port', type=port_number, default=8080, help='the port of the desk (default: 8080)')
     add('--group', help='the group that may open the socket')
     add('--state', metavar='FILE', help='the file that says how it is, for `status`')
-    told = 'the longest time that a proof of the lock may take (default: 15)'
-    add('--patience', type=seconds, default=PATIENCE, metavar='SECONDS', help=told)
+    help_text = 'the longest time that a proof of the lock may take (default: 15)'
+    add('--patience', type=seconds, default=PATIENCE, metavar='SECONDS', help=help_text)
 
 
 def add_status(command: argparse.ArgumentParser) -> None:
-    """Adds the words of `status`."""
+    """Adds the arguments of `status`."""
     command.add_argument('--state', required=True, metavar='FILE', help='the file of `run --state`')
-    told = 'a lock that was proved so long ago is held no more (default: 15)'
-    command.add_argument('--within', type=seconds, default=PATIENCE, metavar='SECONDS', help=told)
+    help_text = 'a lock that was proved so long ago is held no more (default: 15)'
+    command.add_argument(
+        '--within', type=seconds, default=PATIENCE, metavar='SECONDS', help=help_text
+    )
 
 
 def add_check(command: argparse.ArgumentParser) -> None:
-    """Adds the words of `check`."""
+    """Adds the arguments of `check`."""
     add = command.add_argument
     add('--db', required=True, metavar='FILE', help='the file of the desk, on the volume')
     add('--volume', metavar='NAME', help='the volume of GlusterFS, if it is one')
@@ -77,31 +79,31 @@ def add_check(command: argparse.ArgumentParser) -> None:
 
 
 def add_options(command: argparse.ArgumentParser) -> None:
-    """Adds the words of `options`."""
+    """Adds the arguments of `options`."""
     command.add_argument('volume', metavar='VOLUME', type=gluster.volume_name, help='its name')
-    told = f'the options (default: {gluster.OPTIONS})'
-    command.add_argument('--options', metavar='FILE', help=told)
+    help_text = f'the options (default: {gluster.OPTIONS})'
+    command.add_argument('--options', metavar='FILE', help=help_text)
 
 
-def print_options(given: argparse.Namespace) -> int:
-    """Prints the commands that set the options."""
+def print_options(args: argparse.Namespace) -> int:
+    """Prints the commands that set the options of a volume. Returns the status."""
     try:
-        for option, value in gluster.read_options(given.options or gluster.OPTIONS).items():
-            print(f'gluster volume set {given.volume} {option} {value}')
+        for option, value in gluster.read_options(args.options or gluster.OPTIONS).items():
+            print(f'gluster volume set {args.volume} {option} {value}')
     except (OSError, ValueError) as fault:
         print(f'standby: {fault}', file=sys.stderr)
         return 2
     return 0
 
 
-def print_check(given: argparse.Namespace) -> int:
-    """Prints what is not as it must be. The status: 1 if there is something."""
+def print_check(args: argparse.Namespace) -> int:
+    """Prints what is wrong. Returns the status, 1 if anything is."""
     try:
-        wanted = gluster.read_options(given.options or gluster.OPTIONS)
+        wanted = gluster.read_options(args.options or gluster.OPTIONS)
     except (OSError, ValueError) as fault:
         print(f'standby: {fault}', file=sys.stderr)
         return 2
-    found = checks.look(given.db, given.volume, wanted, with_cluster=not given.no_cluster)
+    found = checks.check_all(args.db, args.volume, wanted, with_cluster=not args.no_cluster)
     for line in found.notes:
         print(f'standby: {shown_lines(line, 4000)}')
     for line in found.wrong:
@@ -111,14 +113,14 @@ def print_check(given: argparse.Namespace) -> int:
     return 1 if found.wrong else 0
 
 
-def run(line: list[str], text: str) -> int:
-    """Runs the program; `text` is the head of its help."""
-    given = words(text).parse_args(line)
-    if given.command == 'run':
+def run(arguments: list[str], text: str) -> int:
+    """Runs `tools/standby`, and returns its status; `text` is the head of its help."""
+    args = parser_of(text).parse_args(arguments)
+    if args.command == 'run':
         names = ('program', 'db', 'port', 'socket', 'group', 'state', 'patience')
-        return run_holder(Settings(**{name: getattr(given, name) for name in names}))
-    if given.command == 'status':
-        told = status.read(given.state, given.within)
-        print(f'standby: {told}')
-        return told.status
-    return print_options(given) if given.command == 'options' else print_check(given)
+        return run_holder(StandbySettings(**{name: getattr(args, name) for name in names}))
+    if args.command == 'status':
+        found = status.read(args.state, args.within)
+        print(f'standby: {found}')
+        return found.status
+    return print_options(args) if args.command == 'options' else print_check(args)
