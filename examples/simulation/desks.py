@@ -11,6 +11,7 @@ import socket
 import subprocess
 import threading
 from collections.abc import Iterator
+from typing import Self
 
 from nulvrader.desk.client import Answer, Desk, NoAnswer
 from nulvrader.file.machine import free_port
@@ -89,7 +90,7 @@ class Wired(Desk):
         return self.wire.ask(method, target, body)
 
     @contextlib.contextmanager
-    def kept(self, count: int | None = None) -> Iterator[Desk]:
+    def kept(self, count: int | None = None) -> Iterator[Self]:
         yield self  # it always is
 
 

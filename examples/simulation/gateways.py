@@ -8,7 +8,7 @@ from collections.abc import Callable
 from typing import Any
 
 from nulvrader.desk.client import Desk, NoAnswer, Refused
-from nulvrader.gateway.words import Words
+from nulvrader.gateway.telemetry import TelemetrySender
 
 from .clock import Clock
 from .plan import Line
@@ -46,7 +46,7 @@ class Gateway:
             tuple[str, int], float
         ] = {}  # when a message was last handed to the vehicle
         self.posted = 0
-        self.words: Words | None = None  # what tells a board what the vehicle says
+        self.words: TelemetrySender | None = None  # what tells a board what the vehicle says
 
     def serve(self, vehicle: Vehicle) -> None:
         """Begins to serve this vehicle."""
@@ -103,7 +103,7 @@ class Gateway:
         vehicle = self.vehicle
         try:
             order = self.desk.order_message(vehicle.key)
-            instant = self.desk.instant_actions(vehicle.key) if all_topics else None
+            instant: Any = self.desk.instant_actions(vehicle.key) if all_topics else None
         except (NoAnswer, Refused):
             return
         if order is not None:

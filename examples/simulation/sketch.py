@@ -7,106 +7,31 @@ from __future__ import annotations
 import contextlib
 import random
 import time
-from collections import Counter
 from collections.abc import Callable, Iterator, Mapping, Sequence
-from dataclasses import dataclass, field
+from typing import Self
 
 from nulvrader.common.names import VehicleKey
-from nulvrader.desk.client import Desk, Job, NoAnswer, Stop, Vehicle
+from nulvrader.desk.client import Job, NoAnswer, Stop, Vehicle
 from nulvrader.desk.messages import Act, Order, OrderEdge, OrderNode
 from nulvrader.desk.reports import Holds, Stock
-from nulvrader.dispatch.dispatcher import Dispatcher, Settings
-from nulvrader.dispatch.routes import Ways
-from nulvrader.dispatch.snapshot import Seen, Snapshot
 from nulvrader.dispatch.judge import Judge
+from nulvrader.dispatch.routes import Ways
+from nulvrader.dispatch.shared import Settings
+from nulvrader.dispatch.snapshot import Seen, Snapshot
 
 from .clock import Clock
 from .floors import Floor
+from .sketched import Acts, Car, Figures, OverASketch, Sketched, Trip
 from .truth import Wrong
 
-Acts = tuple[tuple[str, str], ...]
-
+# After so many seconds in which nothing has moved, though something can by the plan, it is wrong.
 FOLLOWS = 60.0
+
+
 """Where nothing has moved for so many seconds, though something can by the plan, it is wrong."""
 
 
-@dataclass
-class Trip:
-    """An open order: its way, its acts by the index of their node, the last index that is released
-    and the one that the vehicle has reached, as the desk has it."""
-
-    name: str
-    way: tuple[str, ...]
-    acts: Mapping[int, Acts]
-    base: int
-    jobs: frozenset[str]
-    sent: int = 0
-    confirmed: int | None = None
-    at: int = 0
-    bases: list[int] = field(default_factory=list)  # by update
-
-
-@dataclass
-class Car:
-    """A vehicle: what the desk has of it, and what it does. `known` is the last index that it may
-    drive to, `place` the one where it is, and `done` how many acts there are behind it."""
-
-    key: VehicleKey
-    capacity: int
-    node: str
-    loads: list[str] = field(default_factory=list)
-    trip: Trip | None = None
-    header: int = 1
-    paused: bool = False
-    known: int = 0
-    place: int = 0
-    done: int = 0
-    busy: bool = False
-    waits: float | None = None  # since when it has nothing to do, with an order
-
-    @property
-    def name(self) -> str:
-        return str(self.key)
-
-
-@dataclass
-class Figures:
-    """What a run has shown. Times are in seconds of the plant, but those of turns."""
-
-    done: int = 0
-    seconds: float = 0.0
-    ordered: float = 0.0
-    waited: float = 0.0
-    longest: float = 0.0
-    oldest: float = 0.0  # how long a job was open at most
-    still: float = 0.0  # how long no vehicle moved at most, with jobs
-    metres: float = 0.0
-    turns: list[float] = field(default_factory=list)
-    counts: Counter[str] = field(default_factory=Counter)
-
-    def per_hour(self) -> float:
-        return self.done * 3600 / self.seconds
-
-    def line(self) -> str:
-        turns = sorted(self.turns) or [0.0]
-        return (
-            f'{self.per_hour():.0f} jobs/h, waiting {100 * self.waited / (self.ordered or 1):.0f} %'
-            f' (longest {self.longest:.0f} s), a job open {self.oldest:.0f} s, still'
-            f' {self.still:.0f} s, {self.metres / max(1, self.done):.0f} m a job, turn'
-            f' {1000 * sum(turns) / len(turns):.0f} ms (99th'
-            f' {1000 * turns[int(0.99 * (len(turns) - 1))]:.0f}, most {1000 * turns[-1]:.0f})'
-        )
-
-
-class OverASketch(Dispatcher):
-    """A dispatcher over a sketch."""
-
-    def _look(self) -> Snapshot:
-        assert isinstance(self.desk, Sketch)
-        return self.desk.snapshot()
-
-
-class Sketch(Desk):
+class Sketch(Sketched):
     """A desk over a floor, and all that goes on there. After each turn the dispatcher's plan is
     checked."""
 
@@ -163,7 +88,7 @@ class Sketch(Desk):
     # The desk.
 
     @contextlib.contextmanager
-    def kept(self, count: int | None = None) -> Iterator[Desk]:
+    def kept(self, count: int | None = None) -> Iterator[Self]:
         yield self
 
     def snapshot(self) -> Snapshot:

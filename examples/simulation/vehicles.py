@@ -52,6 +52,7 @@ class Vehicle:
         self.in_service = False
         self.by_hand = False
         self.stopped = False  # whether its emergency stop is pressed
+        self.faults: list[dict[str, Any]] = []  # errors that it has besides
         self.left = nature.battery * chance.uniform(0.3, 1.0)  # metres
         self.turn = 0  # what was to happen before the last call of `stop` does not happen
         self.driven = 0.0
@@ -296,9 +297,13 @@ class Vehicle:
         self.tell()
         self.go_on()
 
+    def mode(self) -> str:
+        """Its operating mode."""
+        return 'SERVICE' if self.in_service else 'MANUAL' if self.by_hand else 'AUTOMATIC'
+
     def errors(self) -> list[dict[str, Any]]:
         """What is wrong with it, as its states say it."""
-        found = []
+        found = list(self.faults)
         if self.in_service:
             text = f'battery empty at {self.node}, it has to be changed'
             found.append(_error('batteryEmpty', 'FATAL', text, 'nodeId', self.node))
@@ -373,7 +378,7 @@ class Vehicle:
                 'batteryCharge': max(0, int(100 * self.left / self.nature.battery)),
                 'charging': False,
             },
-            'operatingMode': 'SERVICE' if self.in_service or self.by_hand else 'AUTOMATIC',
+            'operatingMode': self.mode(),
             'errors': self.errors(),
             'safetyState': {'eStop': 'MANUAL' if self.stopped else 'NONE', 'fieldViolation': False},
         }

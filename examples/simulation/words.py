@@ -9,16 +9,18 @@ from collections import Counter
 from collections.abc import Callable
 
 from nulvrader.desk.client import Desk
-from nulvrader.dispatch.dispatcher import Dispatcher, Settings
+from nulvrader.dispatch.dispatcher import Dispatcher
+from nulvrader.dispatch.shared import Settings
 from nulvrader.dispatch.judge import Judge
 from nulvrader.common.layouts import Layout
 
 from .day import Day
 from .desks import Served
 from .floors import FLOORS
+from .grounds import Dispatching
 from .others import FirstCome, NoLook
 from .plan import Plan
-from .plant import Dispatching, Plant
+from .plant import Plant
 
 DISPATCHERS = {
     'look': 'that of tools/dispatch',
@@ -84,5 +86,5 @@ def told(day: Day) -> list[str]:
     lines += [f'stopped: {count} because {why}' for why, count in sorted(reasons.items())]
     lines += [f'vehicles were shut in {len(day.shut)} times', *day.longest_shut_in()[:5]]
     lines += [f'the dispatcher: {line}' for line in day.cancels]
-    lines += ['%s: %d' % one for one in sorted(day.counts.items())]
+    lines += [f'{name}: {count}' for name, count in sorted(day.counts.items())]
     return lines if day.stands is None else [*lines, f'it stands: {day.stands}']

@@ -1,7 +1,7 @@
-"""The exports of the layout and of the jobs: a layout that is exported and given to a new desk
-gives the same answers, and the export of jobs lists the live ones alone, whatever the file has
-besides, and reads no more of it for the others. The other tests have all four exports among their
-calls."""
+"""Shows that a layout which is exported and given to a new desk gives the same answers, and
+that the export of jobs lists the live ones alone and reads no more of the file for the others.
+
+The other tests have all four exports among their calls."""
 import contextlib
 import os
 import random
@@ -14,7 +14,8 @@ from tests.support import calls
 from tests.support.answers import answers_of
 from tests.support.desks import AT, Serving, over_sockets, run
 from tests.support.records import FOLDER, rows_of
-from tests.support.scripts import LAYOUT, SCRIPTS, bytes_of
+from tests.support.script_calls import LAYOUT, bytes_of
+from tests.support.scripts import SCRIPTS
 from tests.support.streets import Streets, streets_for
 
 from nulvrader.common.layouts import read_layout
@@ -52,7 +53,9 @@ class Layouts(unittest.TestCase):
         what another one exports has the same rows in its file and exports the same bytes."""
         head, *rows = LAYOUT.splitlines()
         random.Random(3).shuffle(rows)
-        mixed = '\r\n'.join([head, *rows[1:], '"%s"' % rows[0].replace(',', '","')])
+        mixed = '\r\n'.join(
+            [head, *rows[1:], ','.join(f'"{field}"' for field in rows[0].split(','))]
+        )
         given = {
             'sorted': LAYOUT,
             'mixed': mixed,
@@ -118,18 +121,17 @@ def filled(db: str, ended: Any) -> Any:
     )
     step = max(1, ended // LIVE)
     live = [
-        ('J%07d.1' % (number * step), 'L%04d' % number, 'A', 'B', 'waiting')
-        for number in range(LIVE)
+        (f'J{number * step:07d}.1', f'L{number:04d}', 'A', 'B', 'waiting') for number in range(LIVE)
     ]
     phases = 'done', 'stopped'
     with contextlib.closing(sqlite3.connect(db)) as base, base:
-        loads = [('L%04d' % number, 'station', 'A') for number in range(LIVE)]
+        loads = [(f'L{number:04d}', 'station', 'A') for number in range(LIVE)]
         base.executemany(
             'INSERT INTO load (id, kind, station) VALUES (?, ?, ?)',
             [*loads, ('M', 'checking', None)],
         )
         base.executemany('INSERT INTO job VALUES (?, ?, ?, ?, ?)', live)
-        gone = (('J%07d' % number, 'M', 'A', 'B', phases[number % 2]) for number in range(ended))
+        gone = ((f'J{number:07d}', 'M', 'A', 'B', phases[number % 2]) for number in range(ended))
         base.executemany('INSERT INTO job VALUES (?, ?, ?, ?, ?)', gone)
     return live
 
@@ -143,7 +145,7 @@ def told_of(rows: Any, riding: Any = None) -> bytes:
 
 def bytes_read(desk: Any) -> int:
     """How many bytes a process has read so far, from files and from sockets."""
-    with open('/proc/%d/io' % desk.process.pid) as file:
+    with open(f'/proc/{desk.process.pid}/io') as file:
         return int(dict(line.split(': ') for line in file)['rchar'])
 
 

@@ -1,7 +1,8 @@
-"""The reports and exports of as many stations as a layout may have, each full of loads: 500
-stations and 100,000 loads, of which each 501st is at the checking place, and each other one has a
-job that waits, to the next station. Another SQLite writes the loads and jobs; the bytes that the
-program writes are those that loops write out here."""
+"""Shows that the reports and exports of 500 full stations and 100,000 loads are, to the byte,
+those that loops write out here.
+
+Another SQLite writes the loads and jobs. Each 501st load is at the checking place, and each
+other one has a job that waits, to the next station."""
 import collections
 import os
 import sqlite3
@@ -22,7 +23,7 @@ VEHICLES = (
     b'restEdge,restNode\n'
 )
 LAYOUT = 'kind,id,from,to\nnode,N1,,\n' + ''.join(
-    'station,S%03d,N1,999\n' % at for at in range(STATIONS)
+    f'station,S{at:03d},N1,999\n' for at in range(STATIONS)
 )
 
 
@@ -36,28 +37,21 @@ def jobs() -> Iterator[Any]:
     """The row of each job, by name."""
     for number in range(LOADS):
         if place_of(number):
-            yield 'J%06d' % number, 'L%06d' % number, place_of(number), 'S%03d' % (
-                (number % (STATIONS + 1) + 1) % STATIONS
-            ), 'waiting'
+            target = f'S{(number % (STATIONS + 1) + 1) % STATIONS:03d}'
+            yield f'J{number:06d}', f'L{number:06d}', place_of(number), target, 'waiting'
 
 
 def stock() -> bytes:
     here: dict[Any, Any] = {}
     coming = collections.Counter(target for _, _, _, target, _ in jobs())
     for number in range(LOADS):
-        here.setdefault(place_of(number), []).append('  L%06d\n' % number)
-    heads: list[tuple[str | None, str]] = [
-        (
-            'S%03d' % at,
-            'station S%03d at N1: %%d of 999, reserved %d\n' % (at, coming['S%03d' % at]),
-        )
-        for at in range(STATIONS)
-    ]
-    heads.append((None, 'checking: %d\n'))
-    return (
-        ''.join(head % len(here[place]) + ''.join(here[place]) for place, head in heads)
-        + 'left: 0\n'
-    ).encode()
+        here.setdefault(place_of(number), []).append(f'  L{number:06d}\n')
+    lines: list[str] = []
+    for station in [f'S{at:03d}' for at in range(STATIONS)]:
+        loads, reserved = here[station], coming[station]
+        lines += [f'station {station} at N1: {len(loads)} of 999, reserved {reserved}\n', *loads]
+    lines += [f'checking: {len(here[None])}\n', *here[None], 'left: 0\n']
+    return ''.join(lines).encode()
 
 
 def export() -> bytes:
@@ -92,7 +86,7 @@ class LargeReports(unittest.TestCase):
                 'INSERT INTO load VALUES (?, ?, ?, NULL, NULL)',
                 (
                     (
-                        'L%06d' % number,
+                        f'L{number:06d}',
                         'station' if place_of(number) else 'checking',
                         place_of(number),
                     )

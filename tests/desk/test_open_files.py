@@ -1,6 +1,6 @@
-"""What the program has open while it runs, by the tables of the system: `serve` listens at
-127.0.0.1 alone, and has no other socket than those of its port; `replay` has none. And the logs of
-files that were made one after the other have different salts."""
+"""Shows by the tables of the system that `serve` listens at 127.0.0.1 alone and has no other
+socket than those of its port, that `replay` has none, and that the logs of two new files have
+different salts."""
 import contextlib
 import os
 import re

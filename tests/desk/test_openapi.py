@@ -13,7 +13,7 @@ from typing import Any
 from tests.support.programs import matched
 from tests.support.openapi import Asked, DOCUMENT, body_of, operations, requests_before, text_of
 from tests.support.desks import AT, Serving, over_sockets, run, without_moments
-from tests.support.scripts import answers_of
+from tests.support.script_calls import answers_of
 
 # A checker that others have written: Debian's python3-jsonschema, where it is installed.
 jsonschema: Any = None
@@ -133,6 +133,12 @@ WRONG: tuple[tuple[Any, Any], ...] = (
 )
 
 
+def first_line(method: str, path: str) -> str:
+    """Returns the first line of a request whose names are all X1."""
+    target = re.sub(r'\{\w+\}', 'X1', path)
+    return f'{method} {target} HTTP/1.1\r\n'
+
+
 class Document(unittest.TestCase):
     def test_the_paths_are_those_of_the_table(self) -> None:
         described = {(method, path) for method, path, _, _ in operations()}
@@ -232,7 +238,7 @@ class Document(unittest.TestCase):
             if body:
                 self.assertEqual(set(body[2]), set(examples), title)
             for name, said in examples.items():
-                self.assertRegex(said['path'], '^%s$' % re.sub(r'\{\w+\}', '[^/]+', path))
+                self.assertRegex(said['path'], re.sub(r'\{\w+\}', '[^/]+', f'^{path}$'))
                 if body and body[0] == 'application/json':
                     found = faults(body[2][name]['value'], body[1])
                     self.assertEqual(bool(found), name in UNFIT, (title, name, found))
@@ -344,20 +350,18 @@ class Raw(unittest.TestCase):
             body = body_of(operation)
             if not body:
                 continue
-            head = '%s %s HTTP/1.1\r\nContent-Length: %%d\r\n\r\n' % (
-                method,
-                re.sub(r'\{\w+\}', 'X1', path),
-            )
+            line = first_line(method, path)
             for text, name in (
                 (('nonsense', 'BadCsv'),)
                 if body[0] == 'text/csv'
                 else (('{', 'BadJson'), ('{"x":0.5}', 'Fraction'), ('[]', 'BadBody'))
             ):
-                self.check(operation, (head % len(text) + text).encode(), name)
+                head = f'Content-Length: {len(text)}\r\n\r\n'
+                self.check(operation, (line + head + text).encode(), name)
 
     def test_heads_that_are_refused(self) -> None:
         for method, path, operation, _ in operations():
-            line = '%s %s HTTP/1.1\r\n' % (method, re.sub(r'\{\w+\}', 'X1', path))
+            line = first_line(method, path)
             self.check(operation, (line + 'Content-Length: x\r\n\r\n').encode(), 'BadHead')
             self.check(operation, (line + 'Transfer-Encoding: chunked\r\n\r\n').encode(), 'Coding')
             self.check(operation, (line + 'Content-Length: 65537\r\n\r\n').encode(), 'TooLarge')

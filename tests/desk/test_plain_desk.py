@@ -1,7 +1,9 @@
-"""The program beside `bench/plain_desk.py`, which is the model of the rules in `tests/model` over
-another SQLite: both answer the same bytes to the scripts, to the examples of docs/openapi.json, to
-random lawful traffic as `bench/soak` makes it, and to loads and jobs at small stations. And the
-streams by which `bench/each_call` times the two have each call of the table."""
+"""Shows that the program answers the same bytes as `bench/plain_desk.py`, which is the model of
+the rules in `tests/model` over another SQLite, and that the streams by which `bench/each_call`
+times the two have each call of the table.
+
+Both answer the scripts, the examples of docs/openapi.json, random lawful traffic as
+`bench/soak` makes it, and loads and jobs at small stations."""
 import os
 import random
 import re
@@ -20,7 +22,8 @@ from tests.support.programs import ROOT, module
 from tests.support.streets import Streets
 from tests.support.openapi import SETUPS, body_of, operations, requests_before
 from tests.support.desks import AT, requests_of, run
-from tests.support.scripts import SCRIPTS, answers_of, bytes_of
+from tests.support.script_calls import answers_of, bytes_of
+from tests.support.scripts import SCRIPTS
 from tests.support.traffic import Traffic
 
 PLAIN = os.path.join(ROOT, 'bench', 'plain_desk.py')

@@ -9,7 +9,8 @@ from typing import Any
 from tests.support.programs import ROOT
 from tests.support.records import broken, rows_of
 from tests.support.desks import AT, Serving, over_sockets, requests_of, run
-from tests.support.scripts import CUT, SCRIPTS, answers_of, bytes_of
+from tests.support.script_calls import CUT, answers_of, bytes_of
+from tests.support.scripts import SCRIPTS
 
 
 class Scripts(unittest.TestCase):

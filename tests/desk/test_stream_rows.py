@@ -1,9 +1,9 @@
-"""Streams of a few requests, to the byte, as docs/HTTP.md has them answered, in pieces: however few
-bytes a read gives or a write takes, the same is answered. So are the scripts of
-crates/agv_tests_support. What ends a stream is answered at once, and what comes behind it isn't
-looked at; a request that may still become whole is waited for. Standard input fails behind each
-byte of two streams, and standard output behind bytes of their answers: what had come whole is
-answered, and what was answered stands. Each answer is written before the next request is read."""
+"""Shows that streams are answered to the byte as docs/HTTP.md has it, however few bytes a read
+gives or a write takes, and wherever standard input or standard output fails.
+
+What ends a stream is answered at once, and what comes behind it is not looked at; a request
+that may still become whole is waited for. Each answer is written before the next request is
+read."""
 import collections
 import errno
 import os
@@ -13,13 +13,14 @@ import unittest
 from typing import Any
 
 from tests.support import script_texts
-from tests.support import tracing
+from tests.support import system_calls, tracing
 from tests.support.calls import request
-from tests.support.faults import ALL, Script, remove
+from tests.support.fault_files import ALL, remove
+from tests.support.faults import Script
 from tests.support.programs import PATIENCE
 from tests.support.answers import REASONS
 from tests.support.desks import DESK, run
-from tests.support.scripts import CUT
+from tests.support.script_calls import CUT
 from tests.support.fault_test import LACKS, FaultTest
 
 # The most bytes that a read of standard input gives, and that a write of standard output takes.
@@ -207,7 +208,11 @@ class StreamRows(FaultTest):
             if call.file != STANDARD[call.name]:
                 return None
             counts[call.name] += 1
-            return told if (call.name, counts[call.name]) == at else tracing.Short(sizes[call.name])
+            return (
+                told
+                if (call.name, counts[call.name]) == at
+                else system_calls.Short(sizes[call.name])
+            )
 
         return tracing.run(words or self.words, list(STANDARD), on_call, stdin), counts
 
@@ -260,7 +265,7 @@ class StreamRows(FaultTest):
         for reads, stdin, answers, fails in BEGINNINGS:
             with self.subTest(stdin=stdin, reads=reads):
                 ended, counts = self.serve(
-                    stdin, (4096, 4096), at=('read', reads + 1), told=tracing.Fails(errno.EIO)
+                    stdin, (4096, 4096), at=('read', reads + 1), told=system_calls.Fails(errno.EIO)
                 )
                 self.assertEqual(
                     (ended.status, ended.out, ended.said),
@@ -292,7 +297,7 @@ class StreamRows(FaultTest):
                     self.cut(
                         stdin,
                         ('read', n + 1),
-                        tracing.Fails(errno.EIO),
+                        system_calls.Fails(errno.EIO),
                         b''.join(answers[:whole]),
                         b'fault: Read\n',
                         whole > 0,
@@ -304,7 +309,7 @@ class StreamRows(FaultTest):
         for script, answers in (FIRST, THREE):
             stdin, out = b''.join(script.requests), b''.join(answers)
             for n in range(0, len(out), 1 if ALL else 3):
-                for told in (tracing.Fails(errno.EPIPE), tracing.Gives(0)):
+                for told in (system_calls.Fails(errno.EPIPE), system_calls.Gives(0)):
                     with self.subTest(stdin=stdin, n=n, told=vars(told)):
                         self.cut(stdin, ('write', n + 1), told, out[:n], b'fault: Write\n', True)
 

@@ -1,14 +1,15 @@
-"""Databases whose tables were typed by others: where they have the columns and the rules of a
-desk's, in whatever form, the desk serves over them and tells them rightly, and a file of the first
-schema is migrated; where they have another rule it is `fault: Damaged`, and the file stays as it
-is. `tools/why` says the same of each."""
+"""Shows that the desk serves over tables that others have typed where they have its columns and
+rules, in whatever form, and tells them rightly; where they have another rule it ends with
+`fault: Damaged`, and the file stays as it is.
+
+`tools/why` says the same of each, and a file of the first schema is migrated."""
 import unittest
 
 from tests.support.records import broken, rows_of
 from tests.support.first_schema import BEGUN, BEGUN_MOVED
 from tests.support.desks import AT, run
 from tests.support.calls import state
-from tests.support.scripts import FINISHED, accepted, answers_of, bytes_of, holds, ok, stands
+from tests.support.script_calls import FINISHED, accepted, answers_of, bytes_of, holds, ok, stands
 from tests.support.forms import FormsTest, typed
 from tests.support.why_files import told
 

@@ -1,6 +1,6 @@
-"""What others may have beside a desk's tables, where a desk makes its own beside those of others,
-and where it makes none, since a name is taken or referred to: then the program ends with `fault:
-Damaged`, the file stays as it is, and `tools/why` says so."""
+"""Shows what others may have beside the tables of a desk, and where a desk makes none of its
+own, since a name is taken or referred to: it ends with `fault: Damaged`, the file stays as it
+is, and `tools/why` says so."""
 import contextlib
 import sqlite3
 import tempfile

@@ -1,17 +1,23 @@
-"""What is only asked: messages, loads, vehicles, the reports and the export."""
+"""What is only asked: messages, loads, vehicles, the reports and the exports."""
+from __future__ import annotations
+
 import datetime
+import sqlite3
+from collections.abc import Iterable
+from typing import Any
 
 from tests.model.bodies import check
 from tests.model.orders import OF_VEHICLE
+from tests.model.tables import Key, Tables, Trip
 
 
-def stamp(moment):
+def stamp(moment: int) -> str:
     """A moment as messages have it, decimals cut off."""
     at = datetime.datetime.fromtimestamp(moment // 1000, datetime.timezone.utc)
     return at.strftime('%Y-%m-%dT%H:%M:%S.') + f'{moment % 1000 // 10:02d}Z'
 
 
-def message(key, header, moment, **more):
+def message(key: Key, header: int, moment: int, **more: Any) -> dict[str, Any]:
     return dict(
         more,
         headerId=header,
@@ -22,7 +28,7 @@ def message(key, header, moment, **more):
     )
 
 
-def actions_at(trip, k):
+def actions_at(trip: Trip, k: int) -> list[dict[str, Any]]:
     """The actions of a node of an order message."""
     return [
         {
@@ -41,7 +47,7 @@ def actions_at(trip, k):
     ]
 
 
-def get_order(desk, manufacturer, serial, _):
+def get_order(desk: Tables, manufacturer: str, serial: str, _: bytes) -> dict[str, Any] | None:
     """The last message of an open order: its nodes from `first` on."""
     key = manufacturer, serial
     vehicle, trip = desk.vehicle(key), desk.trip(key)
@@ -77,7 +83,7 @@ def get_order(desk, manufacturer, serial, _):
     return message(key, vehicle['order_header'], vehicle['order_at'], **order)
 
 
-def get_instant(desk, manufacturer, serial, _):
+def get_instant(desk: Tables, manufacturer: str, serial: str, _: bytes) -> dict[str, Any] | None:
     vehicle = desk.vehicle((manufacturer, serial))
     if vehicle['pending'] is None:
         return None
@@ -92,7 +98,7 @@ def get_instant(desk, manufacturer, serial, _):
     )
 
 
-def place_text(row):
+def place_text(row: sqlite3.Row) -> str:
     """Where a load is."""
     texts = {
         'station': f'station {row["station"]}',
@@ -101,15 +107,15 @@ def place_text(row):
     return texts.get(row['kind'], row['kind'])
 
 
-def get_load(desk, load, _):
+def get_load(desk: Tables, load: str, _: bytes) -> dict[str, Any]:
     row = desk.load(load)
     return {'job': desk.live_job(load), 'load': load, 'place': place_text(row)}
 
 
-def get_job(desk, job, _):
+def get_job(desk: Tables, job: str, _: bytes) -> dict[str, Any]:
     row = desk.one('SELECT * FROM job WHERE id = ?', job)
     check(row is None, 'NoJob')
-    rider = desk.one(
+    carrier = desk.one(
         "SELECT order_id, manufacturer, serial FROM act JOIN journey USING (order_id)"
         " WHERE job = ? AND kind = 'drop' AND status <> 'FINISHED'",
         job,
@@ -118,14 +124,14 @@ def get_job(desk, job, _):
         'from': row['origin'],
         'job': job,
         'load': row['load'],
-        'order': rider['order_id'] if rider else None,
+        'order': carrier['order_id'] if carrier else None,
         'phase': row['phase'],
         'to': row['target'],
-        'vehicle': f'{rider["manufacturer"]}/{rider["serial"]}' if rider else None,
+        'vehicle': f'{carrier["manufacturer"]}/{carrier["serial"]}' if carrier else None,
     }
 
 
-def get_vehicle(desk, manufacturer, serial, _):
+def get_vehicle(desk: Tables, manufacturer: str, serial: str, _: bytes) -> dict[str, Any]:
     key = manufacturer, serial
     row = desk.vehicle(key)
     trip = desk.one('SELECT order_id, sent, confirmed FROM journey' + OF_VEHICLE, *key)
@@ -146,8 +152,8 @@ def get_vehicle(desk, manufacturer, serial, _):
     }
 
 
-def stock_report(desk, _):
-    at = {}
+def stock_report(desk: Tables, _: bytes) -> str:
+    at: dict[str, list[str]] = {}
     for row in desk.base.execute('SELECT * FROM load ORDER BY id'):
         at.setdefault(place_text(row), []).append(row['id'])
     out = []
@@ -160,30 +166,37 @@ def stock_report(desk, _):
     vehicles = desk.base.execute(
         'SELECT manufacturer, serial FROM vehicle ORDER BY manufacturer, serial'
     )
-    for place in ['checking', *['vehicle %s/%s' % tuple(row) for row in vehicles]]:
+    for place in [
+        'checking',
+        *[f'vehicle {row["manufacturer"]}/{row["serial"]}' for row in vehicles],
+    ]:
         loads = at.get(place, [])
         out += [f'{place}: {len(loads)}'] + ['  ' + load for load in loads]
     return '\n'.join(out + [f'left: {len(at.get("left", []))}\n'])
 
 
-def hold_report(desk, _):
+def hold_report(desk: Tables, _: bytes) -> str:
     rows = desk.base.execute(
         'SELECT kind, id, manufacturer, serial FROM hold ORDER BY kind DESC, id'
     )
-    lines = ['%s %s %s/%s\n' % tuple(row) for row in rows]
+    lines = [
+        f'{kind} {name} {manufacturer}/{serial}\n' for kind, name, manufacturer, serial in rows
+    ]
     return (
         ''.join(lines) + f'held {len(lines)} of {len(desk.layout.nodes) + len(desk.layout.edges)}\n'
     )
 
 
-def export_loads(desk, _):
+def export_loads(desk: Tables, _: bytes) -> str:
     rows = desk.base.execute('SELECT * FROM load ORDER BY id')
-    return 'load,place,at\n' + ''.join(
-        '%s,%s,%s\n' % (row['id'], *(place_text(row).split(' ') + [''])[:2]) for row in rows
-    )
+    lines = ['load,place,at']
+    for row in rows:
+        kind, *at = place_text(row).split(' ')
+        lines.append(f'{row["id"]},{kind},{" ".join(at)}')
+    return '\n'.join([*lines, ''])
 
 
-def csv_text(header, rows):
+def csv_text(header: str, rows: Iterable[Iterable[object]]) -> str:
     """Returns a CSV file; None is an empty field, and a truth value a word."""
     words = {None: '', False: 'false', True: 'true'}
     shown = [
@@ -193,8 +206,8 @@ def csv_text(header, rows):
     return ''.join(','.join(row) + '\n' for row in [header.split(','), *shown])
 
 
-def export_jobs(desk, _):
-    riders = {
+def export_jobs(desk: Tables, _: bytes) -> str:
+    carriers = {
         act['job']: (act['manufacturer'], act['serial'], act['order_id'])
         for act in desk.base.execute(
             'SELECT job, manufacturer, serial, order_id FROM act JOIN journey USING (order_id)'
@@ -203,11 +216,11 @@ def export_jobs(desk, _):
     rows = desk.base.execute("SELECT * FROM job WHERE phase IN ('waiting', 'riding') ORDER BY id")
     return csv_text(
         'job,load,from,to,phase,manufacturer,serialNumber,order',
-        [(*row, *riders.get(row['id'], ('', '', ''))) for row in rows],
+        [(*row, *carriers.get(row['id'], ('', '', ''))) for row in rows],
     )
 
 
-def export_vehicles(desk, _):
+def export_vehicles(desk: Tables, _: bytes) -> str:
     rows = []
     for row in desk.base.execute('SELECT * FROM vehicle ORDER BY manufacturer, serial'):
         key = row['manufacturer'], row['serial']
@@ -228,7 +241,7 @@ def export_vehicles(desk, _):
     )
 
 
-def export_layout(desk, _):
+def export_layout(desk: Tables, _: bytes) -> str:
     nodes = [
         ('node', row['id'], '', '') for row in desk.base.execute('SELECT * FROM node ORDER BY id')
     ]

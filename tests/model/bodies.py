@@ -1,9 +1,16 @@
 """What the body of a request says, or by which refusal it is answered."""
+from __future__ import annotations
+
 import csv
 import datetime
 import io
 import json
 import re
+from typing import Any, NoReturn
+
+# What a call tells, and a stop of an order: a kind and a job.
+Told = dict[str, Any]
+Stop = tuple[str, str]
 
 NAME = re.compile('[A-Za-z0-9_.:-]{1,32}')
 FINAL, ACTIVE = ('FINISHED', 'FAILED'), ('INITIALIZING', 'RUNNING', 'PAUSED')
@@ -13,37 +20,37 @@ STATUSES = ('WAITING', *ACTIVE, *FINAL)
 class Refused(Exception):
     """A refusal by its name, with what it says besides."""
 
-    def __init__(self, name, **more):
+    def __init__(self, name: str, **more: Any) -> None:
         super().__init__(name)
         self.name, self.more = name, more
 
 
-def check(fails, name, **more):
+def check(fails: object, name: str, **more: Any) -> None:
     """Refuses what fails."""
     if fails:
         raise Refused(name, **more)
 
 
-def is_name(value):
+def is_name(value: object) -> bool:
     return isinstance(value, str) and NAME.fullmatch(value) is not None
 
 
-def whole(text):
+def whole(text: str) -> int:
     number = int(text)
     check(not -(2**63) <= number < 2**64 or text == '-0', 'Fraction')
     return number
 
 
-def fraction(text):
+def fraction(text: str) -> NoReturn:
     check(float(text) in (float('inf'), float('-inf')), 'BadJson')
     raise Refused('Fraction')
 
 
-def no_json(_):
+def no_json(_: str) -> NoReturn:
     raise Refused('BadJson')
 
 
-def depth_of(told):
+def depth_of(told: object) -> int:
     """How many arrays and objects stand in one another."""
     deepest, left = 0, [(told, 1)]
     while left:
@@ -56,7 +63,7 @@ def depth_of(told):
     return deepest
 
 
-def read_body(body):
+def read_body(body: bytes) -> Any:
     """The value of a body that is JSON."""
     try:
         told = json.loads(
@@ -68,7 +75,7 @@ def read_body(body):
     return told
 
 
-def names(told, *wanted):
+def names(told: Any, *wanted: str) -> list[str]:
     """The members of an object that are names."""
     check(not isinstance(told, dict), 'BadBody')
     found = [told.get(name) for name in wanted]
@@ -76,24 +83,24 @@ def names(told, *wanted):
     return found
 
 
-def name_or_none(told, wanted):
+def name_or_none(told: Any, wanted: str) -> str | None:
     return names(told, wanted)[0] if told.get(wanted) is not None else None
 
 
-def number(told, wanted):
-    value = told.get(wanted)
+def number(told: Any, wanted: str) -> int:
+    value: int = told.get(wanted)
     check(type(value) is not int or not 0 <= value <= 4294967295, 'BadBody')
     return value
 
 
-def texts(told, *wanted):
+def texts(told: Any, *wanted: str) -> None:
     check(
         not isinstance(told, dict) or not all(isinstance(told.get(name), str) for name in wanted),
         'BadBody',
     )
 
 
-def table(body, header):
+def table(body: bytes, header: list[str]) -> list[list[str]]:
     """The rows of a CSV file with this header."""
     try:
         rows = [
@@ -107,7 +114,7 @@ def table(body, header):
     return rows[1:]
 
 
-def stops_of(told):
+def stops_of(told: Any) -> list[Stop]:
     """The stops of an order, each a kind and a job; one job stands for its pick and its drop."""
     stops = told.get('stops')
     check((stops is None) == (told.get('job') is None), 'BadBody')
@@ -123,9 +130,9 @@ def stops_of(told):
     return said
 
 
-def read_state(body):
+def read_state(body: bytes) -> dict[str, Any]:
     """A state message, as docs/PROFILE.md has it."""
-    told = read_body(body)
+    told: dict[str, Any] = read_body(body)
     check(not isinstance(told, dict), 'BadBody')
     nodes, edges = told.get('nodeStates'), told.get('edgeStates')
     for values, member in ((nodes, 'nodePosition'), (edges, 'trajectory')):
@@ -145,7 +152,8 @@ def read_state(body):
         'operatingMode',
     )
     acts, errors = told.get('actionStates'), told.get('errors')
-    check(not all(isinstance(values, list) for values in (nodes, acts, errors)), 'BadBody')
+    if not (isinstance(nodes, list) and isinstance(acts, list) and isinstance(errors, list)):
+        raise Refused('BadBody')
     for node in nodes:
         check(not isinstance(node, dict), 'BadBody')
         number(node, 'sequenceId')
@@ -161,7 +169,7 @@ def read_state(body):
     return told
 
 
-def is_moment(text):
+def is_moment(text: str) -> bool:
     """Whether it is a moment from 1970 to 2099."""
     try:
         moment = datetime.datetime.fromisoformat(text.replace('Z', '+00:00'))

@@ -1,11 +1,16 @@
 """The layout is set once."""
+from __future__ import annotations
+
 import re
 
-from tests.model.bodies import NAME, check, table
-from tests.model.tables import Layout
+from tests.model.bodies import NAME, Told, check, table
+from tests.model.tables import Layout, Tables
+
+# The rows of a layout without their first field, by that field.
+Kinds = dict[str, list[list[str]]]
 
 
-def set_layout(desk, body):
+def set_layout(desk: Tables, body: bytes) -> Told:
     rows = table(body, ['kind', 'id', 'from', 'to'])
     check(not all(map(is_row, rows)), 'BadCsv')
     check(desk.layout.nodes, 'LayoutSet')
@@ -27,7 +32,7 @@ def set_layout(desk, body):
     return {}
 
 
-def is_row(row):
+def is_row(row: list[str]) -> bool:
     """Whether it is a row of a layout by its form."""
     kind, name, start, finish = row
     if not NAME.fullmatch(name):
@@ -39,7 +44,7 @@ def is_row(row):
     return bool(kind == 'station' and NAME.fullmatch(start) and re.fullmatch('[0-9]{1,3}', finish))
 
 
-def is_sound(kinds):
+def is_sound(kinds: Kinds) -> bool:
     """Whether there is a node, no name twice, and each edge and station names nodes."""
     nodes = {name for name, _, _ in kinds['node']}
     return (

@@ -1,10 +1,13 @@
 """The calls about loads, jobs and stocktakes."""
-from tests.model.bodies import NAME, check, name_or_none, names, read_body, table
+from __future__ import annotations
+
+from tests.model.bodies import NAME, Told, check, name_or_none, names, read_body, table
+from tests.model.tables import Tables
 
 REFERENCES = "used WHERE kind = 'ref'"
 
 
-def register_load(desk, body):
+def register_load(desk: Tables, body: bytes) -> Told:
     told = read_body(body)
     (load,) = names(told, 'load')
     station = name_or_none(told, 'station')
@@ -22,7 +25,7 @@ def register_load(desk, body):
     return {}
 
 
-def correct_load(desk, load, body):
+def correct_load(desk: Tables, load: str, body: bytes) -> Told:
     told = read_body(body)
     (ref,) = names(told, 'ref')
     station = name_or_none(told, 'station')
@@ -39,7 +42,7 @@ def correct_load(desk, load, body):
     return {}
 
 
-def leave_load(desk, load, body):
+def leave_load(desk: Tables, load: str, body: bytes) -> Told:
     (ref,) = names(read_body(body), 'ref')
     check(desk.is_used('ref', ref), 'RefUsed')
     row = desk.load(load)
@@ -51,7 +54,7 @@ def leave_load(desk, load, body):
     return {}
 
 
-def add_job(desk, body):
+def add_job(desk: Tables, body: bytes) -> Told:
     job, load, to = names(read_body(body), 'job', 'load', 'to')
     check(desk.one('SELECT 1 FROM job WHERE id = ?', job), 'Exists')
     row = desk.load(load)
@@ -65,7 +68,7 @@ def add_job(desk, body):
     return {}
 
 
-def stop_job(desk, job, _):
+def stop_job(desk: Tables, job: str, _: bytes) -> Told:
     row = desk.one('SELECT phase FROM job WHERE id = ?', job)
     check(row is None, 'NoJob')
     check(row['phase'] != 'waiting', 'JobState')
@@ -73,7 +76,7 @@ def stop_job(desk, job, _):
     return {}
 
 
-def take_stock(desk, ref, body):
+def take_stock(desk: Tables, ref: str, body: bytes) -> Told:
     rows = table(body, ['station', 'load'])
     check(
         not all(

@@ -1,16 +1,21 @@
 """The calls about vehicles and their orders, but for the states that they post."""
-from tests.model.bodies import check, names, number, read_body, stops_of
+from __future__ import annotations
+
+import sqlite3
+from collections.abc import Callable
+
+from tests.model.bodies import Stop, Told, check, names, number, read_body, stops_of
 from tests.model.loads import REFERENCES
-from tests.model.tables import LAST, VEHICLES, things
+from tests.model.tables import LAST, VEHICLES, Key, Tables, things
 
 OF_VEHICLE = ' WHERE manufacturer = ? AND serial = ?'
 SENT = 'UPDATE vehicle SET order_header = order_header + 1, order_at = ?' + OF_VEHICLE
 
 
-def register_vehicle(desk, body):
+def register_vehicle(desk: Tables, body: bytes) -> Told:
     told = read_body(body)
-    *key, node = names(told, 'manufacturer', 'serialNumber', 'node')
-    key = tuple(key)
+    manufacturer, serial, node = names(told, 'manufacturer', 'serialNumber', 'node')
+    key = manufacturer, serial
     capacity = number(told, 'capacity') if told.get('capacity') is not None else 1
     check(desk.one('SELECT 1 FROM vehicle' + OF_VEHICLE, *key), 'Exists')
     check(node not in desk.layout.nodes, 'NoNode')
@@ -27,7 +32,9 @@ def register_vehicle(desk, body):
     return {}
 
 
-def plan(desk, at, stops, jobs):
+def plan(
+    desk: Tables, at: str, stops: list[Stop], jobs: dict[str, sqlite3.Row]
+) -> tuple[list[str], list[int]]:
     """The edges from stop to stop, and the place of each stop on the way."""
     way, places = [], []
     for kind, job in stops:
@@ -38,10 +45,10 @@ def plan(desk, at, stops, jobs):
     return way, places
 
 
-def start_order(desk, body):
+def start_order(desk: Tables, body: bytes) -> Told:
     told = read_body(body)
-    order, *key = names(told, 'order', 'manufacturer', 'serialNumber')
-    key, edges = tuple(key), number(told, 'edges')
+    order, manufacturer, serial = names(told, 'order', 'manufacturer', 'serialNumber')
+    key, edges = (manufacturer, serial), number(told, 'edges')
     stops = stops_of(told)
     check(desk.is_used('order', order), 'Exists')
     vehicle = desk.vehicle(key)
@@ -61,10 +68,10 @@ def start_order(desk, body):
     return {'orderUpdateId': 0}
 
 
-def start_drive(desk, body):
+def start_drive(desk: Tables, body: bytes) -> Told:
     told = read_body(body)
-    order, *key, to = names(told, 'order', 'manufacturer', 'serialNumber', 'to')
-    key, edges = tuple(key), number(told, 'edges')
+    order, manufacturer, serial, to = names(told, 'order', 'manufacturer', 'serialNumber', 'to')
+    key, edges = (manufacturer, serial), number(told, 'edges')
     check(desk.is_used('order', order), 'Exists')
     vehicle = desk.vehicle(key)
     check(to not in desk.layout.nodes, 'NoNode')
@@ -79,7 +86,9 @@ def start_drive(desk, body):
     return {'orderUpdateId': 0}
 
 
-def send(desk, key, vehicle, order, way, edges):
+def send(
+    desk: Tables, key: Key, vehicle: sqlite3.Row, order: str, way: list[str], edges: int
+) -> None:
     """Sends an order over this way to a vehicle, with so many of its edges released."""
     check(len(way) > 200, 'TooLong')
     check(edges > len(way), 'Beyond')
@@ -102,7 +111,7 @@ def send(desk, key, vehicle, order, way, edges):
     desk.hold(key, wanted)
 
 
-def jobs_of(desk, stops):
+def jobs_of(desk: Tables, stops: list[Stop]) -> dict[str, sqlite3.Row]:
     """The jobs of an order, each picked once and, later, dropped once."""
     kinds = {job: [kind for kind, of in stops if of == job] for _, job in stops}
     check(not stops or any(said != ['pick', 'drop'] for said in kinds.values()), 'BadStops')
@@ -111,12 +120,13 @@ def jobs_of(desk, stops):
     return jobs
 
 
-def advance(desk, manufacturer, serial, body):
+def advance(desk: Tables, manufacturer: str, serial: str, body: bytes) -> Told:
     told, key = read_body(body), (manufacturer, serial)
     (order,) = names(told, 'order')
     update, edges = number(told, 'orderUpdateId'), number(told, 'edges')
     vehicle, trip = desk.vehicle(key), desk.trip(key)
     check(trip is None or trip.row['order_id'] != order, 'NoOrder')
+    assert trip is not None
     row = trip.row
     check(update != row['sent'] + 1, 'WrongUpdate', sent=row['sent'])
     check(row['confirmed'] != row['sent'], 'NotConfirmed')
@@ -136,10 +146,10 @@ def advance(desk, manufacturer, serial, body):
     return {'orderUpdateId': update}
 
 
-def instant(kind):
+def instant(kind: str) -> Callable[[Tables, str, str, bytes], Told]:
     """The call that sends this instant action."""
 
-    def told(desk, manufacturer, serial, _):
+    def told(desk: Tables, manufacturer: str, serial: str, _: bytes) -> Told:
         key = manufacturer, serial
         vehicle = desk.vehicle(key)
         check(kind == 'cancelOrder' and not desk.has_trip(key), 'NoOrder')
@@ -154,7 +164,7 @@ def instant(kind):
     return told
 
 
-def place_vehicle(desk, manufacturer, serial, body):
+def place_vehicle(desk: Tables, manufacturer: str, serial: str, body: bytes) -> Told:
     ref, node = names(read_body(body), 'ref', 'node')
     key = manufacturer, serial
     check(desk.is_used('ref', ref), 'RefUsed')
@@ -176,7 +186,7 @@ def place_vehicle(desk, manufacturer, serial, body):
     return {}
 
 
-def resync(desk, manufacturer, serial, _):
+def resync(desk: Tables, manufacturer: str, serial: str, _: bytes) -> Told:
     desk.vehicle((manufacturer, serial))
     desk.put('UPDATE vehicle SET last_header = NULL' + OF_VEHICLE, manufacturer, serial)
     return {}

@@ -1,13 +1,16 @@
 """The states that vehicles post: each is judged against the open order, and then it moves loads,
 frees track and may end the order."""
+from __future__ import annotations
+
 import collections
+from typing import Any
 
-from tests.model.bodies import ACTIVE, FINAL, check, is_name, read_state
+from tests.model.bodies import ACTIVE, FINAL, Told, check, is_name, read_state
 from tests.model.orders import OF_VEHICLE
-from tests.model.tables import things
+from tests.model.tables import Key, Tables, Trip, things
 
 
-def state(desk, manufacturer, serial, body):
+def state(desk: Tables, manufacturer: str, serial: str, body: bytes) -> Told:
     told, key = read_state(body), (manufacturer, serial)
     check((told['manufacturer'], told['serialNumber']) != key, 'WrongVehicle')
     vehicle = desk.vehicle(key)
@@ -40,7 +43,7 @@ def state(desk, manufacturer, serial, body):
     return {'accepted': True}
 
 
-def is_ready(told):
+def is_ready(told: Any) -> bool:
     """Whether a state says that the vehicle is under the desk's control and can drive."""
     return (
         told['operatingMode'] in ('AUTOMATIC', 'SEMIAUTOMATIC')
@@ -49,7 +52,9 @@ def is_ready(told):
     )
 
 
-def judged(trip, action, told, listed):
+def judged(
+    trip: Trip, action: str | None, told: Any, listed: list[tuple[str, str]]
+) -> tuple[int, list[str]]:
     """The node that a state of the trip reports, and the statuses of its actions by it."""
     row, update = trip.row, told['orderUpdateId']
     check(update > row['sent'], 'UpdateNotSent')
@@ -62,7 +67,9 @@ def judged(trip, action, told, listed):
     check(k > (row['base'] if update == row['sent'] else row['first']), 'BeyondBase')
     wanted = [trip.action(act) for act in trip.acts]
     counts = collections.Counter(name for name, _ in listed)
-    check(any(counts[name] > 1 for name in wanted + [action]), 'ActionTwice')
+    check(
+        any(count > 1 for name, count in counts.items() if name in [*wanted, action]), 'ActionTwice'
+    )
     before = [act['status'] for act in trip.acts]
     found = dict(listed)
     acts = [found.get(name, old) for name, old in zip(wanted, before)]
@@ -88,7 +95,9 @@ def judged(trip, action, told, listed):
     return k, acts
 
 
-def report(desk, key, trip, k, acts, cancelled, update):
+def report(
+    desk: Tables, key: Key, trip: Trip, k: int, acts: list[str], cancelled: bool, update: int
+) -> None:
     """What a judged state changes besides the vehicle's own report."""
     row = trip.row
     for act, new in zip(trip.acts, acts):

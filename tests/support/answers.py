@@ -4,22 +4,11 @@ import os
 import re
 from typing import Any
 
+from tests.model import desk
 from tests.support.programs import ROOT, matched
 
 LONG = os.environ.get('NULVRADER_LONG') == '1'
-REASONS = {
-    200: 'OK',
-    204: 'No Content',
-    400: 'Bad Request',
-    404: 'Not Found',
-    405: 'Method Not Allowed',
-    409: 'Conflict',
-    411: 'Length Required',
-    413: 'Payload Too Large',
-    422: 'Unprocessable Entity',
-    501: 'Not Implemented',
-    503: 'Service Unavailable',
-}
+REASONS = {**desk.REASONS, 503: 'Service Unavailable'}
 
 with open(os.path.join(ROOT, 'docs', 'HTTP.md')) as page:
     REFUSALS = {

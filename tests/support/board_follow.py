@@ -48,6 +48,12 @@ class Followed(unittest.TestCase):
         self.header = 1
         self.assertEqual(self.entries(), [])
 
+    def start_again(self) -> None:
+        """The board is started again on the same record."""
+        at, self.news = self.news.at, News(Shown(), self.record)
+        self.news.at = at
+        self.stores, self.fleet = Stores(self.news), Fleet(self.news, 10_000)
+
     def look(self, later: int = 1000, **places: str) -> None:
         """The board looks so many milliseconds later: vehicles, then jobs, then the stock."""
         self.news.at += later

@@ -12,22 +12,18 @@ import subprocess
 import sys
 import tempfile
 import unittest
+from collections.abc import Sequence
 from typing import Any
 
 from tests.support.programs import PATIENCE, ROOT, TOOLS, free_port, until
+from tests.support.siding import siding
 
 from nulvrader.desk.client import Desk, Refused
 from nulvrader.common.names import VehicleKey
 
 PROGRAM = os.path.abspath(os.environ.get('DESK', os.path.join(ROOT, 'build', 'desk')))
 ONE, TWO = VehicleKey('KIT', '0001'), VehicleKey('KIT', '0002')
-# Three nodes in a row, a siding N4 at N2, and stations at the ends.
-LAYOUT = 'kind,id,from,to\n%s%sstation,A,N1,3\nstation,B,N3,2\nstation,C,N4,1\n' % (
-    ''.join(f'node,N{n},,\n' for n in (1, 2, 3, 4)),
-    ''.join(
-        'edge,E%s%s,N%s,N%s\n' % (*ends, *ends) for ends in ('12', '21', '23', '32', '24', '42')
-    ),
-)
+LAYOUT = siding(3, 2, 1)
 # Where files lie in memory, if there is such a folder: a sync costs nothing there.
 FOLDER = '/dev/shm' if os.access('/dev/shm', os.W_OK | os.X_OK) else None
 
@@ -167,7 +163,7 @@ class Board(Process):
         self.db = plant.path('board.db')
         # who asks, as a proxy names only those who may give commands
         self.who = {'X-User': 'nina'} if '--user-header' in words else {}
-        line = [sys.executable, os.path.join(TOOLS, 'board'), '--desk', '127.0.0.1:%d' % plant.port]
+        line = [sys.executable, os.path.join(TOOLS, 'board'), '--desk', f'127.0.0.1:{plant.port}']
         line += ['--db', self.db, '--port', str(self.port), *words]
         super().__init__(line)
         self.run, self.version = '', 0
@@ -324,7 +320,7 @@ class Watching(unittest.TestCase):
         """Waits until a line of what happened is this."""
         until(lambda: self.board.said(words), words)
 
-    def rows(self, question: str, wanted: list[tuple[Any, ...]]) -> None:
+    def rows(self, question: str, wanted: Sequence[tuple[Any, ...]]) -> None:
         """Waits until board.db answers so."""
         last: list[tuple[Any, ...]] = []
 

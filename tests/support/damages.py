@@ -5,7 +5,7 @@ from typing import Any
 
 from tests.support.calls import state
 from tests.support.faults import lines
-from tests.support.scripts import accepted, drive, job, load, ok, order, vehicle
+from tests.support.script_calls import accepted, drive, job, load, ok, order, vehicle
 
 PAGE = 512  # bytes of a page of a new file
 NODES = range(1, 9)
@@ -15,7 +15,7 @@ LAYOUT = (
     + ''.join(
         f'edge,E{n}{n + 1},N{n},N{n + 1}\nedge,E{n + 1}{n},N{n + 1},N{n}\n' for n in NODES[:-1]
     )
-    + ''.join('station,%s,N%d,2\n' % one for one in (('A', 1), ('B', 3), ('C', 5), ('D', 8)))
+    + ''.join(f'station,{name},N{n},2\n' for name, n in (('A', 1), ('B', 3), ('C', 5), ('D', 8)))
 )
 FINISHED = 'FINISHED'
 

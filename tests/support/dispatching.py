@@ -9,7 +9,9 @@ from tests.support.programs import PATIENCE, TOOLS
 from tests.support.desks import Serving
 
 from nulvrader.desk.client import Desk
-from nulvrader.dispatch.dispatcher import Dispatcher, Settings
+from nulvrader.dispatch.dispatcher import Dispatcher
+from nulvrader.dispatch.instructions import Instructions
+from nulvrader.dispatch.shared import Settings
 from nulvrader.dispatch.snapshot import take
 from nulvrader.common.layouts import read_layout
 from nulvrader.common.names import VehicleKey
@@ -126,9 +128,19 @@ class OverADesk(unittest.TestCase):
             read_layout(LAYOUT),
             Settings(ahead=2),
             parking=self.places,
+            instructions=self.instructions,
             say=self.lines.append,
             clock=lambda: self.now,
+            wall=self.wall,
         )
+
+    def instructions(self) -> Instructions:
+        """What people say to the dispatcher."""
+        return Instructions()
+
+    def wall(self) -> float:
+        """What time it is, in seconds since 1970."""
+        return self.now
 
     def turn(self, seconds: float = 1.0) -> Any:
         """A turn, and what it has said."""
@@ -140,7 +152,7 @@ class OverADesk(unittest.TestCase):
     def go_on(self, key: Any, acts: int = 2) -> None:
         """Lets a vehicle drive to the end of what is released to it and do there what is to be
         done, where its order has so many acts in all."""
-        message = self.desk.order_message(key)
+        message: Any = self.desk.order_message(key)
         if message is None:
             self.told(key, self.desk.vehicle(key).node)
             return

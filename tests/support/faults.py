@@ -1,33 +1,32 @@
-"""Scripts of requests with the answers and the rows after each, and what must hold of a file once
-the program that served a script on it has met a fault: what was answered is kept, the call that met
-it has been carried out or not at all, and the rest of the script goes on from there to the same
-rows. Besides, files that are moved to the second schema, and what must hold of one once a fault was
-met amid its move.
+"""Scripts of requests with the answers and the rows after each, and what must hold of a file
+once the program that served a script on it has met a fault: what was answered is kept, the call
+that met it has been carried out or not at all, and the rest of the script goes on from there to
+the same rows. Besides, files that are moved to the second schema, and what must hold of one once
+a fault was met amid its move.
 
 By default a sample of all faults is tried; all of them where the variable FAULTS is `all`, or every
 n-th from the k-th on (counted from 0) where FAULTS_PART is besides `k/n`."""
 from __future__ import annotations
 
 import functools
-import hashlib
 import os
 import re
 import socket
 import sqlite3
 import tempfile
 import unittest
-from collections.abc import Iterable, Sequence
+from collections.abc import Sequence
 from typing import Any
 
 from tests.support import first_schema
-from tests.support.records import FOLDER, copied, rows_of
-from tests.support.desks import AT, DESK, read_all, run
-from tests.support.tracing import Process
 from tests.support.calls import REPORTS, state
-from tests.support.scripts import (
+from tests.support.desks import AT, DESK, read_all, run
+from tests.support.fault_files import digest_of, files_of, put, tables_of
+from tests.support.programs import ROOT
+from tests.support.records import FOLDER, rows_of
+from tests.support.script_calls import (
     AT_A,
     CUT,
-    SCRIPTS,
     Case,
     accepted,
     answers_of,
@@ -39,12 +38,9 @@ from tests.support.scripts import (
     refused,
     stands,
 )
+from tests.support.scripts import SCRIPTS
+from tests.support.tracing import Process
 
-from nulvrader.file.tables import columns
-from tests.support.programs import ROOT
-
-ALL = os.environ.get('FAULTS') == 'all'
-PART, PARTS = map(int, os.environ.get('FAULTS_PART', '0/1').split('/'))
 CLOSES = (
     b'HTTP/1.1 503 Service Unavailable\r\nContent-Length: %d\r\nContent-Type:'
     b' application/json\r\nConnection: close\r\n\r\n%s'
@@ -91,7 +87,6 @@ COUNTED = AT_A + [
     ok('POST /stocktakes/R5', 'station,load\nB,\nC,L1\nC,L4\n', ''),
     *[(call.line, None, 200, '') for call in REPORTS],
 ]
-
 
 # So many registrations that a few calls later the log is full, and what it has goes to the
 # database.
@@ -344,73 +339,3 @@ def asks(port: Any, request: bytes) -> bytes:
         except OSError:
             # the other end has closed it, with bytes that it hasn't read
             return b''
-
-
-def without_clock(rows: dict[str, Any]) -> dict[str, Any]:
-    """The rows with no moments of messages, which are the clock's."""
-    places = {columns('vehicle').index(name) for name in ('order_at', 'instant_at')}
-    return {
-        **rows,
-        'vehicle': [
-            tuple(value > 0 if at in places else value for at, value in enumerate(row))
-            for row in rows['vehicle']
-        ],
-    }
-
-
-def files_of(db: str) -> dict[str, bytes]:
-    """The bytes of the file, and of the log beside it, as far as they are there."""
-    found = {}
-    for end in ('', '-wal'):
-        if os.path.exists(db + end):
-            with open(db + end, 'rb') as file:
-                found[end] = file.read()
-    return found
-
-
-def digest_of(db: str) -> tuple[tuple[str, bytes], ...]:
-    return tuple((end, hashlib.sha1(data).digest()) for end, data in files_of(db).items())
-
-
-def tables_of(db: str) -> dict[str, list[Any]]:
-    """The rows of each table of a file that is sound, whatever tables it has, as another SQLite
-    reads them; the file is left as it is."""
-    with tempfile.TemporaryDirectory(dir=os.path.dirname(db)) as folder:
-        base = sqlite3.connect(copied(db, folder))
-        try:
-            if base.execute('PRAGMA integrity_check').fetchall() != [('ok',)]:
-                raise AssertionError(base.execute('PRAGMA integrity_check').fetchall())
-            names = [
-                name
-                for name, in base.execute("SELECT name FROM sqlite_master WHERE type = 'table'")
-            ]
-            return {
-                name: sorted(base.execute(f'SELECT * FROM {name} NOT INDEXED'), key=repr)
-                for name in names
-            }
-        finally:
-            base.close()
-
-
-def remove(db: str) -> None:
-    for end in ('', '-wal', '-shm', '-journal'):
-        if os.path.exists(db + end):
-            os.remove(db + end)
-
-
-def put(db: str, files: dict[str, bytes]) -> None:
-    """These files are there, and no others of this database."""
-    remove(db)
-    for end, data in files.items():
-        with open(db + end, 'wb') as file:
-            file.write(data)
-
-
-def sample(numbers: Iterable[int], most: int) -> list[int]:
-    """All of these, or so many spread over them."""
-    numbers = list(numbers)
-    if ALL:
-        return numbers[PART::PARTS]
-    if len(numbers) <= most:
-        return numbers
-    return [numbers[at * (len(numbers) - 1) // (most - 1)] for at in range(most)]

@@ -57,6 +57,7 @@ class InstalledNginx:
             ('/etc/nginx', self.path('conf')),
             ('/var/log/nulvrader', self.path('record')),
             ('/var/log/nginx', self.path('log')),
+            ('/var/lib/nginx/desk', self.path('kept')),
             ('/run/nginx.pid', self.path('pid')),
             ('syslog:server=unix:/dev/log,tag=desk_nginx', self.path('journal')),
             ('syslog:server=unix:/dev/log,tag=nginx', self.path('main')),

@@ -22,7 +22,7 @@ from nulvrader.desk import client
 from tests.support.programs import PATIENCE, free_port, until
 from tests.support.states import KIT1
 from tests.support.desks import Serving, over_sockets
-from tests.support.scripts import LAYOUT
+from tests.support.script_calls import LAYOUT
 
 CONNACK, PUBLISH, SUBACK = 0x20, 0x30, 0x90
 RETAIN = 1

@@ -109,6 +109,7 @@ class Proxy:
     def _here(self, text: str) -> str:
         """A file of `examples/nginx` with the folder of this test for those of the machine."""
         text = text.replace('/etc/nginx/desk/', self.path(''))
+        text = text.replace('/var/lib/nginx/desk', self.path('kept'))
         text = text.replace(
             'proxy_read_timeout 60s;', 'proxy_read_timeout 600s;'
         )  # a test may be slow

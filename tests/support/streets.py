@@ -1,7 +1,6 @@
 """Layouts for random traffic, on which many vehicles can drive without standing in one another's
 way."""
 import collections
-from typing import Any
 
 
 class Streets:
@@ -13,9 +12,9 @@ class Streets:
 
     def __init__(self, width: int, height: int) -> None:
         self.streets = [f'N{y:02d}-{x:02d}' for y in range(height) for x in range(width)]
-        self.bays: list[Any] = []
-        self.edges: dict[Any, Any] = {}
-        self.stations: dict[Any, Any] = {}
+        self.bays: list[str] = []
+        self.edges: dict[str, tuple[str, str]] = {}
+        self.stations: dict[str, tuple[str, int]] = {}
         for y in range(height):
             for x in range(width):
                 east, south = f'N{y:02d}-{x + 1:02d}', f'N{y + 1:02d}-{x:02d}'
@@ -28,11 +27,12 @@ class Streets:
                 if y + 1 < height and (x % 2 == 0 or x == width - 1):
                     self.join(*((here, south) if x % 4 == 2 or x == width - 1 else (south, here)))
         self.nodes = self.streets + self.bays
-        self.out, self.into = collections.defaultdict(list), collections.defaultdict(list)
+        self.out: dict[str, list[tuple[str, str]]] = collections.defaultdict(list)
+        self.into: dict[str, list[str]] = collections.defaultdict(list)
         for name, (start, finish) in sorted(self.edges.items()):
             self.out[start].append((name, finish))
             self.into[finish].append(start)
-        self.known: dict[Any, Any] = {}
+        self.known: dict[str, dict[str, int]] = {}
 
     def join(self, start: str, finish: str) -> None:
         self.edges[f'{start}.{finish}'] = start, finish
@@ -47,15 +47,11 @@ class Streets:
     def rows(self) -> str:
         """The file that sets it as the layout."""
         lines = ['kind,id,from,to', *[f'node,{node},,' for node in self.nodes]]
-        lines += ['edge,%s,%s,%s' % (name, *ends) for name, ends in self.edges.items()]
-        return (
-            '\n'.join(
-                lines + ['station,%s,%s,%d' % (name, *said) for name, said in self.stations.items()]
-            )
-            + '\n'
-        )
+        lines += [f'edge,{name},{start},{end}' for name, (start, end) in self.edges.items()]
+        lines += [f'station,{name},{node},{room}' for name, (node, room) in self.stations.items()]
+        return '\n'.join([*lines, ''])
 
-    def hops_to(self, target: str) -> Any:
+    def hops_to(self, target: str) -> dict[str, int]:
         """How many edges each node is from the target."""
         if target not in self.known:
             found, row = {target: 0}, [target]
@@ -67,14 +63,14 @@ class Streets:
             self.known[target] = found
         return self.known[target]
 
-    def next_node(self, start: str, target: str) -> Any:
+    def next_node(self, start: str, target: str) -> str:
         """Where the first edge of the route ends: of those whose end is one hop nearer the one of
         least name."""
         hops = self.hops_to(target)
         return next(end for _, end in self.out[start] if hops.get(end, -1) == hops[start] - 1)
 
 
-def streets_for(vehicles: int) -> Any:
+def streets_for(vehicles: int) -> Streets:
     """Streets with room to drive: three nodes for each vehicle, and bays beside them."""
     width = height = 4
     while width * height < 3 * vehicles:

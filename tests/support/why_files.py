@@ -25,7 +25,7 @@ OTHER = 'nobody'
 
 
 def told(path: str, port: int | None = None, user: Any = ME) -> Any:
-    return reasons.look(path, port, user, 10**9)
+    return reasons.find_reasons(path, port, user, 10**9)
 
 
 class WhyTest(unittest.TestCase):

@@ -9,11 +9,12 @@ import unittest
 from typing import Any
 
 from tests.support import programs
-from nulvrader.common.counts import CountFile
+from nulvrader.board.stocktakes import line_of
+from nulvrader.common.counts import TEXTS, CountFile
 from tests.support.programs import ran, within
 from tests.support.desks import AT, Serving, over_sockets, run
 from tests.support.calls import state
-from tests.support.scripts import LAYOUT, bytes_of, job, load, ok, order, vehicle
+from tests.support.script_calls import LAYOUT, bytes_of, job, load, ok, order, vehicle
 
 check_count = programs.module('check-count')
 HEAD = 'station,load\n'
@@ -295,12 +296,16 @@ class OverRecords(unittest.TestCase):
         ):
             count = CountFile((HEAD + rows).encode())
             count.check(records)
-            self.assertEqual([fault.on_page() for fault in count.faults], [wanted])
+            self.assertEqual([line_of(fault).words() for fault in count.faults], [wanted])
+        seen: set[str] = set()
         for data in [*FAULTS, *((HEAD + rows).encode() for rows in OVER)]:
             count = CountFile(data)
             count.check(records)
             for fault in count.faults:
-                self.assertNotRegex(fault.on_page(), '`|tools/|: [A-Z][a-z]+[A-Z]\\w*:')
+                line = line_of(fault)
+                self.assertNotRegex(line.words(), '`|tools/|: [A-Z][a-z]+[A-Z]\\w*:')
+                seen |= {name for name, _ in line.values['says']}
+        self.assertEqual(seen, {f'count.{name}' for name in (*TEXTS, 'size')})
 
     def test_moves(self) -> None:
         """As many moves and unknown names as a desk tells."""

@@ -13,7 +13,7 @@ from nulvrader.common.layouts import LayoutFile
 from nulvrader.common.tables import Fault
 from tests.support.programs import ran
 from tests.support.desks import AT, run
-from tests.support.scripts import LAYOUT, answers_of
+from tests.support.script_calls import LAYOUT, answers_of
 
 FILES = int(os.environ.get('FILES', '300'))
 

@@ -1,24 +1,18 @@
-"""`tools/nulvrader`: the client over the program, by each of its calls; refusals and lost answers;
-what it reads of reports, layouts and messages; and the questions that need several calls."""
-import http.client
-import json
+"""Shows that the client makes each call of a desk, tells refusals and lost answers apart, and
+answers the questions that need several calls."""
+from __future__ import annotations
+
 import os
-import re
-import socket
 import tempfile
-import threading
-import time
 import unittest
-from unittest import mock
 from typing import Any
 
-from tests.support import programs
-from nulvrader.common import layouts, names
-from nulvrader.desk import client, exports, messages, questions, refusals, reports, wire
-from tests.support.programs import PATIENCE, matched
-from tests.support.states import KIT1, KIT2, told
+from nulvrader.common import layouts
+from nulvrader.desk import client, exports, messages, questions, reports
 from tests.support.desks import Serving, over_sockets
-from tests.support.scripts import LAYOUT
+from tests.support.programs import PATIENCE
+from tests.support.script_calls import LAYOUT
+from tests.support.states import KIT1, KIT2, told
 
 
 class WithADesk(unittest.TestCase):
@@ -61,7 +55,7 @@ class OverADesk(WithADesk):
         self.assertEqual(desk.layout(), layouts.read_layout(self.layout.encode()))
         self.assertIsNone(desk.order_message(KIT1))
         self.assertEqual(desk.start_order('O1', KIT1, job='J1', edges=1), 0)
-        message = desk.order_message(KIT1)
+        message: Any = desk.order_message(KIT1)
         assert message
         self.assertEqual([node['nodeId'] for node in message['nodes']], ['N1', 'N2', 'N3'])
         desk.post_state(KIT1, told(2, 'O1', statuses=[('O1.0', 'FINISHED')]))
@@ -77,7 +71,7 @@ class OverADesk(WithADesk):
         self.assertEqual(desk.load('L1'), client.Load('L1', 'station B', None))
         self.assertIsNone(desk.instant_actions(KIT1))
         self.assertEqual(desk.pause(KIT1), 'instant-1')
-        actions = desk.instant_actions(KIT1)
+        actions: Any = desk.instant_actions(KIT1)
         assert actions
         self.assertEqual(actions['actions'][0]['actionType'], 'startPause')
         desk.post_state(
@@ -120,7 +114,7 @@ class OverADesk(WithADesk):
         desk.post_state(KIT1, told(2, 'O1', statuses=over))
         self.assertEqual(desk.job('J1'), client.JobPhase('J1', 'L1', 'A', 'B', 'stopped'))
         self.assertEqual(desk.start_drive('G1', KIT1, 'N3', 1), 0)
-        message = desk.order_message(KIT1)
+        message: Any = desk.order_message(KIT1)
         assert message is not None
         drive = messages.read_order(message)
         self.assertEqual((drive.is_drive(), drive.acts(), drive.base_end()), (True, [], 'N2'))
@@ -280,237 +274,8 @@ class NoLayout(unittest.TestCase):
         with tempfile.TemporaryDirectory() as folder, Serving(
             os.path.join(folder, 'new.db')
         ) as serving:
-            desk = client.Desk('127.0.0.1:%d' % serving.port, timeout=PATIENCE)
+            desk = client.Desk(f'127.0.0.1:{serving.port}', timeout=PATIENCE)
             self.assertEqual((desk.layout(), desk.vehicles(), desk.jobs()), (None, {}, {}))
-
-
-class NoPhase(unittest.TestCase):
-    """What no desk answers to the question for a job."""
-
-    RIDES = {
-        'from': 'A', 'job': 'J1', 'load': 'L1', 'order': 'O1', 'phase': 'riding', 'to': 'B',
-        'vehicle': 'KIT/0001',
-    }  # fmt: skip
-
-    def job(self, **members: object) -> client.JobPhase:
-        answer = client.Answer(200, json.dumps({**self.RIDES, **members}).encode())
-        with mock.patch.object(client.Desk, 'ask', lambda *_: answer):
-            return client.Desk('127.0.0.1:1').job('J1')
-
-    def test_answers(self) -> None:
-        self.assertEqual(self.job(), client.JobPhase('J1', 'L1', 'A', 'B', 'riding', KIT1, 'O1'))
-        for member, values in (
-            ('job', ('J2', None, 1)),
-            ('load', (None, 'L 1')),
-            ('from', (None, '')),
-            ('to', (3, ['B'])),
-            ('phase', ('over', 'Riding', None, ['riding'], {})),
-            ('order', ('', 1, {})),
-            ('vehicle', ('KIT', 'KIT/', '/0001', 'KIT/0001/1', 1, ['KIT/0001'])),
-        ):
-            for value in values:
-                with self.subTest(f'{member} {value!r}'), self.assertRaises(client.NotADesk):
-                    self.job(**{member: value})
-        for phase in ('riding', 'waiting', 'done', 'stopped'):
-            for order, vehicle in ((None, None), ('O1', None), (None, 'KIT/0001'), ('O1', 'K/1')):
-                rides = order is not None and vehicle is not None
-                if rides == (phase == 'riding') and (order is None) == (vehicle is None):
-                    continue
-                with self.subTest(f'{phase} {order} {vehicle}'):
-                    with self.assertRaises(client.NotADesk):
-                        self.job(phase=phase, order=order, vehicle=vehicle)
-
-
-class NoDesk(unittest.TestCase):
-    """What answers is no desk, or answers too late, or is cut."""
-
-    def answered(self, data: Any, by_head: bool = False, **named: Any) -> Any:
-        """What the client says where a server sends these bytes and closes the connection; with
-        none, it waits for the client to close it. The request is read to its end, since a
-        connection that is closed with bytes unread is reset; or to the end of its head."""
-        listener = socket.create_server(('127.0.0.1', 0))
-        self.addCleanup(listener.close)
-
-        def serve() -> None:
-            connection, _ = listener.accept()
-            with connection, connection.makefile('rb') as request:
-                length = 0
-                for line in iter(request.readline, b'\r\n'):
-                    name, _, value = line.partition(b':')
-                    if name.lower() == b'content-length':
-                        length = int(value)
-                if not by_head:
-                    request.read(length)
-                if data is None:
-                    request.read(1)
-                else:
-                    connection.sendall(data)
-
-        thread = threading.Thread(target=serve)
-        thread.start()
-        settings: dict[str, Any] = {'timeout': PATIENCE, **named}
-        desk = client.Desk(f'127.0.0.1:{listener.getsockname()[1]}', **settings)
-        try:
-            desk.register_load('L1')
-        except (client.NoAnswer, client.Refused) as fault:
-            return fault
-        finally:
-            thread.join()
-
-    def test_bytes(self) -> None:
-        for data, words, may_be_done in (
-            (b'', 'closed before the answer arrived', True),
-            (b'SSH-2.0\r\n', 'no desk: it answers SSH-2.0', True),
-            (
-                b'HTTP/1.1 200 OK\r\nContent-Length: 30\r\n\r\n{',
-                'closed before the answer arrived',
-                True,
-            ),
-            (b'HTTP/1.1 200 OK\r\nContent-Length: 2\r\n\r\nok', 'no desk', True),
-            (
-                b'HTTP/1.1 404 Not Found\r\nContent-Length: 2\r\n\r\nno',
-                'no desk: status 404, no',
-                False,
-            ),
-            (b'HTTP/1.1 502 Bad Gateway\r\nContent-Length: 0\r\n\r\n', 'no desk: status 502', True),
-        ):
-            with self.subTest(data):
-                fault = self.answered(data)
-                self.assertIsInstance(fault, client.NoAnswer)
-                self.assertIn(words, str(fault))
-                self.assertEqual(fault.may_be_done, may_be_done)
-
-    def test_silence(self) -> None:
-        self.assertIn('no whole answer came within 2 seconds', str(self.answered(None, timeout=2)))
-
-    def test_an_answer_while_the_body_is_sent(self) -> None:
-        """It is told, though the connection is closed before all is sent."""
-        send, sent = http.client.HTTPConnection.send, []
-
-        def cut(connection: Any, data: Any) -> None:
-            sent.append(data)
-            if len(sent) > 1:
-                raise BrokenPipeError
-            send(connection, data)
-
-        body = b'{"name":"TooLarge","refusal":3}'
-        answer = (
-            b'HTTP/1.1 413 Content Too Large\r\nContent-Length: %d\r\nConnection: close\r\n\r\n%s'
-            % (len(body), body)
-        )
-        with mock.patch.object(http.client.HTTPConnection, 'send', cut):
-            fault = self.answered(answer, by_head=True)
-        self.assertEqual((len(sent), fault.name, fault.status), (2, 'TooLarge', 413))
-
-    def test_a_proxy_refuses(self) -> None:
-        fault = self.answered(b'HTTP/1.1 401 Unauthorized\r\nContent-Length: 0\r\n\r\n')
-        self.assertEqual((fault.name, fault.number, fault.status), ('Unauthorized', 0, 401))
-
-    def test_addresses(self) -> None:
-        for text in (
-            'ftp://desk',
-            'desk:port',
-            '',
-            'http://',
-            '127.0.0.1:70000',
-            'localhost',
-            'unix:',
-            'http://u:p@desk',
-            'desk:1/?a',
-        ):
-            with self.assertRaises(ValueError, msg=text):
-                client.Desk(text)
-        for text, wanted in (
-            ('http://desk', ('desk', 80, None, '', 'desk')),
-            ('https://desk/front/', ('desk', 443, None, '/front', 'desk')),
-            ('127.0.0.1:8080', ('127.0.0.1', 8080, None, '', '127.0.0.1:8080')),
-            ('[::1]:8080', ('::1', 8080, None, '', '[::1]:8080')),
-            ('unix:/run/desk.sock', ('localhost', 0, '/run/desk.sock', '', 'localhost')),
-        ):
-            at = wire.Place.parse(text)
-            self.assertEqual((at.host, at.port, at.path, at.front, at.header()), wanted)
-
-    def test_all_requests_of_a_block(self) -> None:
-        """They have its time together, and each its own again behind it."""
-        desk = client.Desk('127.0.0.1:1', timeout=PATIENCE)
-        with desk.within(0.001):
-            time.sleep(0.01)
-            with self.assertRaisesRegex(client.NoAnswer, 'within 0.001 seconds'):
-                desk.load('L1')
-        with self.assertRaisesRegex(client.NoAnswer, 'no program listens there'):
-            desk.load('L1')
-
-
-class Readers(unittest.TestCase):
-    def test_ways(self) -> None:
-        """Of two ways of the same length that of the least name at the first node where they
-        part."""
-        rows = 'kind,id,from,to\n' + ''.join(f'node,{node},,\n' for node in 'ABCDE')
-        rows += 'edge,x,A,B\nedge,a,A,C\nedge,y,B,D\nedge,z,C,D\nedge,b,C,D\n'
-        layout = layouts.read_layout(rows.encode())
-        self.assertEqual((layout.route('A', 'D'), layout.hops('A', 'D')), (['a', 'b'], 2))
-        self.assertEqual(
-            (layout.route('D', 'A'), layout.hops('D', 'A'), layout.hops('A', 'N9')),
-            (None, None, None),
-        )
-        self.assertEqual((layout.route('E', 'E'), layout.hops('E', 'E')), ([], 0))
-        with self.assertRaises(layouts.BadLayout) as caught:
-            layouts.read_layout(b'kind,id,from,to\nnode,N1,,\nedge,E,N1,N2\n')
-        self.assertEqual(
-            str(caught.exception), 'line 3: LayoutBad: edge E leads to N2, which is no node'
-        )
-
-    def test_the_file_of_a_layout(self) -> None:
-        self.assertEqual(layouts.read_layout(LAYOUT.encode()).csv().decode(), LAYOUT)
-
-    def test_a_bad_report(self) -> None:
-        for read, text in (
-            (reports.read_stock, b'station A: 1\n'),
-            (reports.read_holds, b'zone N1 KIT/0001\n'),
-            (exports.read_loads, b'load,at\n'),
-            (exports.read_jobs, b'job,load\n'),
-            (exports.read_vehicles, b'manufacturer\n'),
-            (exports.read_layout, b''),
-        ):
-            with self.assertRaises(reports.BadReport):
-                read(text)
-
-    def test_names(self) -> None:
-        self.assertEqual(str(names.VehicleKey.parse('KIT/0001')), 'KIT/0001')
-        for text in ('KIT', 'KIT/', '/1', 'KIT/0001/2', 'K T/1', 'K/' + 33 * 'x'):
-            with self.assertRaises(names.BadName, msg=text):
-                names.VehicleKey.parse(text)
-        made = {names.new_reference() for _ in range(50)}
-        self.assertEqual((len(made), all(map(names.is_name, made))), (50, True))
-
-
-class Refusals(unittest.TestCase):
-    def test_they_are_those_of_the_page(self) -> None:
-        """Numbers, names, statuses and sentences are those of the table of docs/HTTP.md."""
-        with open(os.path.join(programs.ROOT, 'docs', 'HTTP.md')) as file:
-            text = file.read()
-        rows = [
-            line.strip('| ').split(' | ') for line in text.splitlines() if line.startswith('| ')
-        ]
-        table = [row for row in rows if len(row) == 4 and row[0].isdigit()]
-        self.assertEqual(
-            table, [[str(one.number), one.name, str(one.status), one.says] for one in refusals.ALL]
-        )
-        self.assertGreater(len(table), 50)
-
-    def test_what_to_do(self) -> None:
-        """docs/OPERATE.md has of each refusal what to do, in the same words; those of one item have
-        the same."""
-        with open(os.path.join(programs.ROOT, 'docs', 'OPERATE.md')) as file:
-            page = matched(r'^## Refusals.*?^### ', file.read(), re.S | re.M)[0]
-        found = {}
-        for item in re.findall(
-            r'^- (\*\*\w+\*\* \(.*?)(?=^$|^- )', re.sub('\n  ', ' ', page), re.S | re.M
-        ):
-            names, _, advice = item.partition(': ')
-            for name, number in re.findall(r'\*\*(\w+)\*\* \((\d+)\)', names):
-                found[name] = int(number), advice.strip()
-        self.assertEqual(found, {one.name: (one.number, one.advice) for one in refusals.ALL})
 
 
 if __name__ == '__main__':

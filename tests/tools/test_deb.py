@@ -74,6 +74,10 @@ def why_not() -> str:
 
 @unittest.skipIf(why_not(), why_not())
 class Package(unittest.TestCase):
+    here: str
+    deb: str
+    machine: subprocess.Popen[bytes]
+
     @classmethod
     def setUpClass(cls) -> None:
         folder = tempfile.TemporaryDirectory()

@@ -1,18 +1,17 @@
-"""What the script `desk` does with its words where the program is there, and the script `check`: in
-a small tree, over a stand-in for `rt`."""
+"""Shows what the script `desk` does where the program is there: in a small tree, over a stand-in
+for `rt`."""
+from __future__ import annotations
+
 import os
-import re
 import shutil
 import signal
 import sqlite3
 import subprocess
 import unittest
 
-import nulvrader
+from tests.support.desks import DESK
 from tests.support.desk_tree import PRINTED, REPLAY, Tree
-from tests.support.programs import ROOT
 
-PROGRAM = os.path.abspath(os.environ.get('DESK', os.path.join(ROOT, 'build', 'desk')))
 HELP: dict[str, list[str]] = {
     'alone': [],
     'desk': ['--help'],
@@ -56,11 +55,11 @@ class Built(Tree):
         self.assertEqual(self.run_desk(*REPLAY), (3, PRINTED, ''))
         self.assertEqual(self.run_desk('migrate', '--db', 'f')[0], 1)
 
-    @unittest.skipUnless(os.path.exists(PROGRAM), 'there is no program')
+    @unittest.skipUnless(os.path.exists(DESK), 'there is no program')
     def test_help_is_the_programs_own(self) -> None:
         for name, words in HELP.items():
             with self.subTest(words=words):
-                done = subprocess.run([PROGRAM, *words], capture_output=True, text=True)
+                done = subprocess.run([DESK, *words], capture_output=True, text=True)
                 self.assertEqual(
                     (done.returncode, done.stdout, done.stderr),
                     (2, '', self.read(f'docs/help/{name}.txt')),
@@ -122,11 +121,11 @@ class Built(Tree):
                 self.run_desk('migrate', '--db=' + name), (3, f'migrate|--db={name}|', '')
             )
 
-    @unittest.skipUnless(os.path.exists(PROGRAM), 'there is no program')
+    @unittest.skipUnless(os.path.exists(DESK), 'there is no program')
     def test_the_programs_own_files_are_a_desks(self) -> None:
         db = os.path.join(self.work, 'real.db')
         served = subprocess.run(
-            [PROGRAM, 'serve', '--db', db, '--port', '0', '--connections', '0'],
+            [DESK, 'serve', '--db', db, '--port', '0', '--connections', '0'],
             stdout=subprocess.DEVNULL,
         )
         self.assertEqual(served.returncode, 0)
@@ -169,7 +168,7 @@ class Built(Tree):
             os.remove(os.path.join(self.notes, 'runs'))
             self.assertEqual(
                 self.run_desk('serve', '--db', 'f', '--port=8', *words)[:2],
-                (0, 'serve --db f --port=8 %s\n' % ' '.join(words)),
+                (0, f'serve --db f --port=8 {" ".join(words)}\n'),
             )
 
     def test_after_a_fault_it_names_what_tells_why(self) -> None:
@@ -177,7 +176,7 @@ class Built(Tree):
         why = os.path.join(self.top, 'tools', 'why')
         self.assertEqual(self.run_desk('replay', '--db', 'f', '--at', '0'), (1, '', 'fault: Net\n'))
         self.write(why, '')
-        told = 'fault: Net\ndesk: to see what is wrong, run: %s --db f' % why
+        told = f'fault: Net\ndesk: to see what is wrong, run: {why} --db f'
         self.assertEqual(self.run_desk('replay', '--db', 'f', '--at', '0'), (1, '', told + '\n'))
         self.make_database(
             'f', 'CREATE TABLE hold (kind TEXT, id TEXT)', 'CREATE TABLE leg (order_id TEXT)'
@@ -190,7 +189,7 @@ class Built(Tree):
         self.assertEqual(self.run_desk('serve', '--db', 'f', '--port', '0'), (1, '', told + '\n'))
         self.assertEqual(self.run_desk(*REPLAY), (1, '', 'fault: Net\n'))
         for status in (0, 2, 7):
-            self.set_program('#!/bin/sh\nexit %d\n' % status)
+            self.set_program(f'#!/bin/sh\nexit {status}\n')
             self.assertEqual(self.run_desk('replay', '--db', 'f', '--at', '0'), (status, '', ''))
 
     def test_what_tells_why_may_be_run_as_it_is_told(self) -> None:
@@ -262,149 +261,6 @@ class Built(Tree):
         self.write('tools/why', '')
         self.set_program('#!/bin/sh\nkill -9 "$$"\n')
         self.assertEqual(self.run_desk('replay', '--db', 'f', '--at', '0')[0], 128 + signal.SIGKILL)
-
-
-# What the program refuses, and what it takes.
-WRONG = [
-    ['replay', '--db', 'memory'],
-    ['replay', '--at', '5'],
-    ['replay', '--db', 'memory', '--at', 'x'],
-    ['replay', '--db', 'memory', '--at', ''],
-    ['replay', '--db', 'memory', '--at='],
-    ['replay', '--db', 'memory', '--at=-5'],
-    ['replay', '--db', 'memory', '--at', '-5'],
-    ['replay', '--db', 'memory', '--at', '++5'],
-    ['replay', '--db', 'memory', '--at', '5 '],
-    ['replay', '--db', 'memory', '--at', '4102444800000'],
-    ['replay', '--db', '--at', '5'],
-    ['replay', '--db', '--foo', '5'],
-    ['replay', '--db', 'memory', '--at', '5', 'foo'],
-    ['replay', '--db', 'memory', '--at', '5', '-x'],
-    ['replay', '--db', 'memory', '--at', '5', '--at', '6'],
-    ['replay', '', '--at', '5'],
-    ['serve', '--db', 'f', '--port', '99999', '--connections', '1'],
-    ['serve', '--connections', '0'],
-    ['serve', '--db', 'f', '--port', '-1', '--connections', '5'],
-    ['serve', '--db', 'f', '--port', '0', '--connections', '4294967296'],
-    ['report', '--db', 'f', 'foo'],
-    ['report', 'stock'],
-    ['report', '--db', 'f'],
-    ['report', '--db', 'f', 'stock', 'holds'],
-    ['report', '--db=f', 'stock', '--db=g'],
-    ['migrate'],
-    ['migrate', 'x'],
-    ['migrate', '--db'],
-    ['frob'],
-    ['--frob'],
-]
-TAKEN = [
-    list(REPLAY),
-    ['replay', '--at=+5', '--db=memory'],
-    ['replay', '--db', 'memory', '--at', '007'],
-    ['replay', '--db', 'memory', '--at', '5', '--'],
-    ['replay', '--db', 'memory', '--at', '4102444799999'],
-    ['serve', '--db', 'no/f', '--port', '65535', '--connections', '0'],
-    ['migrate', '--db', '-'],
-    ['report', 'holds', '--db', 'no/f'],
-]
-
-
-class Arguments(Tree):
-    def look(self, words: list[str]) -> tuple[int, str]:
-        done = subprocess.run(
-            [os.path.join(ROOT, 'dev', 'desk-arguments'), *words], capture_output=True, text=True
-        )
-        return done.returncode, done.stdout
-
-    def test_wrong_ones_are_told_before_anything_is_built(self) -> None:
-        for words in WRONG:
-            with self.subTest(words=words):
-                status, out, said = self.run_desk(*words)
-                self.assertEqual((status, out), (2, ''))
-                self.assertEqual(said, self.look(words)[1])
-        for words in (
-            ['serve', '--db', 'new.db', '--port', '99999'],
-            ['--unproved', *WRONG[0]],
-            ['--prove', *WRONG[0]],
-        ):
-            self.assertRegex(self.run_desk(*words)[2], r'\Aerror: ')
-        self.assertEqual((self.calls(), os.listdir(self.work)), ([], []))
-
-    def run_program(self, words: list[str]) -> subprocess.CompletedProcess[str]:
-        return subprocess.run(
-            [PROGRAM, *words],
-            capture_output=True,
-            text=True,
-            cwd=self.work,
-            stdin=subprocess.DEVNULL,
-        )
-
-    @unittest.skipUnless(os.path.exists(PROGRAM), 'there is no program')
-    def test_they_are_told_as_the_program_does(self) -> None:
-        for words in WRONG:
-            with self.subTest(words=words):
-                done = self.run_program(words)
-                self.assertEqual((done.returncode, done.stdout), (2, ''))
-                if '' not in words:
-                    self.assertEqual(self.look(words), (2, done.stderr))
-        for words in TAKEN:
-            with self.subTest(words=words):
-                done = self.run_program(words)
-                self.assertIn(done.returncode, (0, 1))
-                self.assertEqual(self.look(words), (0, ''))
-
-    def test_the_version(self) -> None:
-        version = re.match('Nulvrader ([0-9.]+),', self.read('docs/help/desk.txt'))
-        assert version
-        self.assertEqual(self.run_desk('--version'), (0, 'Nulvrader %s\n' % version[1], ''))
-        self.assertEqual((nulvrader.__version__, self.calls()), (version[1], []))
-
-
-class Check(Tree):
-    """The script `check`, over the stand-in, and tests that pass."""
-
-    def setUp(self) -> None:
-        super().setUp()
-        for name in ('check', '.ci/run'):
-            os.makedirs(os.path.dirname(os.path.join(self.top, name)), exist_ok=True)
-            shutil.copy(os.path.join(ROOT, name), os.path.join(self.top, name))
-        for tool in ('nproc', 'tee', 'tail', 'mktemp'):
-            os.symlink(str(shutil.which(tool)), os.path.join(self.bin, tool))
-        self.write(
-            os.path.join(self.kit, 'bin', 'rt'),
-            '#!/bin/sh\necho "$* $RT_JOBS"; echo "2 passed, 0 failed"\n',
-            0o755,
-        )
-        self.write('tests/run.py', 'print("3 passed, 0 failed")\n')
-
-    def check(self, name: str, **more: str) -> list[str]:
-        env = {'PATH': self.bin, 'NOTES': self.notes, **more}
-        done = subprocess.run(
-            [os.path.join(self.top, name)], env=env, capture_output=True, text=True
-        )
-        self.assertEqual((done.returncode, done.stderr), (0, ''))
-        return done.stdout.splitlines()
-
-    def test_there_are_as_many_jobs_as_the_machine_has_room_for(self) -> None:
-        memory = os.sysconf('SC_PHYS_PAGES') * os.sysconf('SC_PAGE_SIZE')
-        jobs = max(1, min(len(os.sched_getaffinity(0)), int(memory / 5e9)))
-        for name in ('check', '.ci/run'):
-            told = [
-                'ci %d' % jobs,
-                '2 passed, 0 failed',
-                'release: there is no release to compare with',
-                '3 passed, 0 failed',
-                '5 passed, 0 failed',
-            ]
-            self.assertEqual(self.check(name), told)
-            self.assertEqual(self.check(name, RT_JOBS='7')[0], 'ci 7')
-
-    @unittest.skipUnless(shutil.which('flock'), 'flock is not here')
-    def test_it_removes_what_a_killed_build_has_left(self) -> None:
-        for left in ('workspace-1', 'workspaces'):
-            self.write(f'build/{left}/crates/agv_first/src/lib.rt', 'text')
-        self.check('check')
-        self.assertEqual(os.listdir(os.path.join(self.top, 'build')), ['lock'])
 
 
 if __name__ == '__main__':

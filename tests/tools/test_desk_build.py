@@ -174,7 +174,7 @@ class Building(Tree):
 
     def test_what_a_killed_build_has_left_is_removed(self) -> None:
         for left in ('workspace-1', 'workspaces/agv_first'):
-            self.write('build/%s/crates/agv_middle/src/lib.rt' % left, 'text')
+            self.write(f'build/{left}/crates/agv_middle/src/lib.rt', 'text')
         self.assertEqual(self.run_desk(*REPLAY)[0], 3)
         self.assertEqual(self.left(), ['crates.made', 'desk', 'lock', 'log'])
 
@@ -210,7 +210,7 @@ class Building(Tree):
         told = [process.communicate(timeout=600) for process in both]
         self.assertEqual([process.returncode for process in both], [3, 3])
         self.assertEqual(
-            [out for out, _ in told], ['replay|--db|%s|--at|5|' % name for name in ('a', 'b')]
+            [out for out, _ in told], [f'replay|--db|{name}|--at|5|' for name in ('a', 'b')]
         )
         self.assertEqual(
             sum('desk: waiting for another ./desk here' in said for _, said in told), 1

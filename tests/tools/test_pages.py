@@ -19,11 +19,13 @@ MOST = {
     'HTTP.md': 3700,
     'DECISIONS.md': 4300,
     'MODEL.md': 5000,
-    'OPERATE.md': 8600,
+    'OPERATE.md': 7700,
+    'BOARD.md': 750,
+    'BOARD_API.md': 1550,
     'SECURITY.md': 900,
     'TWO_MACHINES.md': 1500,
 }
-MOST_OF_A_PAGE, MOST_OF_ALL = 3500, 42500
+MOST_OF_A_PAGE, MOST_OF_ALL = 3500, 43100
 
 
 def pages() -> dict[str, str]:

@@ -17,7 +17,7 @@ from tests.support.programs import free_port, within
 from tests.support.proxies import Proxy
 from tests.support.states import KIT1, told
 from tests.support.desks import over_sockets
-from tests.support.scripts import LAYOUT
+from tests.support.script_calls import LAYOUT
 
 ask = programs.module('ask')
 

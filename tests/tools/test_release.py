@@ -8,6 +8,7 @@ import shutil
 import subprocess
 import tempfile
 import unittest
+from collections.abc import Callable
 from unittest import mock
 
 from tests.support.desk_tree import ECHO, PRINTED, REPLAY, TOOLS, Tree
@@ -139,7 +140,7 @@ class Released(Tree):
     def test_other_sources(self) -> None:
         """A byte of a source, a source more, one less, another list of crates: nothing of the
         release is run."""
-        changes = [
+        changes: list[Callable[[], object]] = [
             lambda: self.change('crates/agv_first/proofs/Lib.antt'),
             lambda: self.change('HANDLES'),
             lambda: self.write('crates/agv_middle/src/more.rt', 'text'),
@@ -214,6 +215,28 @@ class Released(Tree):
         self.change('build/release/desk')
         self.assertEqual(self.run_desk(*REPLAY), (3, PRINTED, RELEASED))
 
+    def test_a_folder_where_others_may_write(self) -> None:
+        """No program is run from there, and none is unpacked there, but that is said; what is
+        unpacked may be written by nobody else."""
+        path = os.path.join(self.top, 'build', 'release')
+        old = os.umask(0o002)
+        try:
+            self.assertEqual(self.run_desk(*REPLAY)[0], 3)
+        finally:
+            os.umask(old)
+        found = [os.path.join(self.top, 'build'), path, os.path.join(path, 'desk')]
+        self.assertEqual([os.stat(one).st_mode & 0o022 for one in found], [0, 0, 0])
+        for one in found:
+            with self.subTest(one):
+                os.chmod(one, 0o775)
+                status, printed, said = self.run_desk(*REPLAY)
+                self.assertEqual((status, printed), (1, ''))
+                self.assertIn('others may put another program into', said)
+                os.chmod(one, 0o755)
+        os.rename(path, f'{path}-other')
+        os.symlink(f'{path}-other', path)
+        self.assertEqual(self.run_desk(*REPLAY)[0], 1)
+
     def test_no_release_is_made_of_a_gate_that_failed(self) -> None:
         for log in (
             '',
@@ -243,7 +266,7 @@ class Released(Tree):
         self.change(PROGRAM, 4)
         status, said = self.release('--compare', os.path.join(other, PROGRAM))
         self.assertEqual(status, 1)
-        self.assertIn('the file: 1 of %d bytes, the first at 0x4\n' % len(ECHO), said)
+        self.assertIn(f'the file: 1 of {len(ECHO)} bytes, the first at 0x4\n', said)
 
 
 def why_not() -> str:

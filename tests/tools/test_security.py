@@ -56,6 +56,20 @@ class Page(unittest.TestCase):
         for module in sorted(modules):
             self.assertEqual(names[module], tested(module), module)
 
+    def test_each_is_carried_out(self) -> None:
+        """`test_attacks` has each class of each module."""
+        with open(os.path.join(ATTACKS, 'test_attacks.py'), encoding='utf-8') as file:
+            tree = ast.parse(file.read())
+        listed = {
+            (one.module.split('.')[-1], name.name)
+            for one in tree.body
+            if isinstance(one, ast.ImportFrom) and one.module
+            for name in one.names
+        }
+        modules = {name[:-3] for name in os.listdir(ATTACKS) if name.endswith('.py')}
+        modules -= {'__init__', 'test_attacks'}
+        self.assertEqual(listed, {(name, one) for name in modules for one in tested(name)})
+
     def test_words(self) -> None:
         self.assertLessEqual(len(page().split()), MOST)
 

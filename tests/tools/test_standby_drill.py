@@ -1,17 +1,20 @@
 """A short round of `bench/standby`: three machines in namespaces, of which the one that has the
-desk is cut off, and killed. And what it says of answers, which is worked out by hand here."""
+desk is cut off, and killed, with Pacemaker too. And what it says of answers, which is worked out by
+hand here, and its watchdog."""
 from __future__ import annotations
 
 import importlib
 import os
 import subprocess
 import sys
+import tempfile
+import threading
 import unittest
 from typing import Any
 from unittest import mock
 
 from tests.support.desks import DESK
-from tests.support.programs import ROOT
+from tests.support.programs import PATIENCE, ROOT, until
 
 BENCH = os.path.join(ROOT, 'bench')
 SECONDS = 900  # until the rounds are over; on a machine that is idle they take one minute
@@ -19,6 +22,8 @@ with mock.patch.object(sys, 'path', [BENCH, *sys.path]):
     records: Any = importlib.import_module('machines.records')
     desks: Any = importlib.import_module('machines.desks')
     drill: Any = importlib.import_module('machines.drill')
+    cluster: Any = importlib.import_module('machines.cluster')
+    watchdog: Any = importlib.import_module('machines.watchdog')
 Answered, Term = records.Answered, desks.Term
 
 
@@ -64,6 +69,79 @@ class Judged(unittest.TestCase):
         self.assertEqual(len(kept.back), 2)
 
 
+class FromTheExamples(unittest.TestCase):
+    def test_the_cluster_is_that_of_the_examples(self) -> None:
+        """The drill loads each line of cluster.crm; but the units and the folder of the programs
+        are its own."""
+        path = os.path.join(ROOT, 'examples', 'standby', 'cluster.crm')
+        with open(path, encoding='utf-8') as file:
+            wanted = file.read().splitlines()
+        found = cluster.configuration().splitlines()
+        self.assertEqual(len(found), len(wanted))
+        other = [
+            (one, two)
+            for one, two in zip(wanted, found)
+            if one != two and 'systemd:' not in one and '/usr/lib/nulvrader/' not in one
+        ]
+        self.assertEqual(other, [])
+        self.assertNotIn('systemd:', '\n'.join(found))
+        self.assertEqual(cluster.settings_of_sbd()['SBD_WATCHDOG_TIMEOUT'], '5')
+
+
+class Machine:
+    """A machine with nothing in it."""
+
+    def __init__(self, folder: str) -> None:
+        self.number, self.folder = 1, folder
+        self.ended = threading.Event()
+        self.is_paused = self.was_reset = False
+
+    def is_up(self) -> bool:
+        """Whether nobody has reset it."""
+        return not self.ended.is_set()
+
+    def end(self) -> None:
+        """Resets it."""
+        self.ended.set()
+
+
+class Watchdogs(unittest.TestCase):
+    """A machine that has fed its watchdog, and does so no more, is reset, unless it is paused or
+    has said that it ends."""
+
+    def setUp(self) -> None:
+        folder = tempfile.TemporaryDirectory()
+        self.addCleanup(folder.cleanup)
+        os.mkdir(os.path.join(folder.name, 'run'))
+        self.machine = Machine(folder.name)
+        self.dog = watchdog.Watchdog([self.machine], 0.5)
+        self.addCleanup(self.dog.close)
+        self.dog.serve(self.machine)
+        self.pipe = os.open(os.path.join(folder.name, 'run', watchdog.PIPE), os.O_WRONLY)
+        self.addCleanup(os.close, self.pipe)
+
+    def is_fed(self) -> bool:
+        """Whether it has begun."""
+        return 1 in self.dog.fed
+
+    def test_not_fed(self) -> None:
+        os.write(self.pipe, b'x')
+        self.assertTrue(self.machine.ended.wait(PATIENCE))
+        until(lambda: self.machine.was_reset, 'it is said')
+
+    def test_never_begun_paused_and_ended(self) -> None:
+        """None of these is reset, however long it takes."""
+        self.assertFalse(self.machine.ended.wait(1))
+        self.machine.is_paused = True
+        os.write(self.pipe, b'x')
+        until(self.is_fed, 'it has begun')
+        self.assertFalse(self.machine.ended.wait(1))
+        os.write(self.pipe, watchdog.DISARM)
+        until(lambda: not self.is_fed(), 'it has ended')
+        self.machine.is_paused = False
+        self.assertFalse(self.machine.ended.wait(1))
+
+
 @unittest.skipIf(drill.missing(), str(drill.missing()))
 class Rounds(unittest.TestCase):
     def run_drill(self, *words: str) -> 'subprocess.CompletedProcess[str]':
@@ -88,9 +166,20 @@ class Rounds(unittest.TestCase):
 
     def test_cut_and_kill(self) -> None:
         """Nothing is lost, no two desks write, and nothing stale is answered."""
-        done = self.run_drill('2', 'cut', 'kill')
+        self.check('2', 'cut', 'kill')
+
+    @unittest.skipIf(drill.missing(with_cluster=True), 'Pacemaker is not installed')
+    def test_pacemaker(self) -> None:
+        """The same where Pacemaker moves the desk, with a watchdog that resets what hangs."""
+        done = self.check('1', 'hang', '--pacemaker')
+        self.assertRegex(done.stdout, '(?m)^[1-9][0-9]* machines were reset by their watchdogs$')
+
+    def check(self, *words: str) -> 'subprocess.CompletedProcess[str]':
+        """Runs it, and looks at its last line."""
+        done = self.run_drill(*words)
         self.assertEqual(done.stdout.splitlines()[-1:], ['lost 0, two writers 0, stale 0'], done)
         self.assertEqual(done.returncode, 0, done)
+        return done
 
 
 if __name__ == '__main__':

@@ -15,11 +15,9 @@ FOLDERS = ('tools', 'dev', 'tests', 'bench', 'examples')
 PYTHON = '#!/usr/bin/env python3\n'
 MOST_LINES = 50  # of a function
 LONG = {
-    'bench/soak: main',
     'tests/board/test_board.py: test_a_transport',
     'tests/board/test_board.py: test_old_rows_are_removed',
     'tests/board/test_board_page.py: test_an_order',
-    'tests/support/traffic.py: state',
 }
 NAMED = re.compile(r'(?<![\w./-])(?:tools|dev|tests|bench|examples)/[\w/.-]*\w(?![\w/*<{-]|\.\*)')
 MODULE = re.compile(r'(?<![\w./*-])\w+\.py\b')

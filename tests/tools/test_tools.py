@@ -16,7 +16,7 @@ from typing import Any
 from nulvrader.file import machine
 from tests.support.programs import ROOT, TOOLS, matched, ran
 from tests.support.desks import AT, DESK, Serving, over_sockets, run
-from tests.support.scripts import LAYOUT, bytes_of, load, ok, vehicle
+from tests.support.script_calls import LAYOUT, bytes_of, load, ok, vehicle
 
 PACKAGE = os.path.join(TOOLS, 'nulvrader')
 DEV = os.path.join(ROOT, 'dev')
@@ -118,7 +118,7 @@ class Programs(unittest.TestCase):
         )
         self.assertEqual(
             sorted(os.path.basename(path) for path in files if spoken.search(text_of(path))),
-            ['client.py', 'receiver.py'],
+            ['receiver.py', 'transport.py'],
         )
         begun = re.compile(r'\bcreate_connection\(|\.connect\(\(')
         self.assertEqual(

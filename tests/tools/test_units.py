@@ -39,9 +39,11 @@ PAGES = ('README.md', 'docs/OPERATE.md', 'docs/TWO_MACHINES.md', 'docs/DECISIONS
 UNIT = r'[\w@-]+\.(?:service|socket|timer|mount)\b'
 # Units of Debian's packages that a page or an example names.
 OF_DEBIAN = {
+    'corosync.service',
     'glusterd.service',
     'mosquitto.service',
     'nginx.service',
+    'pacemaker.service',
     'nftables.service',
     'systemd-time-wait-sync.service',
 }

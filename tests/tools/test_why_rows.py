@@ -10,7 +10,8 @@ import sqlite3
 import unittest
 from typing import Any
 
-from tests.support.breaks import ALONE, BREAKS, DRIVE_BREAKS
+from tests.support.breaks_alone import ALONE, DRIVE_BREAKS
+from tests.support.breaks import BREAKS
 from nulvrader.file.rows import read_rows
 from nulvrader.file.rules import RULES
 from tests.support.damages import DRIVEN, FILLED, SHAPES, asked, damaged

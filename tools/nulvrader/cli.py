@@ -26,6 +26,11 @@ a desk that runs:
   map           draws its warehouse
   webhooks      posts what happens to other programs
 
+the dispatcher of a desk:
+  job           says when a job is due, and how urgent it is
+  close         closes nodes and edges
+  open          opens them again
+
 files:
   check-layout  names the errors of a layout file
   check-count   names the errors of a stocktake file
@@ -51,64 +56,69 @@ WRONG = 2
 
 
 def tool(name: str) -> pathlib.Path | None:
-    """Returns a program of `tools/`: beside the package, or where a package manager puts it."""
+    """Returns the path of a program of `tools/`: beside the package, or beside this command, where
+    a package manager puts it. None where there is no such program."""
     for folder in (TOOLS, pathlib.Path(sys.argv[0]).resolve().parent):
         if (folder / name).is_file() and f'\n  {name} ' in HELP and name not in PROGRAM:
             return folder / name
     return None
 
 
-def run_program(words: list[str]) -> int:
-    """Runs the program of the desk in the place of this one."""
+def run_program(arguments: list[str]) -> int:
+    """Replaces this program by the desk's. Returns a status only where that fails, or after a help
+    text or the version."""
     program = TOOLS.parent / 'desk'
-    if words[1:] in (['--help'], ['-h']):
-        path = TOOLS.parent / 'docs' / 'help' / f'{words[0]}.txt'
+    if arguments[1:] in (['--help'], ['-h']):
+        path = TOOLS.parent / 'docs' / 'help' / f'{arguments[0]}.txt'
         print(path.read_text(encoding='utf-8'), end='')
         return 0
-    if len(words) == 2 and words[1] in VERSION:
+    if len(arguments) == 2 and arguments[1] in VERSION:
         print(entry.VERSION)
         return 0
-    if words[0] == 'serve' and not any(word.startswith('--connections') for word in words):
-        words = [*words, '--connections', '4294967295']
+    if arguments[0] == 'serve' and not any(
+        argument.startswith('--connections') for argument in arguments
+    ):
+        arguments = [*arguments, '--connections', '4294967295']
     try:
-        os.execv(program, [str(program), *words])
+        os.execv(program, [str(program), *arguments])
     except OSError as fault:
         print(f'nulvrader: {program}: {fault.strerror}', file=sys.stderr)
         return 1
 
 
-def _names_a_file(words: list[str]) -> bool:
-    return any(word.partition('=')[0] == '--db' for word in words)
+def _names_a_file(arguments: list[str]) -> bool:
+    """Whether the arguments have the option `--db`."""
+    return any(argument.partition('=')[0] == '--db' for argument in arguments)
 
 
-def run(words: list[str]) -> int:
-    """Runs a command, and returns its status."""
-    if words[:1] == ['help'] and words[1:]:
-        words = [words[1], '--help']
-    name = words[0] if words else '--help'
+def run(arguments: list[str]) -> int:
+    """Runs the command that the arguments name, and returns its status."""
+    if arguments[:1] == ['help'] and arguments[1:]:
+        arguments = [arguments[1], '--help']
+    name = arguments[0] if arguments else '--help'
     if name in ('-h', '--help', 'help'):
         print(HELP)
-        return 0 if words else WRONG
+        return 0 if arguments else WRONG
     if name in VERSION:
         print(entry.VERSION)
         return 0
     for variable, value in conf.read().items():
         os.environ.setdefault(variable, value)
-    if name == 'migrate' and 'NULVRADER_DB' in os.environ and not _names_a_file(words):
-        sys.argv = [f'{entry.ONE}migrate', *words[1:]]
-        return migrate.run(words[1:])
+    if name == 'migrate' and 'NULVRADER_DB' in os.environ and not _names_a_file(arguments):
+        sys.argv = [f'{entry.ONE}migrate', *arguments[1:]]
+        return migrate.run(arguments[1:])
     if name in PROGRAM:
-        return run_program(words)
+        return run_program(arguments)
     path = tool(name)
     if path is None:
         print(f'nulvrader: there is no command {name!a}\nTry: nulvrader --help', file=sys.stderr)
         return WRONG
-    sys.argv = [entry.ONE + name, *words[1:]]
+    sys.argv = [entry.ONE + name, *arguments[1:]]
     code = compile(path.read_bytes(), str(path), 'exec')
     exec(code, {'__name__': '__main__', '__file__': str(path)})
     return 0
 
 
 def main() -> None:
-    """Runs the command that the arguments name, and ends with its status."""
+    """Runs the command of the command line, and ends with its status."""
     sys.exit(entry.run(lambda: run(sys.argv[1:])))

@@ -1,4 +1,4 @@
-"""The commands of `tools/ask` that are questions: those of one call, and those of several."""
+"""The commands of `tools/ask` that change nothing, of one call or of several."""
 from __future__ import annotations
 
 import argparse
@@ -7,110 +7,121 @@ import functools
 from collections.abc import Callable, Iterable
 
 from ..desk import arguments, exports, questions, refusals, reports
-from ..desk.client import Desk, Vehicle
-from .subcommands import LOAD, VEHICLE, Command, Told, Wrong, command, named, table, word
+from ..desk.client import Desk, Job, JobPhase, Vehicle
+from .subcommands import (
+    LOAD,
+    VEHICLE,
+    Subcommand,
+    Output,
+    UsageError,
+    subcommand,
+    name_argument,
+    table,
+    argument,
+)
 from ..common.names import natural, quoted
 
-QUESTIONS: list[Command] = []
-look = functools.partial(command, QUESTIONS)
-BY_VEHICLE = word('--vehicle', type=arguments.vehicle, metavar='VEHICLE', help='as KIT/0001')
+QUESTIONS: list[Subcommand] = []
+reads = functools.partial(subcommand, QUESTIONS)
+BY_VEHICLE = argument('--vehicle', type=arguments.vehicle, metavar='VEHICLE', help='as KIT/0001')
 
-Rows = list[dict[str, object]]
+TableRows = list[dict[str, object]]
 
 
-def told(heads: str, rows: Rows, none: str) -> Told:
-    """A table whose heads are the members of the rows, or a line where there are none."""
+def table_output(heads: str, rows: TableRows, none: str) -> Output:
+    """Returns a table whose heads are members of the rows, or the line `none` where there are no
+    rows."""
     names = heads.split()
     text = table(
         [name.replace('_', ' ') for name in names], [[row[name] for name in names] for row in rows]
     )
-    return Told(text if rows else none, rows)
+    return Output(text if rows else none, rows)
 
 
 def listed(names: Iterable[str]) -> tuple[str, ...]:
-    """Names in the order in which people look for them."""
+    """Returns names in the order in which people look for them: `L2` before `L10`."""
     return tuple(sorted(names, key=natural))
 
 
-def ordered(name: str, rows: Rows) -> Rows:
-    """Rows in the order of the names that they have in this member."""
+def ordered(name: str, rows: TableRows) -> TableRows:
+    """Returns rows in the order of the names that they have in the member `name`."""
     return sorted(rows, key=lambda row: natural(str(row[name])))
 
 
-def want(what: str, name: object, known: Iterable[object]) -> None:
-    """`Wrong` where a station or a vehicle is named that the desk doesn't have."""
+def check_known(what: str, name: object, known: Iterable[object]) -> None:
+    """Raises `UsageError` where a station or a vehicle is named that the desk doesn't have."""
     names = listed(str(one) for one in known)
     if name is not None and str(name) not in names:
-        told_some = ', '.join(names[:10]) + ', ..' * (len(names) > 10)
-        raise Wrong(f'there is no {what} {name}: the desk has {told_some or "none"}')
+        some = ', '.join(names[:10]) + ', ..' * (len(names) > 10)
+        raise UsageError(f'there is no {what} {name}: the desk has {some or "none"}')
 
 
-@look('PAL-1', LOAD)
-def load(desk: Desk, said: argparse.Namespace) -> Told:
+@reads('PAL-1', LOAD)
+def load(desk: Desk, args: argparse.Namespace) -> Output:
     """Where a load is, and its live job."""
-    found = desk.load(said.load)
-    return Told(
-        'load %s: %s, job %s' % (found.name, found.place, found.job or '-'),
+    found = desk.load(args.load)
+    return Output(
+        f'load {found.name}: {found.place}, job {found.job or "-"}',
         dataclasses.asdict(found),
     )
 
 
-@look('KIT/0001', VEHICLE)
-def vehicle(desk: Desk, said: argparse.Namespace) -> Told:
+@reads('KIT/0001', VEHICLE)
+def vehicle(desk: Desk, args: argparse.Namespace) -> Output:
     """What the desk knows of a vehicle."""
-    row = vehicle_row(desk.vehicle(said.vehicle))
+    row = vehicle_row(desk.vehicle(args.vehicle))
     lines = [
         [name, 'no' if value is False else value]
         for name, value in row.items()
         if name != 'vehicle'
     ]
-    return Told(table(['vehicle', str(row['vehicle'])], lines), row)
+    return Output(table(['vehicle', str(row['vehicle'])], lines), row)
 
 
 def vehicle_row(row: Vehicle) -> dict[str, object]:
-    """A vehicle as a row of a table."""
+    """Returns a vehicle as a row of a table."""
     found = dataclasses.asdict(row)
     del found['key']
     return {'vehicle': str(row.key), **found}
 
 
-@look('')
-def vehicles(desk: Desk, said: argparse.Namespace) -> Told:
+@reads('')
+def vehicles(desk: Desk, args: argparse.Namespace) -> Output:
     """All vehicles, with their orders."""
     rows = ordered('vehicle', [vehicle_row(row) for row in desk.vehicles().values()])
     heads = 'vehicle node order seen released edges sent confirmed capacity ready paused pending'
-    return told(f'{heads} astray', rows, 'there are no vehicles')
+    return table_output(f'{heads} astray', rows, 'there are no vehicles')
 
 
-@look(
+@reads(
     '--station A',
-    named('--station', 'station'),
+    name_argument('--station', 'station'),
     BY_VEHICLE,
-    word('--checking', action='store_true', help='those at the checking place'),
+    argument('--checking', action='store_true', help='those at the checking place'),
 )
-def loads(desk: Desk, said: argparse.Namespace) -> Told:
+def loads(desk: Desk, args: argparse.Namespace) -> Output:
     """The loads that have not left, all or at one place."""
-    asked = [f'station {said.station}'] if said.station else []
-    asked += [f'vehicle {said.vehicle}'] if said.vehicle else []
-    asked += ['checking'] if said.checking else []
+    asked = [f'station {args.station}'] if args.station else []
+    asked += [f'vehicle {args.vehicle}'] if args.vehicle else []
+    asked += ['checking'] if args.checking else []
     if len(asked) > 1:
-        raise Wrong('give one of --station, --vehicle and --checking')
+        raise UsageError('give one of --station, --vehicle and --checking')
     place = asked[0] if asked else None
     stock = questions.stock(desk)
-    want('station', said.station, list(stock.stations))
-    want('vehicle', said.vehicle, list(stock.vehicles))
-    rows: Rows = [
+    check_known('station', args.station, list(stock.stations))
+    check_known('vehicle', args.vehicle, list(stock.vehicles))
+    rows: TableRows = [
         {'load': name, 'place': at} for name, at in stock.places().items() if place in (None, at)
     ]
-    return told(
+    return table_output(
         'load place', ordered('load', rows), 'there are no loads' + (' there' if place else '')
     )
 
 
-@look('')
-def stations(desk: Desk, said: argparse.Namespace) -> Told:
+@reads('')
+def stations(desk: Desk, args: argparse.Namespace) -> Output:
     """All stations, with their loads and the places that are free."""
-    rows: Rows = [
+    rows: TableRows = [
         {
             'station': one.name,
             'node': one.node,
@@ -122,66 +133,59 @@ def stations(desk: Desk, said: argparse.Namespace) -> Told:
         for one in questions.stock(desk).stations.values()
     ]
     heads = 'station node capacity reserved free loads'
-    return told(heads, ordered('station', rows), 'there is no layout')
+    return table_output(heads, ordered('station', rows), 'there is no layout')
 
 
-@look('')
-def jobs(desk: Desk, said: argparse.Namespace) -> Told:
+def job_row(job: Job | JobPhase) -> dict[str, object]:
+    """Returns a job as a row of a table."""
+    return {
+        'job': job.name,
+        'load': job.load,
+        'from': job.origin,
+        'to': job.target,
+        'phase': job.phase,
+        'vehicle': None if job.vehicle is None else str(job.vehicle),
+        'order': job.order,
+    }
+
+
+@reads('')
+def jobs(desk: Desk, args: argparse.Namespace) -> Output:
     """The live jobs, and which order has each that rides."""
-    rows: Rows = [
-        {
-            'job': one.name,
-            'load': one.load,
-            'from': one.origin,
-            'to': one.target,
-            'phase': one.phase,
-            'vehicle': None if one.vehicle is None else str(one.vehicle),
-            'order': one.order,
-        }
-        for one in desk.jobs().values()
-    ]
-    return told(
+    rows = [job_row(one) for one in desk.jobs().values()]
+    return table_output(
         'job load from to phase vehicle order', ordered('job', rows), 'there are no live jobs'
     )
 
 
-@look('J1', named('job', 'job'))
-def job(desk: Desk, said: argparse.Namespace) -> Told:
+@reads('J1', name_argument('job', 'job'))
+def job(desk: Desk, args: argparse.Namespace) -> Output:
     """A job, ended or not, and which order has it while it rides."""
-    one = desk.job(said.job)
-    row: dict[str, object] = {
-        'job': one.name,
-        'load': one.load,
-        'from': one.origin,
-        'to': one.target,
-        'phase': one.phase,
-        'vehicle': None if one.vehicle is None else str(one.vehicle),
-        'order': one.order,
-    }
+    row = job_row(desk.job(args.job))
     lines = [[name, value] for name, value in row.items() if name != 'job']
-    return Told(table(['job', one.name], lines), row)
+    return Output(table(['job', str(row['job'])], lines), row)
 
 
-@look('')
-def layout(desk: Desk, said: argparse.Namespace) -> Told:
+@reads('')
+def layout(desk: Desk, args: argparse.Namespace) -> Output:
     """Prints the layout, as a file for another desk."""
     found = desk.layout()
     if found is None:
-        raise Wrong('the desk has no layout yet')
+        raise UsageError('the desk has no layout yet')
     text = found.csv().decode()
-    return Told(text.rstrip('\n'), text)
+    return Output(text.rstrip('\n'), text)
 
 
 def stops_of(order: questions.OrderRow) -> tuple[str, ...]:
-    """The stops of an order; of a drive the node where it leads."""
+    """Returns the stops of an order as texts; those of a drive are the node to which it leads."""
     stops = tuple(f'{act.kind}:{act.load}@{act.station}' for act in order.acts)
     return stops or (f'drive@{order.end}',)
 
 
-@look('', cost='1, and 1 for each order')
-def orders(desk: Desk, said: argparse.Namespace) -> Told:
+@reads('', cost='1, and 1 for each order')
+def orders(desk: Desk, args: argparse.Namespace) -> Output:
     """The open orders, how far they are, and their stops."""
-    rows: Rows = [
+    rows: TableRows = [
         {
             'order': one.order,
             'vehicle': str(one.vehicle),
@@ -195,29 +199,29 @@ def orders(desk: Desk, said: argparse.Namespace) -> Told:
         for one in questions.orders(desk)
     ]
     heads = 'order vehicle node sent confirmed released_to edges_left stops'
-    return told(heads, ordered('order', rows), 'there are no open orders')
+    return table_output(heads, ordered('order', rows), 'there are no open orders')
 
 
-@look('--vehicle KIT/0001', BY_VEHICLE)
-def held(desk: Desk, said: argparse.Namespace) -> Told:
+@reads('--vehicle KIT/0001', BY_VEHICLE)
+def held(desk: Desk, args: argparse.Namespace) -> Output:
     """The nodes and edges that are held."""
     holds = questions.held(desk)
     # each vehicle holds the node where it stands
-    want('vehicle', said.vehicle, set(holds.nodes.values()))
-    rows: Rows = [
+    check_known('vehicle', args.vehicle, set(holds.nodes.values()))
+    rows: TableRows = [
         {'thing': 'node ' + name, 'vehicle': str(holds.nodes[name])} for name in listed(holds.nodes)
     ]
     rows += [
         {'thing': 'edge ' + name, 'vehicle': str(holds.edges[name])} for name in listed(holds.edges)
     ]
-    rows = [row for row in rows if said.vehicle is None or row['vehicle'] == str(said.vehicle)]
-    return told('thing vehicle', rows, 'nothing is held')
+    rows = [row for row in rows if args.vehicle is None or row['vehicle'] == str(args.vehicle)]
+    return table_output('thing vehicle', rows, 'nothing is held')
 
 
-@look('', cost='2, and 1 for each order')
-def who_waits(desk: Desk, said: argparse.Namespace) -> Told:
+@reads('', cost='2, and 1 for each order')
+def who_waits(desk: Desk, args: argparse.Namespace) -> Output:
     """The vehicles whose next edge is held by another one."""
-    rows: Rows = [
+    rows: TableRows = [
         {
             'vehicle': str(one.vehicle),
             'order': one.order,
@@ -229,50 +233,50 @@ def who_waits(desk: Desk, said: argparse.Namespace) -> Told:
         for one in questions.who_waits(desk)
     ]
     heads = 'vehicle order at waits_for held_by in_circle'
-    found = told(heads, ordered('vehicle', rows), 'no vehicle waits for another one')
+    found = table_output(heads, ordered('vehicle', rows), 'no vehicle waits for another one')
     if any(row['in_circle'] for row in rows):
         more = (
             '\n\nTo free those in a circle, cancel one and move it out of the way'
             ' (docs/OPERATE.md).'
         )
-        return Told(found.text + more, found.value)
+        return Output(found.text + more, found.value)
     return found
 
 
-def report(text: bytes, read: Callable[[bytes], object]) -> Told:
-    """What is told of a report, once it was read."""
+def report(text: bytes, read: Callable[[bytes], object]) -> Output:
+    """Returns a report as it is printed, once `read` has found nothing wrong in it."""
     read(text)
-    return Told(text.decode().rstrip('\n'), text.decode())
+    return Output(text.decode().rstrip('\n'), text.decode())
 
 
-@look('')
-def stock_report(desk: Desk, said: argparse.Namespace) -> Told:
+@reads('')
+def stock_report(desk: Desk, args: argparse.Namespace) -> Output:
     """Prints the stock report."""
     return report(desk.stock_report(), reports.read_stock)
 
 
-@look('')
-def hold_report(desk: Desk, said: argparse.Namespace) -> Told:
+@reads('')
+def hold_report(desk: Desk, args: argparse.Namespace) -> Output:
     """Prints the hold report."""
     return report(desk.hold_report(), reports.read_holds)
 
 
-@look('')
-def loads_export(desk: Desk, said: argparse.Namespace) -> Told:
+@reads('')
+def loads_export(desk: Desk, args: argparse.Namespace) -> Output:
     """Prints the export of all loads, those that left too, as CSV."""
     return report(desk.loads_export(), exports.read_loads)
 
 
-@look('Held', word('name', metavar='NAME', help='or its number'), cost='none')
-def refusal(desk: Desk, said: argparse.Namespace) -> Told:
+@reads('Held', argument('name', metavar='NAME', help='or its number'), cost='none')
+def refusal(desk: Desk, args: argparse.Namespace) -> Output:
     """What a refusal says, and what to do."""
-    named_so = [
-        one for one in refusals.ALL if said.name.lower() in (one.name.lower(), str(one.number))
+    found = [
+        one for one in refusals.ALL if args.name.lower() in (one.name.lower(), str(one.number))
     ]
-    if not named_so:
-        raise Wrong(
-            f'{quoted(said.name)} is neither the name nor the number of a refusal (docs/HTTP.md)'
+    if not found:
+        raise UsageError(
+            f'{quoted(args.name)} is neither the name nor the number of a refusal (docs/HTTP.md)'
         )
-    one = named_so[0]
-    told = {'advice': one.advice, **dataclasses.asdict(one)}
-    return Told(f'{one.name} ({one.number}): {one.says}. {one.advice}', told)
+    one = found[0]
+    value = {'advice': one.advice, **dataclasses.asdict(one)}
+    return Output(f'{one.name} ({one.number}): {one.says}. {one.advice}', value)

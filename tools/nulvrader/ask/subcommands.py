@@ -1,5 +1,5 @@
-"""What a command of `tools/ask` is: its arguments, what it asks of a desk, and what it tells people
-and programs."""
+"""The commands of `tools/ask`: what each is made of, the types of its arguments, and the tables and
+JSON that it prints."""
 from __future__ import annotations
 
 import argparse
@@ -14,75 +14,78 @@ from ..common.names import LARGEST, BadName, checked, new_reference, quoted
 from ..common.text import shown
 
 
-class Wrong(Exception):
-    """Why a command is not carried out: its arguments or its file are wrong. Its `str()` is a
+class UsageError(Exception):
+    """A command is not carried out, since its arguments or its file are wrong. Its `str()` is a
     sentence."""
 
 
 @dataclass(frozen=True)
-class Told:
-    """What a command tells: `text` people, `value` programs, as JSON."""
+class Output:
+    """What a command prints: `text` for people, `value` as JSON for programs."""
 
     text: str
     value: object
 
 
-Add = Callable[[argparse.ArgumentParser], None]
-Run = Callable[[Desk, argparse.Namespace], Told]
+AddArgument = Callable[[argparse.ArgumentParser], None]
+Run = Callable[[Desk, argparse.Namespace], Output]
 
 
 @dataclass(frozen=True)
-class Command:
-    """A command: its name, what it does in a sentence, the words of an example, how many requests
-    it costs, what adds its arguments, and what carries it out. `changes` says that it may change
-    something at the desk.
-    """
+class Subcommand:
+    """A command: its name, a sentence on what it does, the arguments of an example, the number of
+    requests that it costs, the function that adds its arguments to a parser, and the function that
+    runs it. `changes` says that it may change something at the desk."""
 
     name: str
     does: str
     example: str
     cost: str
-    add: Add
+    add: AddArgument
     run: Run
     changes: bool
 
 
-def command(
-    into: list[Command], example: str, *adds: Add, cost: str = '1', changes: bool = False
+def subcommand(
+    into: list[Subcommand], example: str, *adds: AddArgument, cost: str = '1', changes: bool = False
 ) -> Callable[[Run], Run]:
-    """Makes a command of a function and puts it into a list: it has the name of the function, and
-    does what the text of the function says."""
+    """Returns a decorator that makes a command of a function and appends it to a list. The command
+    has the name of the function, and its sentence is the function's docstring."""
 
-    def add(words: argparse.ArgumentParser) -> None:
-        for one in adds:
-            one(words)
+    def add(parser: argparse.ArgumentParser) -> None:
+        for add_argument in adds:
+            add_argument(parser)
 
     def made(run: Run) -> Run:
         name = run.__name__.replace('_', '-')
         into.append(
-            Command(name, ' '.join((run.__doc__ or '').split()), example, cost, add, run, changes)
+            Subcommand(
+                name, ' '.join((run.__doc__ or '').split()), example, cost, add, run, changes
+            )
         )
         return run
 
     return made
 
 
-def word(*names: str, **how: Any) -> Add:
-    """What adds a word or an option to a command."""
+def argument(*names: str, **how: Any) -> AddArgument:
+    """Returns a function that adds an argument or an option to a parser, as `add_argument` takes
+    it."""
 
-    def add(words: argparse.ArgumentParser) -> None:
-        words.add_argument(*names, **how)
+    def add(parser: argparse.ArgumentParser) -> None:
+        parser.add_argument(*names, **how)
 
     return add
 
 
-def named(name: str, what: str, **how: Any) -> Add:
-    """What adds a word that is a name, of a load or of something else."""
-    return word(name, type=name_of(what), metavar=what.upper(), **how)
+def name_argument(name: str, what: str, **how: Any) -> AddArgument:
+    """Returns a function that adds an argument whose value is a name; `what` says of what, as in
+    `load`."""
+    return argument(name, type=name_type(what), metavar=what.upper(), **how)
 
 
-def name_of(what: str) -> Callable[[str], str]:
-    """The type of a word that is a name."""
+def name_type(what: str) -> Callable[[str], str]:
+    """Returns the type of an argument that is a name; `what` says of what."""
 
     def read(text: str) -> str:
         try:
@@ -94,30 +97,30 @@ def name_of(what: str) -> Callable[[str], str]:
 
 
 def number(text: str) -> int:
-    """The type of a word that is a number of a call, 0 to 4294967295."""
+    """Reads an argument that is a number of a call, 0 to 4294967295."""
     if not (text.isascii() and text.isdigit() and len(text) <= 20 and int(text) <= LARGEST):
         raise argparse.ArgumentTypeError(f'{quoted(text)} is no whole number from 0 to {LARGEST}')
     return int(text)
 
 
-REFERENCE = named(
+REFERENCE = name_argument(
     '--ref',
     'reference',
     help='its reference, used only once (default: a new one that begins with the day)',
 )
-VEHICLE = word('vehicle', type=arguments.vehicle, metavar='VEHICLE', help='as KIT/0001')
-LOAD = named('load', 'load')
+VEHICLE = argument('vehicle', type=arguments.vehicle, metavar='VEHICLE', help='as KIT/0001')
+LOAD = name_argument('load', 'load')
 
 
-def reference(said: argparse.Namespace) -> str:
-    """The reference that is given, or else a new one, which is noted, so that the same can be asked
-    again."""
-    said.ref = said.ref or new_reference()
-    return str(said.ref)
+def reference(args: argparse.Namespace) -> str:
+    """Returns the reference that was given, or else a new one. It is noted in the arguments, so
+    that the same call can be sent again."""
+    args.ref = args.ref or new_reference()
+    return str(args.ref)
 
 
 def table(heads: Sequence[str], rows: Sequence[Sequence[object]]) -> str:
-    """A table for people. What is None is a dash, and what is true a `yes`."""
+    """Returns a table for people. None is a dash, and True a `yes`."""
     lines = [list(heads)] + [[cell(value) for value in row] for row in rows]
     widths = [max(len(line[column]) for line in lines) for column in range(len(heads))]
     return '\n'.join(
@@ -126,7 +129,7 @@ def table(heads: Sequence[str], rows: Sequence[Sequence[object]]) -> str:
 
 
 def cell(value: object) -> str:
-    """A value in a table."""
+    """Returns a value as a table shows it."""
     if isinstance(value, bool):
         return 'yes' if value else '-'
     if isinstance(value, (list, tuple)):
@@ -135,5 +138,5 @@ def cell(value: object) -> str:
 
 
 def as_json(value: object) -> str:
-    """A value for programs: keys of vehicles as `KIT/0001`."""
+    """Returns a value as JSON; the key of a vehicle is `KIT/0001`."""
     return json.dumps(value, default=str)

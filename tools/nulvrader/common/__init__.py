@@ -1,2 +1,2 @@
-"""What the other packages share: names, layouts, stocktakes, tables, and how text and files of
-others are read and shown."""
+"""The modules that the other packages share: names, layouts, stocktakes and their tables, the text
+and files of others, and the start of a program."""

@@ -7,12 +7,46 @@ from dataclasses import dataclass, field
 from typing import NamedTuple
 
 from .names import NAME_RULE, is_name, natural
-from .tables import TableFile, quoted, records_of, said
+from .tables import TableFile, Text, quoted, records_of, said
 from .text import shown
 
 HEADER = [b'station', b'load']
+# What is wrong with a file, and what to do, by a name.
+TEXTS = {
+    'blanks': 'write {text} without blanks',
+    'carry': 'carry a load elsewhere and write it there',
+    'carry.or.stop': 'stop one of these jobs, or carry a load elsewhere and write it there',
+    'correct': 'once it has no live job, correct its place',
+    'empty': 'write {text}, where no load was found there',
+    'fields': '{fields} field{s}, and not the two of station,load',
+    'full': (
+        'station {station} has room for {capacity}; found there: {here}; live jobs to it: {coming}'
+    ),
+    'header': 'the first line has to be station,load, and is {fields}',
+    'less': 'count some of the stations by another file',
+    'missed': 'load {load} was not found at {place}, and would move, but has the live job {job}',
+    'moves': 'load {load} is recorded at {place}, and would move, but has the live job {job}',
+    'name': f'the {{what}} is {{text}}, and no name: {NAME_RULE}',
+    'one': 'write one load a row, and nothing behind it',
+    'quote': 'is there a quote in this line that nothing closes?',
+    'row': 'write {text}',
+    'semicolons': 'write commas for the semicolons, here and in each row',
+    'station': 'there is no station {station}: the desk has {known}',
+    'stop': 'stop it while it waits',
+    'strike': 'strike out one of the two',
+    'tabs': 'write commas for the tabs, here and in each row',
+    'twice': 'load {load} stands in line {line} already, at station {station}',
+    'utf16': 'the file is UTF-16',
+    'utf8': 'save it as CSV in UTF-8',
+    'vehicle': 'load {load} is recorded on vehicle {vehicle}',
+}
 # The refusals of a stocktake, in the order in which a desk looks for them.
 REFUSALS = ('TooLarge', 'BadCsv', 'NoStation', 'CountTwice', 'OnVehicle', 'InJob', 'Full')
+
+
+def text(name: str, /, **values: object) -> Text:
+    """A text of the table above."""
+    return Text.of(name, TEXTS[name], **values)
 
 
 class Row(NamedTuple):
@@ -50,7 +84,7 @@ class CountFile(TableFile):
     """A stocktake file."""
 
     def __init__(self, data: bytes) -> None:
-        super().__init__(data, REFUSALS, 'count some of the stations by another file')
+        super().__init__(data, REFUSALS, text('less'))
         self.rows: list[Row] = []
         records = records_of(data)
         for line, fields in records[1:] if self.has_header(data, records) else records:
@@ -62,13 +96,13 @@ class CountFile(TableFile):
         line, fields = records[0] if records else (1, [])
         if fields == HEADER:
             return True
-        rule, remedy = f'the first line has to be station,load, and is {said(fields)}', ''
+        rule, remedy = text('header', fields=said(fields)), ''
         if data.startswith((b'\xff\xfe', b'\xfe\xff')):
-            rule, remedy = 'the file is UTF-16', 'save it as CSV in UTF-8'
+            rule, remedy = text('utf16'), text('utf8')
         elif len(fields) == 1 and b';' in fields[0]:
-            remedy = 'write commas for the semicolons, here and in each row'
+            remedy = text('semicolons')
         elif len(fields) == 1 and b'\t' in fields[0]:
-            remedy = 'write commas for the tabs, here and in each row'
+            remedy = text('tabs')
         self.fault(line, 'BadCsv', rule, remedy)
         is_header = fields[:1] and fields[0].lower() == HEADER[0]
         return bool(
@@ -78,17 +112,18 @@ class CountFile(TableFile):
     def read(self, line: int, fields: list[bytes]) -> None:
         """A record that should be a row."""
         if len(fields) != len(HEADER):
-            rule = f'{len(fields)} field{"s" * (len(fields) != 1)}, and not the two of station,load'
+            count = len(fields)
+            rule = text('fields', fields=count, s='' if count == 1 else 's')
             self.fault(line, 'BadCsv', rule, two_fields(fields))
             return
         station, load = (one.decode('latin-1') for one in fields)
-        for what, text, one in (('station', station, fields[0]), ('load', load, fields[1])):
-            if not is_name(text) and not (what == 'load' and text == ''):
-                rule, remedy = f'the {what} is {quoted(one)}, and no name: {NAME_RULE}', ''
-                if is_name(text.strip()):
-                    remedy = f'write {text.strip()} without blanks'
+        for what, name, one in (('station', station, fields[0]), ('load', load, fields[1])):
+            if not is_name(name) and not (what == 'load' and name == ''):
+                rule, remedy = text('name', what=what, text=quoted(one)), ''
+                if is_name(name.strip()):
+                    remedy = text('blanks', text=name.strip())
                 elif b'\n' in one or b'\r' in one:
-                    remedy = 'is there a quote in this line that nothing closes?'
+                    remedy = text('quote')
                 self.fault(line, 'BadCsv', rule, remedy)
                 return
         self.rows.append(Row(line, station, load or None))
@@ -100,25 +135,25 @@ class CountFile(TableFile):
             if row.load is not None:
                 before = first.setdefault(row.load, row)
                 if before is not row:
-                    where = f'in line {before.line} already, at station {before.station}'
-                    rule = f'load {row.load} stands {where}'
-                    self.fault(row.line, 'CountTwice', rule, 'strike out one of the two')
+                    at = {'line': before.line, 'station': before.station}
+                    rule = text('twice', load=row.load, **at)
+                    self.fault(row.line, 'CountTwice', rule, text('strike'))
 
     def stations(self) -> dict[str, int]:
-        """The counted stations, each with the line on which it stands first."""
+        """Returns the counted stations, each with the line on which it stands first."""
         found: dict[str, int] = {}
         for row in self.rows:
             found.setdefault(row.station, row.line)
         return found
 
     def found(self) -> dict[str, Row]:
-        """By its name the row on which a load stands first."""
+        """Returns the row on which each load stands first, by the load's name."""
         return {row.load: row for row in reversed(self.rows) if row.load is not None}
 
     def moves(self, records: Records) -> list[Move]:
-        """What a stocktake would move: a found load that is recorded elsewhere to where it was
-        found, and a load that is recorded at a counted station and was not found to the checking
-        place."""
+        """Returns what the stocktake would move: to the station where it was found a load that is
+        recorded elsewhere, and to the checking place a load that is recorded at a counted station
+        and was not found."""
         found, counted = self.found(), self.stations()
         moves = []
         for load, row in sorted(found.items(), key=lambda pair: pair[1].line):
@@ -135,7 +170,8 @@ class CountFile(TableFile):
         return moves
 
     def unknown(self, records: Records) -> list[Row]:
-        """The rows of loads that the desk doesn't have, or that have left by its records."""
+        """Returns the rows of loads that the desk doesn't have, or that have left by its
+        records."""
         return [
             row for row in self.rows if row.load and records.places.get(row.load, 'left') == 'left'
         ]
@@ -146,15 +182,15 @@ class CountFile(TableFile):
             if station not in records.capacities:
                 known = ', '.join(sorted(records.capacities, key=natural)[:10])
                 more = ', ..' if len(records.capacities) > 10 else ''
-                rule = f'there is no station {station}: the desk has {known}{more}'
+                rule = text('station', station=station, known=known + more)
                 self.fault(line, 'NoStation', rule)
         for load, row in self.found().items():
             place = records.places.get(load, '')
             if place.startswith('vehicle '):
                 once = 'once it has no live job, '
                 command = f'{once}`tools/ask correct {load} --station {row.station}`'
-                rule = f'load {load} is recorded on {place}'
-                self.fault(row.line, 'OnVehicle', rule, f'{once}correct its place', command)
+                rule = text('vehicle', load=load, vehicle=place.partition(' ')[2])
+                self.fault(row.line, 'OnVehicle', rule, text('correct'), command)
         for move in self.moves(records):
             if move.load in records.jobs:
                 self.check_job(move, records.jobs[move.load])
@@ -163,16 +199,11 @@ class CountFile(TableFile):
 
     def check_job(self, move: Move, job: str) -> None:
         """A load in a live job would move."""
-        where = 'was not found at' if move.line is None else 'is recorded at'
-        would = f'would move, but has the live job {job}'
         line = move.line or self.stations()[move.before.partition(' ')[2]]
-        self.fault(
-            line,
-            'InJob',
-            f'load {move.load} {where} {move.before}, and {would}',
-            'stop it while it waits',
-            f'`tools/ask stop-job {job}` while it waits',
-        )
+        values = {'load': move.load, 'place': move.before, 'job': job}
+        rule = text('missed' if move.line is None else 'moves', **values)
+        command = f'`tools/ask stop-job {job}` while it waits'
+        self.fault(line, 'InJob', rule, text('stop'), command)
 
     def check_room(self, records: Records) -> None:
         """At a counted station the found loads that the desk has and the live jobs to it have
@@ -186,10 +217,9 @@ class CountFile(TableFile):
             here = sum(1 for load in loads if records.places[str(load)] != 'left')
             coming, capacity = records.reserved.get(station, 0), records.capacities.get(station)
             if capacity is not None and here + coming > capacity:
-                counts = f'found there: {here}; live jobs to it: {coming}'
-                stop = 'stop one of these jobs, or ' if here <= capacity else ''
-                remedy = stop + 'carry a load elsewhere and write it there'
-                rule = f'station {station} has room for {capacity}; {counts}'
+                counts = {'capacity': capacity, 'here': here, 'coming': coming}
+                rule = text('full', station=station, **counts)
+                remedy = text('carry.or.stop' if here <= capacity else 'carry')
                 self.fault(line, 'Full', rule, remedy)
 
 
@@ -198,10 +228,10 @@ def two_fields(fields: list[bytes]) -> str:
     if len(fields) == 1:
         mark = next((mark for mark in (b';', b'\t') if fields[0].count(mark) == 1), None)
         if mark is not None:
-            return f'write {shown(fields[0].replace(mark, b","))}'
+            return text('row', text=shown(fields[0].replace(mark, b',')))
         if is_name(fields[0].decode('latin-1')):
-            return f'write {fields[0].decode() + ","}, where no load was found there'
+            return text('empty', text=f'{fields[0].decode()},')
         return ''
     if any(fields[2:]):
-        return 'write one load a row, and nothing behind it'
-    return f'write {shown(b",".join(fields[:2]))}'
+        return text('one')
+    return text('row', text=shown(b','.join(fields[:2])))

@@ -1,5 +1,5 @@
-"""What all programs have in common as commands: their head, `--version`, and how they end if nobody
-reads what they print, if that can not be written, and by Ctrl-C."""
+"""Starts and ends the programs of the command line: their parsers with `--version`, and their
+status, even where nobody reads their output, it can not be written, or Ctrl-C ends them."""
 from __future__ import annotations
 
 import argparse
@@ -12,25 +12,26 @@ from collections.abc import Callable
 
 from .. import __version__
 
-ONE = 'nulvrader '  # how the name of a program begins that the one command runs
+ONE = 'nulvrader '  # how the name of a program begins that the command `nulvrader` runs
 VERSION = f'Nulvrader {__version__}'
 # The program of a desk: beside `tools/` in an installed package, and `./desk` in a checkout.
 PROGRAM = str(pathlib.Path(__file__).resolve().parents[3] / 'desk')
-CLOSED = 141  # the status of a program that wrote to a closed pipe, as shells have it
+CLOSED = 141  # the status of a program that has written to a closed pipe, as shells have it
 
 
 def program(name: str) -> str:
-    """Returns the name of a program: `nulvrader NAME` if the one command runs it."""
+    """Returns the name of a program: `nulvrader NAME` if the command `nulvrader` runs it."""
     return sys.argv[0] if sys.argv[0].startswith(ONE) else name
 
 
 def told(text: str) -> str:
-    """Returns a text with the programs named as they were called."""
+    """Returns a help text that names the programs as this one was called: `nulvrader ask` or
+    `tools/ask`."""
     return text.replace('tools/', ONE) if sys.argv[0].startswith(ONE) else text
 
 
 def add_version(parser: argparse.ArgumentParser) -> None:
-    """Adds `--version`."""
+    """Adds the option `--version`."""
     text = 'print the version, and end'
     parser.add_argument('-V', '--version', action='version', version=VERSION, help=text)
 
@@ -47,8 +48,8 @@ def parser(text: str | None, name: str | None = None) -> argparse.ArgumentParser
 
 
 def run(main: Callable[[], int | None]) -> int | str | None:
-    """Runs a program and returns its status. If nobody reads what it prints any more it ends
-    without a word; so it does by Ctrl-C."""
+    """Runs a program, and returns its status. If nobody reads its output any more, and by Ctrl-C,
+    it ends without a message."""
     status: int | str | None = None
     try:
         try:
@@ -71,13 +72,13 @@ def run(main: Callable[[], int | None]) -> int | str | None:
 
 
 def _flush() -> None:
-    """Writes what was printed, if standard output wasn't closed from the start."""
+    """Flushes standard output, unless it was closed from the start."""
     if sys.stdout is not None:
         sys.stdout.flush()
 
 
 def _write_nowhere(*files: int) -> None:
-    """Writes nothing of what is left, which Python does as it ends."""
+    """Discards the output that is not yet written, which Python would try to write as it ends."""
     nowhere = os.open(os.devnull, os.O_WRONLY)
     for file in files:
         os.dup2(nowhere, file)

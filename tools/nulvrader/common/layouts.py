@@ -1,5 +1,5 @@
-"""Layouts: the nodes, edges and stations of a warehouse, read from the file that `PUT /layout`
-takes, with each fault of it and its line, and the ways in it as a desk finds them."""
+"""Layouts: reads the nodes, edges and stations of a warehouse from the file that `PUT /layout`
+takes, names each fault of the file with its line, and finds routes as a desk does."""
 from __future__ import annotations
 
 import collections
@@ -18,7 +18,7 @@ REFUSALS = ('TooLarge', 'BadCsv', 'Limit', 'LayoutBad')
 
 
 class BadLayout(ValueError):
-    """A file that a desk refuses, with its faults. Its `str()` is the first of them."""
+    """A desk refuses the file, which has these faults. Its `str()` is the first of them."""
 
     def __init__(self, faults: list[Fault]):
         super().__init__(str(faults[0]))
@@ -27,7 +27,7 @@ class BadLayout(ValueError):
 
 @dataclass(frozen=True)
 class Edge:
-    """An edge leads from a node to another one, and not back."""
+    """An edge, which leads from a node to another one, and not back."""
 
     name: str
     start: str
@@ -36,7 +36,7 @@ class Edge:
 
 @dataclass(frozen=True)
 class Station:
-    """A station stands at a node and has room for `capacity` loads, 1 to 999."""
+    """A station, which is at a node and has room for `capacity` loads, 1 to 999."""
 
     name: str
     node: str
@@ -45,16 +45,16 @@ class Station:
 
 @dataclass(frozen=True)
 class Layout:
-    """A layout, all by name and in the order of their names."""
+    """A layout: its nodes, edges and stations by their names, in the order of the names."""
 
     nodes: tuple[str, ...]
     edges: dict[str, Edge]
     stations: dict[str, Station]
 
     def distances(self, target: str) -> dict[str, int]:
-        """Of each node from which a walk leads to this one, the least number of edges of such a
-        walk."""
-        into = ways_of((edge.finish, edge.start) for edge in self.edges.values())
+        """Returns the least number of edges of a walk from each node to `target`; nodes from which
+        no walk leads there are left out."""
+        into = neighbours_of((edge.finish, edge.start) for edge in self.edges.values())
         found, row = {target: 0}, [target]
         for node in row:
             for other in into.get(node, ()):
@@ -64,7 +64,8 @@ class Layout:
         return found
 
     def hops(self, start: str, target: str) -> int | None:
-        """The least number of edges of a walk, or None where there is none, or no such node."""
+        """Returns the least number of edges of a walk, or None where there is no walk or no such
+        node."""
         return (
             self.distances(target).get(start)
             if start in self.nodes and target in self.nodes
@@ -72,8 +73,8 @@ class Layout:
         )
 
     def route(self, start: str, target: str) -> list[str] | None:
-        """The edges that a desk takes: at each node the one of the least name whose end has one
-        edge less to go. None where `hops` is."""
+        """Returns the edges of the walk that a desk takes, or None where there is none. At each
+        node it takes the edge of the least name of those that shorten the rest of the walk."""
         if self.hops(start, target) is None:
             return None
         far = self.distances(target)
@@ -88,7 +89,7 @@ class Layout:
         return found
 
     def csv(self) -> bytes:
-        """The file that gives this layout."""
+        """Returns the layout as a file."""
         rows = ['kind,id,from,to', *(f'node,{node},,' for node in self.nodes)]
         rows += [f'edge,{edge.name},{edge.start},{edge.finish}' for edge in self.edges.values()]
         rows += [f'station,{at.name},{at.node},{at.capacity}' for at in self.stations.values()]
@@ -96,7 +97,7 @@ class Layout:
 
 
 def of_parts(nodes: Iterable[str], edges: Iterable[Edge], stations: Iterable[Station]) -> Layout:
-    """A layout of these, put in the order of their names."""
+    """Returns the layout of these parts, which may be in any order."""
     return Layout(
         tuple(sorted(nodes)),
         {edge.name: edge for edge in sorted(edges, key=lambda one: one.name)},
@@ -104,8 +105,8 @@ def of_parts(nodes: Iterable[str], edges: Iterable[Edge], stations: Iterable[Sta
     )
 
 
-def ways_of(pairs: Iterable[tuple[str, str]]) -> dict[str, list[str]]:
-    """By the first of each pair the second ones."""
+def neighbours_of(pairs: Iterable[tuple[str, str]]) -> dict[str, list[str]]:
+    """Returns the second node of each pair, by the first ones."""
     ways: dict[str, list[str]] = collections.defaultdict(list)
     for first, second in pairs:
         ways[first].append(second)
@@ -113,7 +114,7 @@ def ways_of(pairs: Iterable[tuple[str, str]]) -> dict[str, list[str]]:
 
 
 def read_layout(data: bytes) -> Layout:
-    """The layout of a file, or `BadLayout`."""
+    """Reads a layout file, or raises `BadLayout`."""
     file = LayoutFile(data)
     if file.faults:
         raise BadLayout(file.faults)
@@ -121,8 +122,9 @@ def read_layout(data: bytes) -> Layout:
 
 
 @dataclass(frozen=True)
-class Row:
-    """A row behind its kind and name: the number of its line and two fields."""
+class LayoutRow:
+    """A row of a layout file, without its kind and name: the number of its line and its last two
+    fields."""
 
     line: int
     start: bytes
@@ -130,11 +132,11 @@ class Row:
 
 
 class LayoutFile(TableFile):
-    """A layout file."""
+    """A layout file: its rows by kind and name, and its faults."""
 
     def __init__(self, data: bytes) -> None:
         super().__init__(data, REFUSALS)
-        self.rows: dict[str, dict[bytes, Row]] = {kind: {} for kind in MOST}
+        self.rows: dict[str, dict[bytes, LayoutRow]] = {kind: {} for kind in MOST}
         self.counts: collections.Counter[str] = collections.Counter()
         records = records_of(data)
         for line, fields in records[1:] if self.has_header(records) else records:
@@ -152,7 +154,7 @@ class LayoutFile(TableFile):
         self.faults.sort(key=lambda fault: fault.line or 0)
 
     def layout(self) -> Layout:
-        """The layout of a file without faults."""
+        """Returns the layout. The file must have no faults."""
         return of_parts(
             (name.decode() for name in self.rows['node']),
             (
@@ -166,7 +168,7 @@ class LayoutFile(TableFile):
         )
 
     def has_header(self, records: list[tuple[int, list[bytes]]]) -> bool:
-        """Whether the first record is no row, be it the header or something else in its place."""
+        """Whether the first record is not a row. Notes a fault unless it is the header."""
         line, fields = records[0] if records else (1, [])
         if fields == HEADER:
             return True
@@ -176,7 +178,7 @@ class LayoutFile(TableFile):
         return not (len(fields) == len(HEADER) and fields[0].decode('latin-1') in MOST)
 
     def read(self, line: int, fields: list[bytes]) -> None:
-        """A record that should be a row."""
+        """Reads a record as a row, and notes its faults."""
         if len(fields) != len(HEADER):
             count = f'{len(fields)} field{"s" * (len(fields) != 1)}'
             self.fault(line, 'BadCsv', f'{count}, and not the four of kind,id,from,to')
@@ -195,21 +197,21 @@ class LayoutFile(TableFile):
         }
         for of, field in parts.get(kind, [('name', name), ('node', start)]):
             if not is_named(field):
-                rule = 'the %s of the %s is %s, and no name: %s'
-                self.fault(line, 'BadCsv', rule % (of, kind, quoted(field), NAME_RULE))
+                rule = f'the {of} of the {kind} is {quoted(field)}, and no name: {NAME_RULE}'
+                self.fault(line, 'BadCsv', rule)
         if kind == 'node' and (start or finish):
             self.fault(line, 'BadCsv', f'node {called(name)} has something after its name')
         if kind == 'station' and not CAPACITY.fullmatch(finish):
-            rule = 'station %s has room for %s, and not for 1 to 999'
-            self.fault(line, 'BadCsv', rule % (called(name), quoted(finish)))
-        before = self.rows[kind].setdefault(name, Row(line, start, finish))
+            rule = f'station {called(name)} has room for {quoted(finish)}, and not for 1 to 999'
+            self.fault(line, 'BadCsv', rule)
+        before = self.rows[kind].setdefault(name, LayoutRow(line, start, finish))
         if before.line != line and is_named(name):
             self.fault(
                 line, 'LayoutBad', f'{kind} {called(name)} stands in line {before.line} already'
             )
 
     def check_rows(self) -> None:
-        """What the rows say together, of names that are names."""
+        """Notes where rows contradict one another, of those whose names are names."""
         for name, row in self.named('edge'):
             self.check_node(row.line, f'edge {name} leads from', row.start)
             self.check_node(row.line, f'edge {name} leads to', row.finish)
@@ -222,27 +224,27 @@ class LayoutFile(TableFile):
             if CAPACITY.fullmatch(row.finish) and int(row.finish) == 0:
                 self.fault(row.line, 'LayoutBad', f'station {name} has room for no load')
 
-    def named(self, kind: str) -> list[tuple[str, Row]]:
-        """The rows of a kind whose names are names."""
+    def named(self, kind: str) -> list[tuple[str, LayoutRow]]:
+        """Returns the rows of a kind whose names are names."""
         return [(called(name), row) for name, row in self.rows[kind].items() if is_named(name)]
 
     def check_node(self, line: int, what: str, node: bytes) -> None:
-        """Whether what a row names is a node."""
+        """Notes a fault where a row names a node that the layout doesn't have."""
         if is_named(node) and node not in self.rows['node']:
             self.fault(line, 'LayoutBad', f'{what} {called(node)}, which is no node')
 
     def lacking_walks(self) -> list[tuple[int, str]]:
-        """The stations between which no walk leads: the line of each, and from which or to
-        which."""
+        """Returns the stations that some others can't reach, or can't be reached from: the line of
+        each, and a sentence that names these others."""
         layout = self.layout()
         line_of = {name: row.line for name, row in self.named('station')}
         edges = layout.edges.values()
-        out = ways_of((edge.start, edge.finish) for edge in edges)
-        into = ways_of((edge.finish, edge.start) for edge in edges)
-        told = []
+        out = neighbours_of((edge.start, edge.finish) for edge in edges)
+        into = neighbours_of((edge.finish, edge.start) for edge in edges)
+        found = []
         for words, ways in (('no walk leads to it from', into), ('no walk leads from it to', out)):
             near = {
-                node: reached(node, ways)
+                node: reachable_from(node, ways)
                 for node in {station.node for station in layout.stations.values()}
             }
             for station in layout.stations.values():
@@ -254,8 +256,8 @@ class LayoutFile(TableFile):
                 if far:
                     more = f' and {len(far) - 5} more' if len(far) > 5 else ''
                     rule = f'station {station.name}: {words} {", ".join(far[:5])}{more}'
-                    told.append((line_of[station.name], rule))
-        return sorted(told)
+                    found.append((line_of[station.name], rule))
+        return sorted(found)
 
 
 def is_named(field: bytes) -> bool:
@@ -264,12 +266,13 @@ def is_named(field: bytes) -> bool:
 
 
 def called(name: bytes) -> str:
-    """A name as it is, and else in quotes."""
+    """Returns a field as it is if it is a name, else in quotes."""
     return name.decode() if is_named(name) else quoted(name)
 
 
-def reached(node: str, ways: Mapping[str, list[str]]) -> set[str]:
-    """The nodes to which these ways lead from a node."""
+def reachable_from(node: str, ways: Mapping[str, list[str]]) -> set[str]:
+    """Returns the nodes that can be reached from a node, with itself, by the neighbours of
+    each."""
     found, left = {node}, [node]
     while left:
         for there in ways.get(left.pop(), ()):

@@ -1,5 +1,5 @@
-"""Names: of loads, jobs, stations, vehicles and all else, and references that are made where a
-person gives none; and the values of calls, which are checked before they are sent."""
+"""Checks names, the keys of vehicles and the numbers of calls before they are sent, and makes
+references for people who give none."""
 from __future__ import annotations
 
 import datetime
@@ -11,16 +11,16 @@ from .text import shown
 
 NAME_RULE = '1 to 32 of A-Z a-z 0-9 _ . : -'
 NAME = re.compile('[A-Za-z0-9_.:-]{1,32}')
-LETTERS = 'abcdefghijkmnpqrstuvwxyz23456789'  # none that is easily taken for another one
+LETTERS = 'abcdefghijkmnpqrstuvwxyz23456789'  # without those that look like another one
 LARGEST = 4294967295  # the largest number of a call
 
 
 class BadValue(ValueError):
-    """A value that no call takes, so that nothing is sent. Its `str()` is a sentence."""
+    """No call takes the value, so nothing is sent. Its `str()` is a sentence."""
 
 
 class BadName(BadValue):
-    """A text that should be a name and is none. Its `str()` is a sentence."""
+    """A text that should be a name is none. Its `str()` is a sentence."""
 
 
 def is_name(text: object) -> bool:
@@ -29,15 +29,14 @@ def is_name(text: object) -> bool:
 
 
 def natural(name: str) -> tuple[list[str | int], str]:
-    """What names are sorted by for people: the numbers in them by their values, so that `L2` comes
-    before `L10`."""
+    """Returns the key by which names are sorted for people: the numbers in them count by their
+    values, so that `L2` comes before `L10`."""
     parts = re.split('([0-9]+)', name)
     return [int(part) if turn % 2 else part for turn, part in enumerate(parts)], name
 
 
 def quoted(value: object) -> str:
-    """Returns a value that is wrong, as a sentence shows it: a text in quotes, cut where it is
-    long."""
+    """Returns a wrong value as a sentence shows it: a text in quotes, cut where it is long."""
     text = ascii(value[:100]) if isinstance(value, (str, bytes)) else ascii_of(value)
     return shown(text, 80)
 
@@ -52,16 +51,16 @@ def ascii_of(value: object) -> str:
 
 
 def checked(text: object, what: str = 'name') -> str:
-    """The text itself where it is a name, else `BadName`. `what` says what it should name, as in
-    `load`."""
+    """Returns a name, or raises `BadName` where the text is none. `what` says what it should name,
+    as in `load`."""
     if is_name(text):
         return str(text)
     raise BadName(f'{quoted(text)} is no name for a {what}: a name is {NAME_RULE}')
 
 
 def checked_number(value: object, what: str = 'number') -> int:
-    """The number itself where it is a whole number that a call takes, else `BadValue`. `what` says
-    what it is, as in `edges`."""
+    """Returns a number, or raises `BadValue` where it is not a whole one that a call takes. `what`
+    says what it counts, as in `edges`."""
     if type(value) is int and 0 <= value <= LARGEST:
         return value
     raise BadValue(f'{quoted(value)} is no number of {what}: it is a whole number, 0 to {LARGEST}')
@@ -69,15 +68,15 @@ def checked_number(value: object, what: str = 'number') -> int:
 
 @dataclass(frozen=True, order=True)
 class VehicleKey:
-    """What names a vehicle: manufacturer, then serial number. The order is that of the desk's
-    reports."""
+    """The key of a vehicle: its manufacturer and its serial number. Keys are in the order of the
+    desk's reports."""
 
     manufacturer: str
     serial: str
 
     @classmethod
     def parse(cls, text: object) -> VehicleKey:
-        """The key that is written `KIT/0001`. Anything else is a `BadName`."""
+        """Reads a key that is written as `KIT/0001`. Raises `BadName` for any other text."""
         manufacturer, slash, serial = text.partition('/') if isinstance(text, str) else ('', '', '')
         if not (slash and is_name(manufacturer) and is_name(serial)):
             rule = f'write MANUFACTURER/SERIAL, as KIT/0001, each {NAME_RULE}'
@@ -89,7 +88,7 @@ class VehicleKey:
 
 
 def checked_vehicle(key: object) -> VehicleKey:
-    """The key itself where both of its parts are names, else `BadName`."""
+    """Returns a key, or raises `BadName` where one of its parts is not a name."""
     if not isinstance(key, VehicleKey):
         raise BadName(f'{quoted(key)} is no vehicle')
     checked(key.manufacturer, 'manufacturer')
@@ -98,9 +97,9 @@ def checked_vehicle(key: object) -> VehicleKey:
 
 
 def new_reference(now: datetime.datetime | None = None) -> str:
-    """A reference that nobody has used: the day and the time in UTC, then four letters by chance,
-    as in `2026-11-28-142501-k3fa`. The day stands in front, so that it is free also after an older
-    copy was put back."""
+    """Returns a reference that nobody has used: the day and the time in UTC, and four random
+    letters, as in `2026-11-28-142501-k3fa`. Since it begins with the day, it is unused even after
+    an older copy was put back."""
     moment = now or datetime.datetime.now(datetime.timezone.utc)
     letters = ''.join(secrets.choice(LETTERS) for _ in range(4))
     return f'{moment.strftime("%Y-%m-%d-%H%M%S")}-{letters}'

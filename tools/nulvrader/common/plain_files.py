@@ -1,4 +1,4 @@
-"""Opens regular files alone. The opening of a FIFO waits for a writer, and a device such as
+"""Opens regular files, and nothing else: opening a FIFO waits for a writer, and a device such as
 /dev/zero has no end."""
 from __future__ import annotations
 
@@ -12,7 +12,7 @@ from .text import shown
 
 TEXT = 1_048_576  # the most bytes that are read of a text: 16 times what a desk takes as a body
 PATH = 4096  # the most characters of a path
-# The descriptors that a shell has opened for this program, as `/dev/stdin` or `<(..)`.
+# The paths of descriptors that a shell has opened for this program, as for `<(..)`.
 OWN = re.compile('/dev/stdin|(?:/dev/fd|/proc/self/fd)/([0-9]{1,9})')
 KINDS = {
     stat.S_IFDIR: 'a folder',
@@ -24,7 +24,7 @@ KINDS = {
 
 
 class NotPlain(OSError):
-    """A file that is not read: it is no regular file, or is too large. `strerror` says why, and
+    """A file is not read, since it is not a regular file or is too large. `strerror` says why, and
     `str()` is a sentence that begins with the file's name."""
 
     def __init__(self, path: str, why: str) -> None:
@@ -35,7 +35,8 @@ class NotPlain(OSError):
 
 
 def check(path: str) -> None:
-    """Checks that a path leads to a regular file or to nothing. A link is followed."""
+    """Raises `NotPlain` where a path leads to something else than a regular file or nothing. A link
+    is followed."""
     try:
         mode = os.stat(path).st_mode
     except FileNotFoundError:
@@ -44,8 +45,8 @@ def check(path: str) -> None:
 
 
 def opened(path: str) -> BinaryIO:
-    """Opens a regular file to be read. If it is replaced by something else meanwhile, the opening
-    does not wait either."""
+    """Opens a regular file for reading. It never waits, even if something else is put in the place
+    of the file meanwhile."""
     check(path)
     handle = os.open(path, os.O_RDONLY | os.O_NONBLOCK | os.O_NOCTTY | os.O_CLOEXEC)
     try:
@@ -57,8 +58,8 @@ def opened(path: str) -> BinaryIO:
 
 
 def read_text(path: str, most: int = TEXT) -> bytes:
-    """Reads a text of at most `most` bytes from a regular file, or from a pipe, a socket or a
-    terminal that the shell has opened for this program."""
+    """Reads a text from a regular file, or from a pipe, a socket or a terminal that the shell has
+    opened for this program. Raises `NotPlain` for more than `most` bytes."""
     with _opened_text(path) as file:
         data = file.read(most + 1)
     if len(data) > most:
@@ -67,6 +68,7 @@ def read_text(path: str, most: int = TEXT) -> bytes:
 
 
 def _opened_text(path: str) -> BinaryIO:
+    """Opens what `read_text` reads."""
     own = OWN.fullmatch(path)
     if own is None:
         return opened(path)
@@ -82,7 +84,7 @@ def _opened_text(path: str) -> BinaryIO:
 
 
 def check_mode(path: str, mode: int) -> None:
-    """Checks that the mode of what a path led to is that of a regular file."""
+    """Raises `NotPlain` where the mode of what a path led to is not that of a regular file."""
     if not stat.S_ISREG(mode):
         kind = KINDS.get(stat.S_IFMT(mode), 'something else')
         raise NotPlain(path, f'it is {kind}, and not a regular file')

@@ -6,9 +6,26 @@ import csv
 import io
 from collections.abc import Sequence
 from dataclasses import dataclass
+from typing import Any
 
 BODY = 65536  # bytes of the largest body
+TOO_LARGE = 'the file has {size} bytes, and a body at most {most}'
 MARK = b'\xef\xbb\xbf'
+
+
+class Text(str):
+    """A text with a name, and the values that stand in it, so that a page can say the same in
+    another language."""
+
+    name: str
+    values: dict[str, Any]
+
+    @classmethod
+    def of(cls, name: str, text: str, /, **values: Any) -> Text:
+        """Returns the text with these values in the place of their names in braces."""
+        made = cls(text.format(**values))
+        made.name, made.values = name, values
+        return made
 
 
 @dataclass(frozen=True)
@@ -16,7 +33,7 @@ class Fault:
     """What is wrong with a file: the number of the line, or none where it is of the whole file, the
     refusal by which a desk answers it, the rule in words, and what to do, if more than the rule
     says is to be said: `remedy`, and `command` where a program of the command line does it. Its
-    `str()` is for who has the command line."""
+    `str()` is for who has the command line. In a stocktake rule and remedy are a `Text`."""
 
     line: int | None
     refusal: str
@@ -25,17 +42,9 @@ class Fault:
     command: str = ''
 
     def __str__(self) -> str:
-        return self._joined(self.refusal, self.rule, self.command or self.remedy)
-
-    def on_page(self) -> str:
-        """The fault for who looks at a page: without the refusal's name, and without programs."""
-        text = self._joined(self.rule, self.remedy)
-        return f'{text[:1].upper()}{text[1:]}.'
-
-    def _joined(self, *parts: str) -> str:
-        """The line and what is told of it."""
         line = f'line {self.line}' if self.line else ''
-        return ': '.join(part for part in (line, *parts) if part)
+        parts = (line, self.refusal, self.rule, self.command or self.remedy)
+        return ': '.join(part for part in parts if part)
 
 
 class TableFile:
@@ -48,20 +57,20 @@ class TableFile:
         self.size, self.refusals = len(data), refusals
         self.faults: list[Fault] = []
         if self.size > BODY:
-            rule = f'the file has {self.size} bytes, and a body at most {BODY}'
+            rule = Text.of('size', TOO_LARGE, size=self.size, most=BODY)
             self.fault(None, 'TooLarge', rule, if_large)
 
     def fault(
         self, line: int | None, refusal: str, rule: str, remedy: str = '', command: str = ''
     ) -> None:
-        """Notes one."""
+        """Notes a fault."""
         self.faults.append(Fault(line, refusal, rule, remedy, command))
 
     def answer(self) -> str | None:
-        """What a desk answers, one without a layout where this is a layout: the first refusal, or
-        none."""
-        told = {fault.refusal for fault in self.faults}
-        return next((refusal for refusal in self.refusals if refusal in told), None)
+        """Returns the refusal that a desk answers, to a layout one that has none yet, or None where
+        the desk takes the file."""
+        found = {fault.refusal for fault in self.faults}
+        return next((refusal for refusal in self.refusals if refusal in found), None)
 
 
 def records_of(data: bytes) -> list[tuple[int, list[bytes]]]:
@@ -80,7 +89,7 @@ def records_of(data: bytes) -> list[tuple[int, list[bytes]]]:
 
 
 def quoted(field: bytes) -> str:
-    """A field in quotes, and all that is not ASCII in it by its code."""
+    """Returns a field in quotes, in which characters that are not ASCII are escapes."""
     try:
         text = field.decode()
     except UnicodeDecodeError:
@@ -89,6 +98,6 @@ def quoted(field: bytes) -> str:
 
 
 def said(fields: Sequence[bytes]) -> str:
-    """The fields of a record as they stand in a file, cut where they are long; `missing` where
-    there is no record."""
+    """Returns the fields of a record as they stand in a file, cut where they are long, or `missing`
+    where there is no record."""
     return ','.join(quoted(field)[1:-1] for field in fields)[:60] if fields else 'missing'

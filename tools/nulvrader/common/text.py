@@ -1,10 +1,10 @@
-"""Shows text from elsewhere, such as an answer, the name of a file or a row of a table, so that a
-terminal can print it."""
+"""Makes text of others, such as an answer, the name of a file or a row of a table, fit to be
+printed on a terminal."""
 from __future__ import annotations
 
 import unicodedata
 
-MOST = 200  # the most characters of a text that are shown
+MOST = 200  # the most characters that are shown of a text
 CUT = '..'
 # Letters that print as a blank or as nothing: fillers of Hangul, and the empty Braille pattern.
 BLANK = frozenset('\u115f\u1160\u2800\u3164\uffa0')

@@ -1,16 +1,17 @@
-"""Checks the body of a request against docs/openapi.json before it is sent. A desk ignores a member
-that it does not know, and of a body that it refuses it names no member; here each fault is told in
-a sentence."""
+"""Checks the body of a request against docs/openapi.json before it is sent, and names each fault in
+a sentence. A desk itself ignores members that it does not know, and names no member where it
+refuses a body."""
 from __future__ import annotations
 
 import difflib
 import json
 import os
 import re
-from collections.abc import Iterable, Mapping
+from collections.abc import Iterable, Iterator, Mapping
 from dataclasses import dataclass
-from typing import Any
+from typing import TypedDict, Union
 
+from .members import JsonObject
 from ..common.names import NAME_RULE
 
 DOCUMENT = os.path.join(
@@ -25,62 +26,88 @@ KINDS: dict[str, tuple[type, str]] = {
 }
 # Schemas whose faults have words of their own.
 WORDS = {'Name': f'no name: {NAME_RULE}', 'Number': 'no whole number from 0 to 4294967295'}
-OPEN = 'State'  # the schema of which a body may have members that are none of the schema's
+OPEN = 'State'  # the schema whose bodies may have members that it does not name
+
+Schema = TypedDict(
+    'Schema',
+    {
+        '$ref': str,
+        'oneOf': list['Schema'],
+        'type': Union[str, list[str]],
+        'enum': list[object],
+        'pattern': str,
+        'minimum': int,
+        'maximum': int,
+        'properties': dict[str, 'Schema'],
+        'required': list[str],
+        'items': 'Schema',
+    },
+    total=False,
+)
+
+
+class Media(TypedDict):
+    """A media type of a request's body."""
+
+    schema: Schema
+
+
+class RequestBody(TypedDict, total=False):
+    """The body of a request, by its media types."""
+
+    content: dict[str, Media]
+
+
+class OperationItem(TypedDict, total=False):
+    """A call as the description has it, as far as it is read here."""
+
+    requestBody: RequestBody
 
 
 class NoDescription(Exception):
-    """There is no docs/openapi.json to check by."""
+    """There is no docs/openapi.json to check by, or it is no description."""
 
 
 @dataclass(frozen=True)
 class Operation:
-    """A call of the description: its method, its path with names in braces, the type of its body
-    and the schema of that, and the schema's name. A call without a body has no type."""
+    """A call of the description: its method, its path with names in braces, and the media type, the
+    schema and the schema's name of its body. A call without a body has no media type."""
 
     method: str
     path: str
     media: str | None
-    schema: Mapping[str, Any]
+    schema: Schema
     name: str
 
 
 def likely(word: str, words: Iterable[str], least: float = 0.6) -> str | None:
-    """Of some words the one that was probably meant, where it is alike by at least so much of 1."""
+    """Returns the word that was probably meant, if one is alike by at least `least` (0 to 1)."""
     by_lower = {one.lower(): one for one in words}
     near = difflib.get_close_matches(word.lower(), list(by_lower), 1, least)
     return by_lower[near[0]] if near else None
 
 
 def hint(word: str, words: Iterable[str], least: float = 0.6) -> str:
-    """What was probably meant, as the end of a sentence, or nothing."""
+    """Returns the word that was probably meant as the end of a sentence, or ''."""
     meant = likely(word, words, least)
     return f'; {meant} was probably meant' if meant else ''
 
 
 def as_json(value: object) -> str:
-    """A value as JSON, cut where it is long."""
+    """Returns a value as JSON, cut where it is long."""
     text = json.dumps(value)
     return text if len(text) <= 60 else text[:57] + '...'
 
 
 class Description:
-    """What docs/openapi.json says of the bodies of requests. Of its words it knows those that are
-    there."""
+    """The calls and the schemas of docs/openapi.json. It checks by those words of JSON Schema that
+    this document has."""
 
-    def __init__(self, document: Mapping[str, Any]) -> None:
-        self.schemas: Mapping[str, Any] = document['components']['schemas']
-        self.operations = []
-        for path, item in document['paths'].items():
-            for method in ('get', 'put', 'post', 'delete'):
-                if method in item:
-                    content: dict[str, Any] = item[method].get('requestBody', {}).get('content', {})
-                    media = next(iter(content), None)
-                    schema: dict[str, Any] = content[media]['schema'] if media else {}
-                    name = str(schema.get('$ref', '')).rpartition('/')[2]
-                    self.operations.append(Operation(method.upper(), path, media, schema, name))
+    def __init__(self, operations: list[Operation], schemas: Mapping[str, Schema]) -> None:
+        self.operations, self.schemas = operations, schemas
 
     def operation(self, method: str, target: str) -> Operation | None:
-        """The call of a request, if there is one."""
+        """Returns the call that a request is, if it is one."""
         for operation in self.operations:
             pattern = re.sub(r'\\\{\w+\\\}', '[A-Za-z0-9_.:-]{1,32}', re.escape(operation.path))
             if operation.method == method and re.fullmatch(pattern, target.partition('?')[0]):
@@ -88,19 +115,16 @@ class Description:
         return None
 
     def unknown(self, method: str, target: str) -> str:
-        """What is wrong with a request that is no call."""
+        """Returns what is wrong with a request that is no call."""
         for operation in self.operations:
             if self.operation(operation.method, target):
                 return f'{method} {target}: the method of this path is {operation.method}'
         known = [f'{operation.method} {operation.path}' for operation in self.operations]
-        return '%s %s: there is no such call%s' % (
-            method,
-            target,
-            hint(f'{method} {target}', known),
-        )
+        meant = hint(f'{method} {target}', known)
+        return f'{method} {target}: there is no such call{meant}'
 
     def faults(self, operation: Operation, body: bytes) -> list[str]:
-        """What is wrong with the JSON body of a call."""
+        """Returns what is wrong with the JSON body of a call."""
         try:
             value = json.loads(body.decode())
             found = self.check(value, operation.schema, '', operation.name == OPEN)
@@ -108,10 +132,9 @@ class Description:
         except (ValueError, RecursionError) as fault:
             return [f'the body is no JSON: {fault}']
 
-    def check(
-        self, value: Any, schema: Mapping[str, Any], at: str, is_open: bool = False
-    ) -> list[str]:
-        """The faults of a value that is not null."""
+    def check(self, value: object, schema: Schema, at: str, is_open: bool = False) -> list[str]:
+        """Returns the faults of a value that is not null. `at` says where it stands in the body,
+        and with `is_open` an object may have members that the schema does not name."""
         if '$ref' in schema:
             name = schema['$ref'].rpartition('/')[2]
             found = self.check(value, self.schemas[name], at, is_open)
@@ -132,23 +155,27 @@ class Description:
                 f'{before(at)}{as_json(value)} is none of'
                 f' {", ".join(known)}{hint(str(value), known)}'
             )
-        if 'pattern' in schema and not re.search(
-            schema['pattern'].replace('$', r'\Z'), value, re.ASCII
-        ):
-            found.append(f'{before(at)}{as_json(value)} does not fit {schema["pattern"]}')
-        if 'minimum' in schema and not schema['minimum'] <= value <= schema['maximum']:
-            found.append(
-                f'{before(at)}{value} is not from {schema["minimum"]} to {schema["maximum"]}'
-            )
+        if isinstance(value, str) and 'pattern' in schema:
+            if not re.search(schema['pattern'].replace('$', r'\Z'), value, re.ASCII):
+                found.append(f'{before(at)}{as_json(value)} does not fit {schema["pattern"]}')
+        if isinstance(value, int) and 'minimum' in schema:
+            least, most = schema['minimum'], schema['maximum']
+            if not least <= value <= most:
+                found.append(f'{before(at)}{value} is not from {least} to {most}')
+        return [*found, *self.check_parts(value, schema, at, is_open)]
+
+    def check_parts(self, value: object, schema: Schema, at: str, is_open: bool) -> list[str]:
+        """Returns the faults of the members of an object, or of the items of an array."""
         if isinstance(value, dict) and 'properties' in schema:
-            found += self.check_members(value, schema, at, is_open)
+            return self.check_members(value, schema, at, is_open)
+        found = []
         if isinstance(value, list) and 'items' in schema:
             for number, item in enumerate(value):
                 found += self.check(item, schema['items'], f'{at}[{number}]', is_open)
         return found
 
-    def check_kind(self, value: Any, kinds: list[str], at: str) -> list[str]:
-        """Whether a value is of one of these kinds; all are fine where there are none."""
+    def check_kind(self, value: object, kinds: list[str], at: str) -> list[str]:
+        """Returns the fault of a value that is of none of these kinds. No kinds allow any value."""
         if kinds == ['null']:
             return [f'{before(at)}it has to be left out']
         for kind in kinds:
@@ -161,10 +188,8 @@ class Description:
         wanted = ' or '.join(KINDS[kind][1] for kind in kinds if kind != 'null')
         return [f'{before(at)}{as_json(value)} is not {wanted}'] if kinds else []
 
-    def check_members(
-        self, value: dict[str, Any], schema: Mapping[str, Any], at: str, is_open: bool
-    ) -> list[str]:
-        """The faults of an object: a member that is null counts as absent."""
+    def check_members(self, value: JsonObject, schema: Schema, at: str, is_open: bool) -> list[str]:
+        """Returns the faults of an object's members. A member that is null counts as absent."""
         present = {name: one for name, one in value.items() if one is not None}
         found = []
         absent = [name for name in schema['properties'] if name not in present]
@@ -186,12 +211,13 @@ class Description:
 
 
 def before(at: str) -> str:
-    """What stands before a fault: where it is."""
+    """Returns where a fault is, as the beginning of its sentence."""
     return f'{at}: ' if at else ''
 
 
-def fractions(value: Any, at: str) -> list[str]:
-    """All numbers of a body have to be whole, also those that the desk does not look at."""
+def fractions(value: object, at: str) -> list[str]:
+    """Returns the faults of numbers that are not whole. A desk refuses them even in members that it
+    does not read."""
     if isinstance(value, float):
         return [f'{before(at)}{as_json(value)} is no whole number']
     if isinstance(value, dict):
@@ -207,12 +233,26 @@ def fractions(value: Any, at: str) -> list[str]:
     return []
 
 
+def operations_of(path: str, item: Mapping[str, OperationItem]) -> Iterator[Operation]:
+    """Yields the calls of a path of the description."""
+    for method in ('get', 'put', 'post', 'delete'):
+        if method in item:
+            content = item[method].get('requestBody', {}).get('content', {})
+            media = next(iter(content), None)
+            schema = content[media]['schema'] if media else Schema()
+            name = schema.get('$ref', '').rpartition('/')[2]
+            yield Operation(method.upper(), path, media, schema, name)
+
+
 def description(path: str = DOCUMENT) -> Description:
-    """The description that lies beside the programs, or `NoDescription`."""
+    """Reads the description that lies beside the programs. Raises `NoDescription`."""
     try:
         with open(path) as file:
-            return Description(json.load(file))
-    except (OSError, ValueError) as fault:
+            document = json.load(file)
+        paths: Mapping[str, Mapping[str, OperationItem]] = document['paths']
+        operations = [one for path, item in paths.items() for one in operations_of(path, item)]
+        return Description(operations, document['components']['schemas'])
+    except (OSError, ValueError, LookupError, TypeError, AttributeError) as fault:
         raise NoDescription(
             f'{os.path.normpath(path)} can not be read, so no body is checked: {fault}'
         ) from None

@@ -10,14 +10,40 @@ from ..common.text import shown, shown_lines
 SENTENCE = 500  # the most characters of a sentence
 
 
+# Why no answer came, by a name, with the values of the sentence in braces.
+WHY = {
+    'certificate': 'its certificate is not trusted: {why}',
+    'nobody.path': 'no program listens there: is the desk started, and at this path?',
+    'nobody.port': 'no program listens there: is the desk started, and on this port?',
+    'forbidden': 'this user may not connect: only the group of the socket may',
+    'late.answer': 'no whole answer came within {seconds} seconds',
+    'late.connection': 'no connection was made within {seconds} seconds',
+    'cut': 'the connection was closed before the answer arrived: {why}',
+    'other': '{why}',
+}
+
+
 class NoAnswer(Exception):
     """No answer of a desk has come. `may_be_done` says that the request may have reached the desk,
     so that a call may have been carried out. Its `str()` is a sentence that a terminal can print.
-    """
+    `name` is one of `WHY`, and `values` are those of its sentence."""
 
-    def __init__(self, sentence: str, may_be_done: bool):
+    def __init__(
+        self,
+        sentence: str,
+        may_be_done: bool,
+        name: str = 'other',
+        values: Mapping[str, str] | None = None,
+    ):
         super().__init__(shown(sentence, SENTENCE))
-        self.may_be_done = may_be_done
+        self.may_be_done, self.name = may_be_done, name
+        self.values = {'why': str(self)} if values is None else dict(values)
+
+    @classmethod
+    def at(cls, address: str, may_be_done: bool, name: str, **values: str) -> NoAnswer:
+        """Returns one that says of an address why none came from there."""
+        sentence = f'{address}: {WHY[name].format(**values)}'
+        return cls(sentence, may_be_done, name, {'address': address, **values})
 
 
 class NotADesk(NoAnswer):
@@ -26,6 +52,7 @@ class NotADesk(NoAnswer):
 
     def __init__(self, why: str, may_be_done: bool = False):
         super().__init__(f'What answers there is no desk: {why}', may_be_done)
+        self.why = shown(why, SENTENCE)
 
 
 class Refused(Exception):

@@ -1,7 +1,7 @@
 """Reads the exports of the loads, the live jobs, the vehicles and the layout (docs/PROFILE.md,
-*Reports and exports*). A text that is no such export, or contradicts itself, is a `BadReport`. An
-export has no last line of its own: one that was cut between two rows looks whole, but for the
-length of the answer."""
+*Reports and exports*). Raises `BadReport` for a text that is no such export or contradicts itself.
+An export has no last line of its own: of one that was cut between two rows only the length of the
+answer shows it."""
 from __future__ import annotations
 
 import re
@@ -36,8 +36,8 @@ VEHICLE = re.compile(
 
 
 def read_loads(export: bytes) -> dict[str, str]:
-    """Returns the place of each load, those that left too, as `GET /loads/{load}` has it: `station
-    A`."""
+    """Reads the place of each load, even of those that have left, as `GET /loads/{load}` has it:
+    `station A`."""
     what = 'an export of loads'
     found: dict[str, str] = {}
     places: dict[str, str] = {}  # each once, since many loads are at one
@@ -52,19 +52,19 @@ def read_loads(export: bytes) -> dict[str, str]:
 
 
 def read_jobs(export: bytes) -> dict[str, Job]:
-    """Returns the live jobs by their names, in the order of these. A load has one of them at most,
-    and a vehicle one order."""
+    """Reads the live jobs by their names, in the order of the names. A load has at most one of
+    them, and a vehicle at most one order."""
     what = 'an export of jobs'
     found: dict[str, Job] = {}
     loads: set[str] = set()
     orders: dict[str, VehicleKey] = {}
-    riders: dict[VehicleKey, str] = {}
+    carriers: dict[VehicleKey, str] = {}
     last = ''
     for line, fields in _rows(export, JOBS_HEADER, JOB, what):
         name, load, origin, target, manufacturer, serial, order = fields
         key = VehicleKey(manufacturer, serial) if order else None
         job = Job(name, load, origin, target, key, order)
-        if key and (orders.setdefault(order, key), riders.setdefault(key, order)) != (key, order):
+        if key and (orders.setdefault(order, key), carriers.setdefault(key, order)) != (key, order):
             raise BadReport(f'{what} has vehicle {key} or order {order} twice')
         if name <= last or load in loads or origin == target:
             raise no_line(what, line)
@@ -75,8 +75,8 @@ def read_jobs(export: bytes) -> dict[str, Job]:
 
 
 def read_vehicles(export: bytes) -> dict[VehicleKey, VehicleRow]:
-    """Returns all vehicles by their keys, in the order of these. No two stand at one node or have
-    one order."""
+    """Reads the vehicles by their keys, in the order of the keys. No two stand at one node or have
+    the same order."""
     what = 'an export of vehicles'
     found: dict[VehicleKey, VehicleRow] = {}
     nodes: set[str] = set()
@@ -95,7 +95,7 @@ def read_vehicles(export: bytes) -> dict[VehicleKey, VehicleRow]:
 
 
 def _vehicle(fields: tuple[str, ...]) -> VehicleRow:
-    """Returns a vehicle of the fields of its row."""
+    """Reads a vehicle from the fields of its row."""
     manufacturer, serial, node, capacity, ready, paused, astray, header, pending = fields[:9]
     order, sent, confirmed, released, edges, seen, *rest = fields[9:]
     return VehicleRow(
@@ -118,11 +118,12 @@ def _vehicle(fields: tuple[str, ...]) -> VehicleRow:
 
 
 def _number(field: str | None) -> int | None:
+    """Reads a number, or None where the field is empty."""
     return None if field is None else int(field)
 
 
 def _fits(row: VehicleRow) -> bool:
-    """Whether what is told of a vehicle fits together."""
+    """Whether the fields of a vehicle agree with each other."""
     numbers = (row.header or 0, row.sent or 0)
     way = (row.seen or 0, row.released or 0, row.edges or 0, MOST_EDGES)
     return (
@@ -135,7 +136,7 @@ def _fits(row: VehicleRow) -> bool:
 
 
 def read_layout(export: bytes) -> Layout | None:
-    """Returns the layout, or None where the desk has none yet."""
+    """Reads the layout; None where the desk has none yet."""
     if export == f'{LAYOUT_HEADER}\n'.encode():
         return None
     # The largest file that a desk takes may lack its last line end, which an export has.
@@ -151,7 +152,7 @@ def read_layout(export: bytes) -> Layout | None:
 
 
 def check_loads(export: bytes) -> bytes:
-    """Returns an export of loads that begins and ends as one does, else raises `BadReport`."""
+    """Returns an export of loads, and raises `BadReport` where its beginning or end is none."""
     if not export.startswith(f'{LOADS_HEADER}\n'.encode()) or not export.endswith(b'\n'):
         raise BadReport('an export of loads lacks its header, or the end of its last row')
     return export
@@ -165,7 +166,7 @@ def _rows(
     if next(lines, None) != header:
         raise BadReport(f'{what} lacks its header')
     for line in lines:
-        said = row.fullmatch(line)
-        if said is None:
+        fields = row.fullmatch(line)
+        if fields is None:
             raise no_line(what, line)
-        yield line, said.groups()
+        yield line, fields.groups()

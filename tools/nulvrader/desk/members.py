@@ -1,10 +1,10 @@
-"""Reads the JSON of a desk's answers. What no desk writes is a `NotADesk`."""
+"""Reads the JSON of a desk's answers. Raises `NotADesk` for what no desk writes."""
 from __future__ import annotations
 
 import json
 import re
 from collections.abc import Collection
-from typing import Any, NoReturn
+from typing import NoReturn
 
 from .errors import NotADesk
 from ..common.names import LARGEST, BadName, VehicleKey, is_name
@@ -14,10 +14,12 @@ from ..common.text import shown
 TEXT = re.compile(rb'[\t\n\r -\[\]-~]*')
 DIGITS = 20  # the most digits of a number
 
+JsonObject = dict[str, object]  # an object of JSON, by its members
 
-def read_object(body: bytes, may_be_done: bool = False) -> dict[str, Any]:
-    """Returns the JSON object of an answer. No member stands in it twice, and its numbers are
-    whole. `may_be_done` is noted of the fault."""
+
+def read_object(body: bytes, may_be_done: bool = False) -> JsonObject:
+    """Reads the JSON object of an answer. No member stands in it twice, and its numbers are whole.
+    `may_be_done` goes into the exception."""
     if not TEXT.fullmatch(body):
         raise NotADesk('its answer has bytes that no desk writes', may_be_done)
     try:
@@ -35,7 +37,7 @@ def read_object(body: bytes, may_be_done: bool = False) -> dict[str, Any]:
     return value
 
 
-def _object(pairs: list[tuple[str, Any]]) -> dict[str, Any]:
+def _object(pairs: list[tuple[str, object]]) -> JsonObject:
     """Returns an object, or raises ValueError where a member stands twice."""
     found = dict(pairs)
     if len(found) != len(pairs):
@@ -56,20 +58,21 @@ def _no_number(text: str) -> NoReturn:
 
 
 class Members:
-    """The members of an object of an answer, each read by the type that it must have. A member that
-    is missing or has another type is a `NotADesk`, for which `may_be_done` is noted."""
+    """Reads the members of an object of an answer. Each method returns a member of one type, and
+    raises `NotADesk` where the member is missing or has another type. `may_be_done` goes into the
+    exception."""
 
     def __init__(self, value: object, may_be_done: bool = False) -> None:
         self._may_be_done = may_be_done
         if not isinstance(value, dict):
-            raise NotADesk(f'where an object should be it says {_said(value)}', may_be_done)
+            raise NotADesk(f'where an object should be it says {_shown(value)}', may_be_done)
         self._value = value
 
     def wrong(self, member: str, value: object) -> NotADesk:
-        """Returns the fault of a member with a value that no desk writes."""
-        return NotADesk(f'its member {member} is {_said(value)}', self._may_be_done)
+        """Returns the exception for a member with a value that no desk writes."""
+        return NotADesk(f'its member {member} is {_shown(value)}', self._may_be_done)
 
-    def any(self, member: str) -> Any:
+    def any(self, member: str) -> object:
         """Returns a member of any type."""
         if member not in self._value:
             raise NotADesk(f'the member {member} is missing', self._may_be_done)
@@ -128,7 +131,7 @@ class Members:
             raise self.wrong(member, value)
         return value
 
-    def items(self, member: str) -> list[Any]:
+    def items(self, member: str) -> list[object]:
         """Returns a list."""
         value = self.any(member)
         if not isinstance(value, list):
@@ -136,7 +139,7 @@ class Members:
         return value
 
     def objects(self, member: str) -> list[Members]:
-        """Returns the objects of a list."""
+        """Returns the members of each object of a list."""
         return [Members(item, self._may_be_done) for item in self.items(member)]
 
     def vehicle(self) -> VehicleKey:
@@ -158,13 +161,14 @@ class Members:
         raise self.wrong(member, value)
 
     def same(self, member: str, value: object, wanted: object) -> None:
-        """Raises `NotADesk` unless a member, whose value was read, says what was asked for."""
+        """Raises `NotADesk` unless the value that was read of a member is the one that was asked
+        for."""
         if value != wanted:
             raise self.wrong(member, value)
 
 
-def _said(value: object) -> str:
-    """Returns a value for a sentence."""
+def _shown(value: object) -> str:
+    """Returns a value as a sentence shows it."""
     if isinstance(value, (dict, list)):
         return 'an object' if isinstance(value, dict) else 'a list'
     return shown(value, 60) if isinstance(value, str) else shown(json.dumps(value, default=str), 60)

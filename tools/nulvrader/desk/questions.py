@@ -1,6 +1,6 @@
-"""What a desk has no single call for, asked by its calls over one connection, so that each answer
-is of one moment. Each question says how many requests it costs. Meanwhile the desk answers nobody
-else."""
+"""Questions for which a desk has no single call. Each is asked by several requests over one
+connection, so that the answers are of one moment; meanwhile the desk answers nobody else. Each
+function says how many requests it costs."""
 from __future__ import annotations
 
 from collections.abc import Iterable
@@ -15,10 +15,10 @@ from .waits import Thing, circles_of, first_held
 
 @dataclass(frozen=True)
 class OrderRow:
-    """An open order: its vehicle and where that stands, the numbers of the last update that was
-    sent and that is confirmed, the node up to which the way is released, how many edges are not,
-    what is still to be picked and dropped on the rest of the way, or was just done there, and the
-    node of its end. A drive has no acts."""
+    """An open order: its vehicle and the node where that stands, the numbers of the last updates
+    that were sent and confirmed, the node up to which the way is released, the number of edges that
+    are not released, the acts in its last message, and the node where it ends. A drive has no
+    acts."""
 
     order: str
     vehicle: VehicleKey
@@ -33,9 +33,9 @@ class OrderRow:
 
 @dataclass(frozen=True)
 class BlockedOrder:
-    """A vehicle with an open order whose next edge, or the node behind it, another vehicle holds.
-    `in_circle` says that this one waits, over others, for the first: none of them gets free by
-    itself."""
+    """A vehicle with an open order whose next edge, or the node at its end, another vehicle holds.
+    `in_circle` says that each of some vehicles waits for the next and the last for the first, and
+    that this is one of them: none gets free by itself."""
 
     vehicle: VehicleKey
     order: str
@@ -46,23 +46,23 @@ class BlockedOrder:
 
 
 def stock(desk: Desk) -> Stock:
-    """Where the loads are. One request."""
+    """Returns where the loads are. Costs one request."""
     return read_stock(desk.stock_report())
 
 
 def held(desk: Desk) -> Holds:
-    """What the vehicles hold. One request."""
+    """Returns what the vehicles hold. Costs one request."""
     return read_holds(desk.hold_report())
 
 
 def open_orders(desk: Desk, rows: Iterable[Vehicle]) -> list[Order]:
-    """The last message of each open order of these vehicles. A request for each."""
+    """Returns the last message of each open order of these vehicles. Costs a request for each."""
     messages = [desk.order_message(row.key) for row in rows if row.order is not None]
     return [read_order(message) for message in messages if message is not None]
 
 
 def orders(desk: Desk) -> list[OrderRow]:
-    """All open orders. A request, and one for each order."""
+    """Returns the open orders. Costs one request, and one for each order."""
     with desk.kept():
         rows = desk.vehicles()
         opened = open_orders(desk, rows.values())
@@ -79,7 +79,8 @@ def orders(desk: Desk) -> list[OrderRow]:
 
 
 def who_waits(desk: Desk) -> list[BlockedOrder]:
-    """The vehicles whose next edge another vehicle holds. Two requests, and one for each order."""
+    """Returns the vehicles whose next edge or node another vehicle holds. Costs two requests, and
+    one for each order."""
     with desk.kept():
         opened = open_orders(desk, desk.vehicles().values())
         holders = held(desk).holders()
@@ -104,6 +105,7 @@ def who_waits(desk: Desk) -> list[BlockedOrder]:
 
 
 def next_things(order: Order) -> list[Thing]:
-    """The next edge of an order, and the node behind it; none where all of it is released."""
+    """Returns the next edge of an order that is not released, and the node at its end, if there is
+    one."""
     edge = order.next_edge()
     return [] if edge is None else [('edge', edge.name), ('node', edge.finish)]

@@ -1,5 +1,5 @@
-"""What a desk refuses: of each refusal its number, name and status, what is wrong, and what to do.
-The table of docs/HTTP.md and the lists of docs/OPERATE.md have the same texts."""
+"""The refusals of a desk: the number, name and status of each, what is wrong, and what to do. The
+table of docs/HTTP.md and the lists of docs/OPERATE.md have the same texts."""
 from __future__ import annotations
 
 from collections.abc import Mapping
@@ -8,9 +8,9 @@ from dataclasses import dataclass
 
 @dataclass(frozen=True)
 class Refusal:
-    """One refusal. `says` is what is wrong, and `told` the same with the members of the answer in
-    braces, where it has any beside name and number. `remedy` is what to do, and `command` what a
-    program of the command line has to say besides; one of both may be empty."""
+    """A refusal. `says` is what is wrong; `told` is the same with members of the answer in braces,
+    if it has any beside name and number. `remedy` is what to do, and `command` what a program of
+    the command line can do; one of the two may be empty."""
 
     number: int
     name: str
@@ -21,8 +21,8 @@ class Refusal:
     told: str = ''
 
     def sentence(self, members: Mapping[str, object]) -> str:
-        """What is wrong, with the members of the answer. The sentence has no full stop at its
-        end."""
+        """Returns what is wrong as a sentence without a full stop, with the members of the answer
+        in it."""
         try:
             return (self.told or self.says).format_map({**members})
         except KeyError:
@@ -30,12 +30,12 @@ class Refusal:
 
     @property
     def advice(self) -> str:
-        """What to do, for who has the command line."""
+        """What to do, for a person at the command line."""
         return ' '.join(part for part in (self.remedy, self.command) if part)
 
     @property
     def on_page(self) -> str:
-        """What to do, for who looks at a page: without programs, and without marks of code."""
+        """What to do, for a person at a page: without programs, and without marks of code."""
         return self.remedy.replace('`', '')
 
 
@@ -64,7 +64,7 @@ STATE_FORM = (
     '`tools/gateway` sees to the numbers and positions.',
 )
 
-# Of each refusal a line: number, name, status, and what is wrong.
+# A line for each refusal: its number, name and status, and what is wrong.
 TABLE = '''
 1 BadHead 400 The head of the request can't be read
 2 NoLength 411 A PUT or POST without Content-Length
@@ -127,7 +127,7 @@ TABLE = '''
 90 Memory 503 Out of memory
 91 Storage 503 A fault of the store
 '''
-# What to do, by name: a text, or two of which the other is about the command line.
+# What to do, by name: a text, or two, of which the second is for the command line alone.
 ADVICE: dict[str, str | tuple[str, str]] = {
     'BadHead': BAD_REQUEST,
     'NoLength': 'PUT and POST need `Content-Length`; without a body it is `Content-Length: 0`.',
@@ -257,7 +257,7 @@ ADVICE: dict[str, str | tuple[str, str]] = {
         ' again: it was done as a whole or not at all.'
     ),
 }
-# What is wrong with the members of the answer in braces, where it has any beside name and number.
+# What is wrong, of the refusals whose answers have more members, with these in braces.
 TOLD = {
     'BadMethod': 'The path has only the method {allow}',
     'Held': 'The vehicle {by} holds {what}',
@@ -266,7 +266,7 @@ TOLD = {
 
 
 def refusal_of(number: str, name: str, status: str, says: str) -> Refusal:
-    """The refusal of a line of the table."""
+    """Returns the refusal of a line of the table."""
     advice = ADVICE[name]
     remedy, command = (advice, '') if isinstance(advice, str) else advice
     return Refusal(int(number), name, int(status), says, remedy, command, TOLD.get(name, ''))

@@ -1,5 +1,5 @@
-"""Reads the stock report and the hold report (docs/PROFILE.md, *Reports and exports*). A text that
-is no such report, or not all of one, is a `BadReport`."""
+"""Reads the stock report and the hold report (docs/PROFILE.md, *Reports and exports*). Raises
+`BadReport` for a text that is no such report, or only a part of one."""
 from __future__ import annotations
 
 import io
@@ -27,13 +27,13 @@ LINES = 2_001
 
 
 class BadReport(NotADesk):
-    """A text that is no report, or a report that is cut or contradicts itself."""
+    """A text that is no report or export, or one that is cut or contradicts itself."""
 
 
 @dataclass
 class StationStock:
-    """A station: its node, how many loads it has room for, how many live jobs go to it, and the
-    loads there."""
+    """A station: its name, its node, how many loads it has room for, how many live jobs go to it,
+    and the loads there."""
 
     name: str
     node: str
@@ -44,8 +44,8 @@ class StationStock:
 
 @dataclass
 class Stock:
-    """The stock report. All are in the order of the report, that of their names; `left` is how many
-    loads have left."""
+    """The stock report: the loads at each station, at the checking place and on each vehicle, in
+    the order of names, and how many loads have left."""
 
     stations: dict[str, StationStock] = field(default_factory=dict)
     checking: list[str] = field(default_factory=list)
@@ -64,37 +64,37 @@ class Stock:
         return found
 
     def loads(self) -> list[str]:
-        """Returns each load that has not left, as often as the report has it."""
+        """Returns the loads that have not left, each as often as the report has it."""
         stations = (station.loads for station in self.stations.values())
         lists = [*stations, self.checking, *self.vehicles.values()]
         return [load for loads in lists for load in loads]
 
     def live_jobs(self) -> int:
-        """Returns how many live jobs there are: each keeps a place at its target."""
+        """Returns how many live jobs there are. Each has a place reserved at its target."""
         return sum(station.reserved for station in self.stations.values())
 
 
 @dataclass
 class Holds:
-    """The hold report: by the name of each node and edge that is held, its vehicle, and how many
-    nodes and edges there are."""
+    """The hold report: the vehicle that holds each held node and edge, by its name, and how many
+    nodes and edges the layout has."""
 
     nodes: dict[str, VehicleKey] = field(default_factory=dict)
     edges: dict[str, VehicleKey] = field(default_factory=dict)
     things: int = 0
 
     def holders(self) -> dict[tuple[str, str], VehicleKey]:
-        """Returns the vehicle of each thing that is held, by its kind and its name."""
+        """Returns the vehicle that holds each node and edge, by its kind and its name."""
         nodes = {('node', name): vehicle for name, vehicle in self.nodes.items()}
         return nodes | {('edge', name): vehicle for name, vehicle in self.edges.items()}
 
 
 def read_stock(report: bytes) -> Stock:
-    """Returns the stock report. It ends with how many loads have left, and lists as many loads at
-    each place as the line of the place says."""
+    """Reads a stock report. It ends with how many loads have left, and lists as many loads at each
+    place as the line of the place says."""
     stock = Stock()
     loads: list[str] | None = None  # of the place whose line came last
-    says = 0  # how many loads that line says there are
+    says = 0  # how many loads there are by that line
     part = count = 0
     for line in whole_lines(report):
         count += 1
@@ -103,8 +103,8 @@ def read_stock(report: bytes) -> Stock:
         if loads is not None and (said := LOAD.fullmatch(line)):
             loads.append(said.group(1))
             continue
-        agree(loads, says)
-        before, (part, loads, says) = part, _place(line, stock)
+        check_count(loads, says)
+        before, (part, loads, says) = part, _read_place(line, stock)
         if part < before or part == before == 1 or part > before + 1 == 1:
             raise no_line('a stock report', line)
     if part != 3:
@@ -112,10 +112,10 @@ def read_stock(report: bytes) -> Stock:
     return stock
 
 
-def _place(line: str, stock: Stock) -> tuple[int, list[str] | None, int]:
-    """Takes a line of a stock report that is no load. Returns which part of the report it is of
-    (stations, the checking place, vehicles, the end), the loads of its place, and how many it says
-    there are."""
+def _read_place(line: str, stock: Stock) -> tuple[int, list[str] | None, int]:
+    """Reads a line of a stock report that is not a load, and adds what it says to `stock`. Returns
+    the number of its part of the report (0 stations, 1 the checking place, 2 vehicles, 3 the end),
+    the list for the loads of its place, and how many these are by the line."""
     if said := STATION.fullmatch(line):
         count, capacity, reserved = map(int, said.groups()[2:])
         station = StationStock(said.group(1), said.group(2), capacity, reserved)
@@ -136,15 +136,14 @@ def _place(line: str, stock: Stock) -> tuple[int, list[str] | None, int]:
     raise no_line('a stock report', line)
 
 
-def agree(loads: list[str] | None, says: int) -> None:
-    """Raises `BadReport` where a place has other loads than its line says."""
+def check_count(loads: list[str] | None, says: int) -> None:
+    """Raises `BadReport` where a place has more or fewer loads than its line says."""
     if loads is not None and len(loads) != says:
         raise BadReport(f'a stock report lists {len(loads)} loads where it says {says}')
 
 
 def read_holds(report: bytes) -> Holds:
-    """Returns the hold report. It ends with how many nodes and edges are held, as many as it
-    lists."""
+    """Reads a hold report. It ends with how many nodes and edges are held, as many as it lists."""
     holds = Holds()
     ended = False
     for count, line in enumerate(whole_lines(report)):
@@ -168,17 +167,17 @@ def read_holds(report: bytes) -> Holds:
 
 
 def check_stock(report: bytes) -> bytes:
-    """Returns a stock report that ends as one does, else raises `BadReport`."""
+    """Returns a stock report, and raises `BadReport` where it is cut."""
     return _checked(report, LEFT, 'a stock report')
 
 
 def check_holds(report: bytes) -> bytes:
-    """Returns a hold report that ends as one does, else raises `BadReport`."""
+    """Returns a hold report, and raises `BadReport` where it is cut."""
     return _checked(report, HELD, 'a hold report')
 
 
 def _checked(report: bytes, last: re.Pattern[str], what: str) -> bytes:
-    """Returns a report whose last line is of this form."""
+    """Returns a report, and raises `BadReport` where its last line is not of this form."""
     at = report.rfind(b'\n', 0, -1) + 1
     line = report[at : at + 100].decode('latin-1')
     if not line.endswith('\n') or not last.fullmatch(line[:-1]):
@@ -187,7 +186,8 @@ def _checked(report: bytes, last: re.Pattern[str], what: str) -> bytes:
 
 
 def whole_lines(report: bytes) -> Iterator[str]:
-    """The lines of a report without their ends. The last one has its end too."""
+    """Yields the lines of a report without their line ends. Raises `BadReport` where the last line
+    has none."""
     for line in io.BytesIO(report):
         if not line.endswith(b'\n'):
             raise BadReport(f'a report is cut: it ends with {shown(line, 60)}')
@@ -195,5 +195,5 @@ def whole_lines(report: bytes) -> Iterator[str]:
 
 
 def no_line(what: str, line: str) -> BadReport:
-    """The fault of a line that has no place in a report."""
+    """Returns the exception for a line that does not belong into a report."""
     return BadReport(f'no line of {what}: {shown(line, 60)}')

@@ -1,17 +1,18 @@
-"""What a gateway makes of the messages between vehicles and the desk: of a state the one that the
-desk's profile takes (docs/PROFILE.md), and of a state and a message what they name."""
+"""Reads the messages of vehicles, and makes of a state the body that the desk's profile takes
+(docs/PROFILE.md)."""
 from __future__ import annotations
 
 import decimal
 import json
 from collections.abc import Container, Mapping
-from typing import Any, Union
+from typing import Union
 
+from .members import JsonObject
 from ..common.tables import BODY
 
 LEAST, MOST = decimal.Decimal(-(2**63)), decimal.Decimal(2**64 - 1)
-SHORT = 19  # so many digits are surely below 2 ** 64,
-EXACT = 15  # and so many characters make different floats
+SHORT = 19  # a number of so many digits is below 2 ** 64,
+EXACT = 15  # and a decimal of so many characters is exact enough as a float
 POSITIONS = {'agvPosition', 'velocity'}
 READ = (
     'headerId',
@@ -36,14 +37,13 @@ READ_OF = {
     'errors': ('errorLevel',),
 }
 
-# What a state can name of what its vehicle was sent: an order with its update, or the id of an
+# What a state can name of the messages to its vehicle: an order with its update, or the id of an
 # action.
-Named = Union[str, 'tuple[Any, Any]', None]
+Named = Union[str, 'tuple[object, object]']
 
 
 def whole(text: str) -> int:
-    """The whole number nearest to a number of JSON, the even one of two, and none beyond 64
-    bits."""
+    """Returns the whole number nearest to a number of JSON, of two the even one, within 64 bits."""
     if len(text) <= SHORT and text.isdigit():
         return int(text)
     if len(text) <= EXACT and 'e' not in text and 'E' not in text:
@@ -56,12 +56,12 @@ def whole(text: str) -> int:
 
 
 def no_number(text: str) -> None:
-    """For `NaN` and `Infinity`, which `json` reads."""
+    """Raises ValueError for `NaN` and `Infinity`, which `json` would read."""
     raise ValueError(f'{text} is no JSON')
 
 
-def without(value: Any, names: Container[str]) -> Any:
-    """Of an array of objects each one without these members; any other value as it is."""
+def without(value: object, names: Container[str]) -> object:
+    """Returns an array with its objects without these members, and any other value as it is."""
     if not isinstance(value, list):
         return value
     return [
@@ -74,23 +74,23 @@ def without(value: Any, names: Container[str]) -> Any:
     ]
 
 
-def read_sent(data: bytes) -> dict[str, Any]:
-    """The JSON object that a vehicle has sent, all its numbers whole. Bytes that are none are a
-    ValueError."""
+def read_sent(data: bytes) -> JsonObject:
+    """Reads the JSON object that a vehicle has sent, with all its numbers whole. Raises ValueError
+    for bytes that are none."""
     try:
-        told = json.loads(
+        found = json.loads(
             data.decode(), parse_float=whole, parse_int=whole, parse_constant=no_number
         )
     except RecursionError:
         raise ValueError('nested too deeply') from None
-    if not isinstance(told, dict):
+    if not isinstance(found, dict):
         raise ValueError('no object')
-    return told
+    return found
 
 
-def read_state(data: bytes) -> dict[str, Any]:
-    """The state that the desk is to be told, of the bytes that a vehicle has sent: without
-    positions, and all numbers whole. Bytes that are no JSON object are a ValueError."""
+def read_state(data: bytes) -> JsonObject:
+    """Reads a state that a vehicle has sent, as the desk takes it: without positions, and with all
+    numbers whole. Raises ValueError for bytes that are not a JSON object."""
     state = {name: value for name, value in read_sent(data).items() if name not in POSITIONS}
     for name, left_out in (('nodeStates', {'nodePosition'}), ('edgeStates', {'trajectory'})):
         if name in state:
@@ -98,49 +98,41 @@ def read_state(data: bytes) -> dict[str, Any]:
     return state
 
 
-def body_of(state: Mapping[str, Any]) -> bytes:
-    """The body to post; of a state that is too long the members alone that the desk reads. One that
-    is still too long is a ValueError."""
+def body_of(state: Mapping[str, object]) -> bytes:
+    """Returns the body of a state, of one that is too long with only the members that the desk
+    reads. Raises ValueError where that is too long, too."""
     body = json.dumps(state, separators=(',', ':')).encode()
     if len(body) > BODY:
         short = {name: state[name] for name in READ if name in state}
         for name, members in READ_OF.items():
-            if isinstance(short.get(name), list):
-                short[name] = [
-                    (
-                        {one: item[one] for one in members if one in item}
-                        if isinstance(item, dict)
-                        else item
-                    )
-                    for item in short[name]
-                ]
+            items = short.get(name)
+            if isinstance(items, list):
+                short[name] = [_only(item, members) for item in items]
         body = json.dumps(short, separators=(',', ':')).encode()
     if len(body) > BODY:
         raise ValueError('longer than the desk takes')
     return body
 
 
-def instant_for_vehicle(message: Mapping[str, Any], name: str) -> dict[str, Any]:
-    """An instantActions message with its list under the name that the vehicle wants."""
-    told = dict(message)
-    told[name] = told.pop('actions')
-    return told
+def _only(item: object, names: tuple[str, ...]) -> object:
+    """Returns an object with only these members, in this order, and any other value as it is."""
+    if not isinstance(item, dict):
+        return item
+    return {name: item[name] for name in names if name in item}
 
 
-def named_by_state(state: Mapping[str, Any]) -> list[Named]:
-    """What a state names of what its vehicle was sent: the order with its update, and the ids of
-    the actions."""
+def instant_for_vehicle(message: Mapping[str, object], name: str) -> JsonObject:
+    """Returns an instantActions message with its list under the name that the vehicle takes."""
+    found = dict(message)
+    found[name] = found.pop('actions')
+    return found
+
+
+def named_by_state(state: Mapping[str, object]) -> list[Named]:
+    """Returns what a state names of the messages to its vehicle: the order with its update, and the
+    ids of the actions."""
     actions = state.get('actionStates')
     listed = actions if isinstance(actions, list) else []
-    return [
-        (state.get('orderId'), state.get('orderUpdateId')),
-        *(action.get('actionId') for action in listed if isinstance(action, dict)),
-    ]
-
-
-def named_by_message(message: Mapping[str, Any]) -> list[Named]:
-    """What a state has to name, so that its vehicle surely has this order or instantActions
-    message."""
-    if 'actions' in message:
-        return [action['actionId'] for action in message['actions']]
-    return [(message['orderId'], message['orderUpdateId'])]
+    ids = [action.get('actionId') for action in listed if isinstance(action, dict)]
+    order = (state.get('orderId'), state.get('orderUpdateId'))
+    return [order, *(name for name in ids if isinstance(name, str))]

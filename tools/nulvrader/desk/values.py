@@ -1,4 +1,4 @@
-"""What a desk is told and tells, as the client has it."""
+"""The values that a client sends to a desk, and that it gets from it."""
 from __future__ import annotations
 
 from dataclasses import dataclass
@@ -11,7 +11,7 @@ PHASES = ('waiting', 'riding', 'done', 'stopped')
 
 @dataclass(frozen=True)
 class Answer:
-    """What was answered: the status and the bytes of the body."""
+    """An answer: its status and the bytes of its body."""
 
     status: int
     body: bytes
@@ -27,7 +27,8 @@ class Stop:
 
 @dataclass(frozen=True)
 class Load:
-    """`place` is `checking`, `left`, `station A` or `vehicle KIT/0001`; `job` is its live job."""
+    """A load: its place is `checking`, `left`, `station A` or `vehicle KIT/0001`, and `job` its
+    live job, if it has one."""
 
     name: str
     place: str
@@ -36,8 +37,9 @@ class Load:
 
 @dataclass(frozen=True)
 class Job:
-    """A live job: its load, and the stations from which and to which it leads. While it rides,
-    `vehicle` and `order` name the open order that has it; both are None while it waits."""
+    """A live job: its load, and the stations from which and to which the load is carried. While the
+    job rides, `vehicle` and `order` name the open order that has it; while it waits, both are
+    None."""
 
     name: str
     load: str
@@ -54,9 +56,9 @@ class Job:
 
 @dataclass(frozen=True)
 class JobPhase:
-    """A job, ended or not: its load, the stations from which and to which it leads, and its phase,
-    one of `PHASES`. While it rides, `vehicle` and `order` name the open order that has it; else
-    both are None."""
+    """A job, ended or not: its load, the stations from which and to which the load is carried, and
+    its phase, one of `PHASES`. While the job rides, `vehicle` and `order` name the open order that
+    has it; else both are None."""
 
     name: str
     load: str
@@ -69,10 +71,10 @@ class JobPhase:
 
 @dataclass(frozen=True)
 class Vehicle:
-    """What a desk knows of a vehicle. `order`, `sent` and `confirmed` are None without an open
-    order, `confirmed` also until a state has named the order; `header` is the number of the last
-    accepted state; `pending` the type of the pending instant action; `astray` says that it left its
-    order on the way."""
+    """What a desk knows of a vehicle. `sent` and `confirmed` are the last updates of its open order
+    that were sent and confirmed; without an order both are None, and `confirmed` also until a state
+    has named the order. `header` is the headerId of the last accepted state, and `pending` the type
+    of the pending instant action. `astray` says that its order was cancelled between two nodes."""
 
     key: VehicleKey
     node: str
@@ -89,9 +91,10 @@ class Vehicle:
 
 @dataclass(frozen=True)
 class VehicleRow(Vehicle):
-    """What the export tells of a vehicle. Of the edges of its order's way `released` are released
-    and `seen` are behind it, of `edges` in all; the three are None without an open order. `rest`
-    is the edge and the node that one which is astray holds besides its node."""
+    """A row of the export of vehicles. The way of its open order has `edges` edges, of which the
+    first `released` are released and the first `seen` are behind the vehicle; without an order the
+    three are None. `rest` is the edge and the node that a vehicle which is astray holds besides its
+    own node."""
 
     released: int | None
     edges: int | None
@@ -101,7 +104,8 @@ class VehicleRow(Vehicle):
 
 @dataclass(frozen=True)
 class Stocktake:
-    """How many loads moved, and the counted names that are of no load or of one that has left."""
+    """The result of a count: how many loads moved, and the counted names that no load has, or only
+    one that has left."""
 
     moved: int
     unknown: tuple[str, ...]

@@ -1,5 +1,5 @@
-"""Who waits for whom: what another vehicle holds of the way ahead, and circles of vehicles of which
-each waits for the next."""
+"""Finds which vehicle waits for which: for one that holds a node or an edge ahead of it; and the
+circles of vehicles of which each waits for the next."""
 from __future__ import annotations
 
 from collections.abc import Iterable, Mapping
@@ -8,12 +8,12 @@ from typing import TypeVar
 from ..common.names import VehicleKey
 
 Thing = tuple[str, str]  # `node` or `edge`, and its name
-Vehicle = TypeVar('Vehicle', str, VehicleKey)
+VehicleName = TypeVar('VehicleName', str, VehicleKey)
 
 
 def first_held(
-    vehicle: Vehicle, ahead: Iterable[Thing], holders: Mapping[Thing, Vehicle]
-) -> tuple[Thing, Vehicle] | None:
+    vehicle: VehicleName, ahead: Iterable[Thing], holders: Mapping[Thing, VehicleName]
+) -> tuple[Thing, VehicleName] | None:
     """Returns the first thing ahead of a vehicle that another one holds, and which one that is."""
     for thing in ahead:
         holder = holders.get(thing)
@@ -22,13 +22,13 @@ def first_held(
     return None
 
 
-def circles_of(waits_for: Mapping[Vehicle, Vehicle]) -> list[list[Vehicle]]:
+def circles_of(waits_for: Mapping[VehicleName, VehicleName]) -> list[list[VehicleName]]:
     """Returns the circles of vehicles of which each waits for the next and the last for the first.
-    Each circle begins with its least vehicle, and they are in the order of these."""
-    found: list[list[Vehicle]] = []
-    over: set[Vehicle] = set()
+    Each circle begins with its least vehicle, and the circles are in the order of these."""
+    found: list[list[VehicleName]] = []
+    over: set[VehicleName] = set()
     for start in sorted(waits_for):
-        row: list[Vehicle] = []
+        row: list[VehicleName] = []
         at = start
         while at in waits_for and at not in over and at not in row:
             row.append(at)

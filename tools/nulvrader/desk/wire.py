@@ -1,5 +1,5 @@
-"""A connection to a desk, over TCP, TLS or a Unix socket. All that is done for one answer ends at
-one deadline, and no more is read than the answer may have."""
+"""Connects to a desk, over TCP, TLS or a Unix socket. All the work for one answer has one deadline,
+and no more is read than the answer may have."""
 from __future__ import annotations
 
 import io
@@ -14,6 +14,8 @@ from collections.abc import Callable
 from dataclasses import dataclass
 from typing import TYPE_CHECKING, Any
 
+from ..common import plain_files
+
 if TYPE_CHECKING:
     from _typeshed import WriteableBuffer
 
@@ -22,13 +24,21 @@ UNIX_PATH = 107  # the most bytes of the path of a Unix socket
 FORMS = 'HOST:PORT, http://HOST:PORT, https://HOST or unix:/PATH'
 
 
+def tls_context(cafile: str | None) -> ssl.SSLContext:
+    """Returns how certificates are checked: by the authorities of a file, or by those of the
+    machine. Raises OSError where the file is no regular one."""
+    if cafile is not None:
+        plain_files.check(cafile)
+    return ssl.create_default_context(cafile=cafile)
+
+
 class TooMuch(Exception):
-    """More has come than an answer may have."""
+    """More bytes have come than an answer may have."""
 
 
 @dataclass(frozen=True)
 class Place:
-    """Where a desk is: a host and a port, or the path of a Unix socket. `front` stands before the
+    """Where a server is: a host and a port, or the path of a Unix socket. `front` stands before the
     path of each request."""
 
     host: str
@@ -39,7 +49,7 @@ class Place:
 
     @classmethod
     def parse(cls, address: str) -> Place:
-        """Returns the place of an address, or raises ValueError with a sentence."""
+        """Reads an address. Raises ValueError, whose `str()` is a sentence, for a wrong one."""
         if address.startswith(UNIX):
             return cls('localhost', 0, _unix_path(address), '', False)
         has_scheme = '://' in address
@@ -68,7 +78,7 @@ class Place:
 
 
 def _unix_path(address: str) -> str:
-    """Returns the path of a Unix socket."""
+    """Reads an address that names a Unix socket, and returns the path."""
     path = address.removeprefix(UNIX)
     if not path or '\0' in path or len(path.encode(errors='surrogateescape')) > UNIX_PATH:
         rule = f'write unix:/PATH, with a path of at most {UNIX_PATH} bytes'
@@ -77,19 +87,19 @@ def _unix_path(address: str) -> str:
 
 
 class Wire:
-    """A connection. `http.client` uses it as its socket: it does not close it, and reads and sends
-    by the deadline of the present answer."""
+    """A connection, which `http.client` uses as its socket. It reads and sends only until the
+    deadline of the present answer, and stays open until `end`."""
 
     def __init__(self, sock: socket.socket, ends: float) -> None:
         self._sock = sock
         self.begin(ends, 0)
 
     def begin(self, ends: float, allowed: int) -> None:
-        """Begins an answer that ends at a moment of `time.monotonic`, of at most so many bytes."""
+        """Begins an answer: its deadline, by `time.monotonic`, and the most bytes it may have."""
         self._ends, self.allowed = ends, allowed
 
     def sendall(self, data: bytes) -> None:
-        """Sends all of it."""
+        """Sends all bytes."""
         view = memoryview(data)
         while view:
             self._sock.settimeout(left(self._ends))
@@ -105,7 +115,7 @@ class Wire:
         return count
 
     def makefile(self, *_: Any) -> io.BufferedReader:
-        """Returns what reads from it. Closing that does not close the connection."""
+        """Returns a file that reads from the connection. Closing it leaves the connection open."""
         return io.BufferedReader(_Reader(self))
 
     def close(self) -> None:
@@ -117,7 +127,7 @@ class Wire:
 
 
 class _Reader(io.RawIOBase):
-    """What reads from a connection, as files do."""
+    """A file that reads from a connection."""
 
     def __init__(self, wire: Wire) -> None:
         super().__init__()
@@ -131,7 +141,7 @@ class _Reader(io.RawIOBase):
 
 
 def left(ends: float) -> float:
-    """Returns the seconds until a moment, or raises TimeoutError where it has come."""
+    """Returns the seconds until a moment, and raises TimeoutError after it."""
     seconds = ends - time.monotonic()
     if seconds <= 0:
         raise TimeoutError('timed out')
@@ -144,8 +154,8 @@ def connect(
     ends: float,
     check: Callable[[str], None] | None = None,
 ) -> Wire:
-    """Returns a connection that was made before a moment, or raises OSError. `check` raises one
-    where an address of the host must not be reached."""
+    """Connects to a place before the moment `ends`, or raises OSError. `check` is called with each
+    address of the host, and raises OSError where it must not be connected to."""
     if place.path is not None:
         sock = socket.socket(socket.AF_UNIX, socket.SOCK_STREAM)
         return Wire(_connected(sock, place.path, ends), ends)
@@ -186,23 +196,23 @@ def _secured(sock: socket.socket, context: ssl.SSLContext, host: str, ends: floa
 
 def _addresses(host: str, port: int, ends: float) -> list[Any]:
     """Returns the addresses of a host. A name is looked up in a thread, since the C library waits
-    for a server of names without a deadline."""
+    for a name server without a deadline."""
     try:
         return socket.getaddrinfo(host, port, type=socket.SOCK_STREAM, flags=socket.AI_NUMERICHOST)
     except OSError:
         found: queue.SimpleQueue[Any] = queue.SimpleQueue()
     threading.Thread(target=_look_up, args=(host, port, found), daemon=True).start()
     try:
-        told = found.get(timeout=left(ends))
+        result = found.get(timeout=left(ends))
     except queue.Empty:
         raise TimeoutError('timed out') from None
-    if isinstance(told, Exception):
-        raise told
-    return list(told)
+    if isinstance(result, Exception):
+        raise result
+    return list(result)
 
 
 def _look_up(host: str, port: int, found: queue.SimpleQueue[Any]) -> None:
-    """Puts the addresses of a host, or the fault."""
+    """Puts the addresses of a host into a queue, or the exception."""
     try:
         found.put(socket.getaddrinfo(host, port, type=socket.SOCK_STREAM))
     except OSError as fault:

@@ -1,1 +1,1 @@
-"""The drawing of a warehouse: where its nodes are drawn, and the SVG of it."""
+"""Draws a warehouse: places its nodes in a plane, and makes an SVG of it."""

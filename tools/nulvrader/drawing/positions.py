@@ -1,5 +1,5 @@
-"""Where the nodes of a layout are drawn: nodes that are n edges apart are n lengths apart as nearly
-as a plane lets them."""
+"""Places the nodes of a layout in a plane, so that the distance of two nodes is as nearly as can be
+the number of edges between them."""
 from __future__ import annotations
 
 import math
@@ -8,14 +8,15 @@ import random
 from ..common.layouts import Edge, Layout
 
 LENGTH = 120  # of an edge, in units of the drawing
-MOVES = 1_000_000  # of pairs of nodes, until they are placed
+MOVES = 1_000_000  # the most moves of pairs of nodes, if there are fewer than 125,000 pairs
 
 Point = tuple[float, float]
-Near = dict[str, list[str]]  # by node, those that an edge joins to it
+Near = dict[str, list[str]]  # by node, the nodes that an edge joins to it
 
 
 def distances(near: Near, origin: str) -> dict[str, int]:
-    """How many edges each node that is joined to one is from it, whichever way they lead."""
+    """Returns how many edges, in either direction, each node is away from `origin`; nodes that
+    nothing joins to it are left out."""
     found, row = {origin: 0}, [origin]
     for at in row:
         for other in near[at]:
@@ -26,14 +27,15 @@ def distances(near: Near, origin: str) -> dict[str, int]:
 
 
 def turns_for(pairs: int) -> int:
-    """How often each of so many pairs is moved. Of many pairs fewer turns do: with 500 nodes, which
-    are 124,750 pairs, the stress after 8 turns is about a hundredth above that after 40."""
+    """Returns how often each of this many pairs is moved, 8 to 40 times. For many pairs few turns
+    are enough: with 500 nodes, which have 124,750 pairs, the stress after 8 turns is about a
+    hundredth above that after 40."""
     return max(8, min(40, MOVES // max(1, pairs)))
 
 
 def placed(part: list[str], far: dict[str, dict[str, int]]) -> dict[str, Point]:
-    """Places for nodes that are joined, at distances as near to `far` as it gets, in lengths of an
-    edge (stress by gradient descent)."""
+    """Returns places for nodes that are joined, whose distances are as near to `far` as stress
+    minimization by gradient descent gets them. The unit is the length of an edge."""
     chance = random.Random(1)
     at = {
         node: [chance.random() * len(part) ** 0.5, chance.random() * len(part) ** 0.5]
@@ -62,8 +64,8 @@ def placed(part: list[str], far: dict[str, dict[str, int]]) -> dict[str, Point]:
 
 
 def turned(at: dict[str, Point], edges: list[Edge]) -> dict[str, Point]:
-    """The places, turned so that edges lie level or upright as far as they can, and the picture is
-    wider than high."""
+    """Returns the places turned so that most edges are level or upright and the picture is wider
+    than high, and mirrored so that the node of the least name is at the upper left."""
     across = along = 0.0
     for edge in edges:
         start, finish = at[edge.start], at[edge.finish]
@@ -85,8 +87,8 @@ def turned(at: dict[str, Point], edges: list[Edge]) -> dict[str, Point]:
 
 
 def positions(layout: Layout) -> dict[str, Point]:
-    """The place of each node, in units of the drawing; parts of the layout that nothing joins stand
-    side by side. The same layout has the same places."""
+    """Returns the place of each node, in units of the drawing. Parts of the layout that nothing
+    joins are side by side. The same layout always has the same places."""
     near: Near = {node: [] for node in layout.nodes}
     for edge in layout.edges.values():
         near[edge.start].append(edge.finish)

@@ -1,5 +1,4 @@
-"""What of a warehouse is drawn, read from the file of a desk that is stopped or asked of a running
-one."""
+"""Reads what is drawn of a warehouse, from the file of a stopped desk or from a running desk."""
 from __future__ import annotations
 
 from dataclasses import dataclass, field
@@ -13,9 +12,9 @@ from ..file.tables import key_of
 
 @dataclass
 class Warehouse:
-    """A layout and what is in it: by `KIT/0001` the node of each vehicle, by `node N1` or `edge
-    E12` the vehicle that holds it, and by its name the place of each load that has not left:
-    `station A`, `vehicle KIT/0001`, `checking`."""
+    """A layout and what is in it: the node of each vehicle, as `KIT/0001`; the vehicle that holds
+    each held node and edge, as `node N1` or `edge E12`; and the place of each load that has not
+    left, as `station A`, `vehicle KIT/0001` or `checking`."""
 
     layout: Layout
     vehicles: dict[str, str] = field(default_factory=dict)
@@ -24,25 +23,26 @@ class Warehouse:
 
 
 def of_file(path: str) -> Warehouse:
-    """The warehouse in the file of a desk that is stopped; `files.Unread` where it can't be
-    read."""
-    with stopped_file.opened(path) as base:
-        found = Warehouse(stopped_file.layout_in(base))
+    """Reads the warehouse of a stopped desk's file. Raises `stopped_file.Unread`."""
+    with stopped_file.opened(path) as connection:
+        found = Warehouse(stopped_file.layout_in(connection))
         found.vehicles = {
             str(key): node
-            for key, (node, _) in stopped_file.vehicles_in(base, found.layout).items()
+            for key, (node, _) in stopped_file.vehicles_in(connection, found.layout).items()
         }
-        for hold in stopped_file.rows_in(base, 'hold'):
-            found.holds[f'{hold.kind} {hold.id}'] = '%s/%s' % key_of(hold)
+        for hold in stopped_file.rows_in(connection, 'hold'):
+            found.holds[f'{hold.kind} {hold.id}'] = '/'.join(key_of(hold))
         found.loads = {
-            load: place for load, place in stopped_file.places_in(base).items() if place != 'left'
+            load: place
+            for load, place in stopped_file.places_in(connection).items()
+            if place != 'left'
         }
     return found
 
 
 def of_desk(desk: Desk) -> Warehouse:
-    """The warehouse of a running desk, which is empty where that has no layout yet. It is asked
-    four times over one connection, so that all is of one moment."""
+    """Reads the warehouse of a running desk, empty if the desk has no layout yet, by four requests
+    over one connection, so that all is of one moment."""
     with desk.kept():
         layout, vehicles = desk.layout(), desk.vehicles()
         stock, holds = read_stock(desk.stock_report()), read_holds(desk.hold_report())

@@ -1,5 +1,5 @@
-"""What a rule of the rows of a desk's file is, and how one is written: a function with a name and a
-text, which gives the rows that break the rule, each with what is wrong."""
+"""The form of a rule for the rows of a desk's file: a function that yields the rows that break the
+rule, each with what is wrong. Its docstring is the text of the rule."""
 import dataclasses
 from collections.abc import Callable, Iterator
 
@@ -9,13 +9,14 @@ from .tables import Key, Load
 
 SEATS = 4  # the most loads that a vehicle carries at once
 
-Found = Iterator[tuple[object, str]]  # a row, or a text that names rows; and what is wrong
-Check = Callable[[Rows], Found]
+# Each is a row, or a text that names rows, and what is wrong with it.
+Breaches = Iterator[tuple[object, str]]
+Check = Callable[[Rows], Breaches]
 
 
 @dataclasses.dataclass(frozen=True)
 class Rule:
-    """A rule: its name, what it says, and the function that gives what breaks it."""
+    """A rule: its name, its text, and the function that yields the rows that break it."""
 
     name: str
     text: str
@@ -35,12 +36,14 @@ class Breach:
 
 
 def rule(name: str) -> Callable[[Check], Rule]:
-    """Makes a rule of this name of a function; what the rule says is the function's text."""
+    """Returns a decorator that makes a function a rule of this name. The text of the rule is the
+    function's docstring."""
     return lambda check: Rule(name, ' '.join((check.__doc__ or '').split()), check)
 
 
 def value_text(value: object) -> str:
-    """A value of a row: a name or a number as it is, NULL, and other texts in quotes."""
+    """Returns a value of a row as it is printed: a name or a number as it is, NULL, and any other
+    text in quotes."""
     return (
         'NULL'
         if value is None
@@ -51,11 +54,13 @@ def value_text(value: object) -> str:
 
 
 def vehicle_text(key: Key) -> str:
-    return 'vehicle %s/%s' % key
+    """Returns a vehicle as `vehicle KIT/0001`."""
+    manufacturer, serial = key
+    return f'vehicle {manufacturer}/{serial}'
 
 
 def place_text(load: Load) -> str:
-    """Where a load is, in the words of its answer."""
+    """Returns where a load is, as `GET /loads/{load}` says it."""
     if load.kind == 'station':
         return 'station ' + value_text(load.station)
     if load.kind == 'vehicle':

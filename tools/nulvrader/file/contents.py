@@ -1,5 +1,5 @@
-"""What is in the file of a desk that does not start: whether a desk can read it, whose its tables
-are, and which of its rows break which rule."""
+"""Checks the file of a desk that does not start: whether a desk can read it, whether its tables are
+a desk's, and which of its rows break which rule."""
 from __future__ import annotations
 
 import dataclasses
@@ -21,8 +21,9 @@ NAMES = 1000  # the most characters of a line with names of the file
 
 @dataclasses.dataclass
 class Findings:
-    """What was found: the reasons, what else is to be known, whether a desk that is started would
-    begin a new warehouse, and whether it may be another time that nothing could be found."""
+    """What was found: the reasons why a desk doesn't start, and notes that are none. `is_new` says
+    that a desk would begin a new warehouse, `may_pass` that the file could not be read this time
+    and perhaps can be later."""
 
     reasons: list[str] = dataclasses.field(default_factory=list)
     notes: list[str] = dataclasses.field(default_factory=list)
@@ -36,25 +37,25 @@ class Findings:
 
 
 def path_text(path: str) -> str:
-    """A path, as it is told."""
+    """Returns a path as a sentence shows it."""
     return shown(path, PATH)
 
 
 def command_text(path: str) -> str:
-    """A path in a command for a shell."""
+    """Returns a path as a shell command shows it."""
     return path_text(shlex.quote(path))
 
 
-def look_at_names(findings: Findings, path: str) -> None:
-    """Whether the tables are a desk's. A log is only read if they are not in the file itself, as
-    those of a young one."""
+def check_table_names(findings: Findings, path: str) -> None:
+    """Notes what is wrong with the names and forms of the tables. The log beside the file is read
+    only where the file itself lacks the tables, as a young one may."""
     plain_files.check(path)
     if not _is_database(findings, path):
         return
     for has_log in (False, True):
         try:
-            with opening.opened(path, has_log=has_log) as base:
-                found = database.tables_of(base)
+            with opening.opened(path, has_log=has_log) as connection:
+                found = database.tables_of(connection)
         except sqlite3.Error:
             if has_log:
                 raise
@@ -64,25 +65,25 @@ def look_at_names(findings: Findings, path: str) -> None:
     if found.is_first:
         findings.reasons.append(_first(path))
     else:
-        _look_at_others(findings, path, found)
+        _note_other_tables(findings, path, found)
 
 
-def look_into(findings: Findings, path: str, rows_of_a_rule: int) -> None:
-    """Whether the file has the rows of a lawful desk; nobody has it, and the user of this program
-    may read it."""
+def check_rows_of(findings: Findings, path: str, rows_of_a_rule: int) -> None:
+    """Notes what is wrong with the file and its rows. No other program has the file open, and this
+    user may read it."""
 
-    def rows() -> None:
+    def check() -> None:
         if _is_database(findings, path):
-            with opening.opened(path) as base:
-                _look_at_tables(findings, path, base, rows_of_a_rule)
+            with opening.opened(path) as connection:
+                _check_tables(findings, path, connection, rows_of_a_rule)
 
-    guarded(findings, path, rows)
+    noting_faults(findings, path, check)
 
 
-def guarded(findings: Findings, path: str, look: Callable[[], object]) -> None:
-    """Looks into the file; what keeps from that is a reason."""
+def noting_faults(findings: Findings, path: str, check: Callable[[], object]) -> None:
+    """Runs a check, and notes as a reason what keeps it from reading the file."""
     try:
-        look()
+        check()
     except (sqlite3.Error, MemoryError, UnicodeError) as error:
         findings.reasons.append(
             f'{path_text(path)} is damaged: {shown(opening.why_unread(error))} (`fault: Storage` or'
@@ -105,7 +106,7 @@ def guarded(findings: Findings, path: str, look: Callable[[], object]) -> None:
 
 
 def _is_database(findings: Findings, path: str) -> bool:
-    """Whether the file is a database that may be looked into; else it is told why not."""
+    """Whether the file is a database that may be read. Notes why, where it is not."""
     if opening.has_journal(path):
         findings.reasons.append(
             f'{path_text(path)}-journal lies beside the file: another SQLite was stopped in the'
@@ -126,10 +127,12 @@ def _is_database(findings: Findings, path: str) -> bool:
     return False
 
 
-def _look_at_tables(
-    findings: Findings, path: str, base: sqlite3.Connection, rows_of_a_rule: int
+def _check_tables(
+    findings: Findings, path: str, connection: sqlite3.Connection, rows_of_a_rule: int
 ) -> None:
-    damage = database.integrity(base)
+    """Notes damage of the file, what a desk's SQL does not read, and what is wrong with the tables
+    and their rows."""
+    damage = database.integrity(connection)
     if damage:
         findings.reasons.append(
             f'{path_text(path)} is damaged, as SQLite says (`fault: Storage` or `Damaged`). Put a'
@@ -138,9 +141,9 @@ def _look_at_tables(
         return
     findings.reasons += [
         f'A desk reads no file that has {shown(what, NAMES)} (`fault: Storage`): {do}.'
-        for what, do in database.unread(base)
+        for what, do in database.unread(connection)
     ]
-    found = database.tables_of(base)
+    found = database.tables_of(connection)
     if found.others:
         findings.notes.append(
             f"Not a desk's: {shown(', '.join(found.others), NAMES)}. If a desk says `fault:"
@@ -148,15 +151,15 @@ def _look_at_tables(
             " words of SQL that it lacks, or rows that are older than a column with a default."
         )
     if found.is_first:
-        _look_at_first(findings, path, base, rows_of_a_rule)
+        _check_first(findings, path, connection, rows_of_a_rule)
     elif found.is_second:
-        _look_at_second(findings, path, base, rows_of_a_rule)
+        _check_second(findings, path, connection, rows_of_a_rule)
     else:
-        _look_at_others(findings, path, found)
+        _note_other_tables(findings, path, found)
 
 
-def _look_at_others(findings: Findings, path: str, found: database.Tables) -> None:
-    """A file whose tables are no desk's."""
+def _note_other_tables(findings: Findings, path: str, found: database.Tables) -> None:
+    """Notes what a file has whose tables are not a desk's."""
     if found.is_bare:
         findings.note_new(
             f'{path_text(path)} is a database without a table: a desk that is started makes its'
@@ -182,19 +185,19 @@ def _look_at_others(findings: Findings, path: str, found: database.Tables) -> No
 
 
 def _lines(lines: list[str]) -> str:
-    """The lines below a reason."""
+    """Returns lines as they stand below a reason."""
     return ''.join('\n  ' + shown(line, NAMES) for line in lines)
 
 
-def _look_at_second(
-    findings: Findings, path: str, base: sqlite3.Connection, rows_of_a_rule: int
+def _check_second(
+    findings: Findings, path: str, connection: sqlite3.Connection, rows_of_a_rule: int
 ) -> None:
-    """A file of the second schema."""
-    rows = read_rows(base)
-    _look_at_rows(findings, path, list(broken_rules(rows, rows_of_a_rule)))
+    """Notes what is wrong with the rows of a file of the second schema."""
+    rows = read_rows(connection)
+    _note_breaches(findings, path, list(broken_rules(rows, rows_of_a_rule)))
     findings.reasons += [
         f'{shown(other, NAMES)} may refuse a row of the desk (`fault: Storage`): drop it.'
-        for other in database.unique_indexes(base)
+        for other in database.unique_indexes(connection)
     ]
     findings.notes.append(
         f'{path_text(path)} is of the second schema, so there is nothing to migrate, and has'
@@ -203,17 +206,19 @@ def _look_at_second(
     )
 
 
-def _look_at_first(
-    findings: Findings, path: str, base: sqlite3.Connection, rows_of_a_rule: int
+def _check_first(
+    findings: Findings, path: str, connection: sqlite3.Connection, rows_of_a_rule: int
 ) -> None:
-    """A file of the first schema: it has to be moved, for which its rows have to keep the rules."""
-    broken = list(broken_rules(read_first_rows(base), rows_of_a_rule))
-    _look_at_rows(findings, path, broken)
+    """Notes what is wrong with the rows of a file of the first schema; where nothing is, that the
+    file has to be migrated."""
+    broken = list(broken_rules(read_first_rows(connection), rows_of_a_rule))
+    _note_breaches(findings, path, broken)
     if not broken:
         findings.reasons.append(_first(path))
 
 
 def _first(path: str) -> str:
+    """Returns the sentence that a file is of the first schema, and how to migrate it."""
     return (
         f'{path_text(path)} is of the first schema, as an earlier desk made it (`fault: Damaged`).'
         f" Copy it, `sqlite3 {command_text(path)} '.backup before.db'`, and migrate it: `./desk"
@@ -222,8 +227,8 @@ def _first(path: str) -> str:
     )
 
 
-def _look_at_rows(findings: Findings, path: str, broken: list[Broken]) -> None:
-    """The breaches, under the rules that they break."""
+def _note_breaches(findings: Findings, path: str, broken: list[Broken]) -> None:
+    """Notes the breaches, each below the rule that it breaks."""
     if not broken:
         return
     lines = [

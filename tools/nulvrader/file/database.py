@@ -1,9 +1,9 @@
-"""Whose tables a database has: whether they are a desk's, as docs/TABLES.md says under "Whose file
-is a desk's".
+"""Says whether the tables of a database are a desk's, as docs/TABLES.md has it under "Whose file is
+a desk's".
 
-Nobody knows whose file it is, so no statement here names a view, a virtual table or a table whose
-rules are expressions, except in SQLite's list of tables: SQLite would compile a view, call the
-module of a virtual table, and compute the expressions, for as long as they like."""
+The file may be anybody's. So no statement here names a view, a virtual table or a table whose
+constraints are expressions: SQLite would compile the view, call the module of the virtual table and
+compute the expressions, which may take any time. Their rows in SQLite's schema table are read."""
 from __future__ import annotations
 
 import collections
@@ -16,15 +16,16 @@ from typing import NamedTuple
 
 from .tables import KEYS, SECOND, TABLES, columns_of
 
-# The most tables, indexes, views and triggers that are looked at: a desk's file has 37.
-MOST_THINGS = 10_000
-MOST_TEXT = 10_000_000  # the most characters that these are written with
+# The most tables, indexes, views and triggers that are read: a desk's file has 37.
+MOST_ENTRIES = 10_000
+MOST_TEXT = 10_000_000  # the most characters of their statements
 VIRTUAL = re.compile(r'\s*CREATE\s+VIRTUAL\b', re.I)
 OWN = 'sqlite_'  # how the names of SQLite's own tables and indexes begin
 
 
-class Thing(NamedTuple):
-    """A row of SQLite's list of tables, views, triggers and indexes."""
+class SchemaEntry(NamedTuple):
+    """A row of SQLite's schema table: a table, a view, a trigger or an index, with the statement
+    that makes it."""
 
     kind: str
     name: str
@@ -33,44 +34,46 @@ class Thing(NamedTuple):
 
     @property
     def is_table(self) -> bool:
-        """It is a table with rows of its own."""
+        """Whether it is a table that is not virtual."""
         return self.kind == 'table' and not VIRTUAL.match(_bare(self.text))
 
 
 class TooMany(Exception):
-    """There are more tables than are looked at. Its `str()` says so."""
+    """The schema table has more rows or text than is read. Its `str()` says so."""
 
 
-def all_things_in(base: sqlite3.Connection) -> list[Thing]:
-    """SQLite's list, but for the indexes of keys."""
-    rows = base.execute('SELECT type, name, tbl_name, sql FROM sqlite_master WHERE sql NOT NULL')
+def all_entries_in(connection: sqlite3.Connection) -> list[SchemaEntry]:
+    """Returns the rows of SQLite's schema table, except for the indexes of keys."""
+    rows = connection.execute(
+        'SELECT type, name, tbl_name, sql FROM sqlite_master WHERE sql NOT NULL'
+    )
     found, size = [], 0
     for row in rows:
-        thing = Thing(*map(_text, row))
-        found.append(thing)
-        size += sum(map(len, thing))
-        if len(found) > MOST_THINGS:
-            raise TooMany(f'it has more than {MOST_THINGS} tables, indexes, views and triggers')
+        entry = SchemaEntry(*map(_text, row))
+        found.append(entry)
+        size += sum(map(len, entry))
+        if len(found) > MOST_ENTRIES:
+            raise TooMany(f'it has more than {MOST_ENTRIES} tables, indexes, views and triggers')
         if size > MOST_TEXT:
             raise TooMany(f'its tables are written with more than {MOST_TEXT} characters')
     return found
 
 
-def things_in(base: sqlite3.Connection) -> list[Thing]:
-    """SQLite's list without what is SQLite's own."""
-    return [thing for thing in all_things_in(base) if not thing.name.lower().startswith(OWN)]
+def entries_in(connection: sqlite3.Connection) -> list[SchemaEntry]:
+    """Returns the rows of SQLite's schema table that are not SQLite's own."""
+    return [entry for entry in all_entries_in(connection) if not entry.name.lower().startswith(OWN)]
 
 
 def _text(value: object) -> str:
-    """A value of SQLite's list, which has texts alone unless it is damaged."""
+    """Returns a value of the schema table, which has texts alone unless it is damaged."""
     return value if isinstance(value, str) else repr(value)
 
 
-def integrity(base: sqlite3.Connection) -> list[str]:
-    """What is wrong with the file beneath its tables: what SQLite finds, at most ten lines, and
-    rows of its list of tables that aren't as SQLite writes them. Where others have tables whose
-    rules are expressions, the other tables alone are looked into."""
-    odd = base.execute(
+def integrity(connection: sqlite3.Connection) -> list[str]:
+    """Returns how the file is damaged: what SQLite's own check finds, at most ten lines, and rows
+    of the schema table that SQLite never writes. Tables whose constraints are expressions are left
+    out of SQLite's check."""
+    odd = connection.execute(
         """
         SELECT rowid FROM sqlite_master
         WHERE type NOT IN ('table', 'index', 'view',
@@ -80,155 +83,162 @@ def integrity(base: sqlite3.Connection) -> list[str]:
         """
     ).fetchmany(10)
     told = [f'row {row} of sqlite_master is damaged' for row, in odd]
-    tables = [thing for thing in all_things_in(base) if thing.is_table]
-    plain = [thing.name for thing in tables if is_plain(base, thing)]
+    tables = [entry for entry in all_entries_in(connection) if entry.is_table]
+    plain = [entry.name for entry in tables if is_plain(connection, entry)]
     if len(plain) == len(tables):
         checks = ['PRAGMA integrity_check(10)']
     else:
         checks = [f'PRAGMA integrity_check({_quoted(name)})' for name in plain]
-    return [line for check in checks for line in _checked(base, check)][:10] + told
+    return [line for check in checks for line in _checked(connection, check)][:10] + told
 
 
-def _checked(base: sqlite3.Connection, check: str) -> list[str]:
-    """What a check of SQLite tells."""
+def _checked(connection: sqlite3.Connection, check: str) -> list[str]:
+    """Returns what a check of SQLite says."""
     try:
-        return [_text(line) for line, in base.execute(check) if line != 'ok']
+        return [_text(line) for line, in connection.execute(check) if line != 'ok']
     except UnicodeDecodeError as error:  # by a text of SQLite that has bytes of the file
         return [error.object.decode(errors='backslashreplace')]
 
 
-def is_plain(base: sqlite3.Connection, table: Thing) -> bool:
-    """Whether a table has no CHECK, no generated column, and no index with an expression or with
+def is_plain(connection: sqlite3.Connection, table: SchemaEntry) -> bool:
+    """Whether a table has no CHECK, no generated column, and no index on an expression or with
     WHERE."""
-    hidden = any(column[6] for column in base.execute(f'PRAGMA table_xinfo({_quoted(table.name)})'))
+    hidden = any(
+        column[6] for column in connection.execute(f'PRAGMA table_xinfo({_quoted(table.name)})')
+    )
     return (
         not hidden
         and not _has_check(table.text)
-        and next(_indexes_unread(base, table.name), None) is None
+        and next(_indexes_unread(connection, table.name), None) is None
     )
 
 
 def _quoted(name: str) -> str:
-    """A name in an SQL text."""
+    """Returns a name in quotes, as SQL has it."""
     doubled = name.replace('"', '""')
     return f'"{doubled}"'
 
 
 @dataclasses.dataclass(frozen=True)
 class Tables:
-    """Whose tables a database has."""
+    """The tables of a database, compared with those of a desk."""
 
-    others: list[str]  # tables, views and indexes that are no desk's
-    missing: list[str]  # tables of a desk's that it lacks
-    odd: list[str]  # what about its tables isn't a desk's, each a sentence
+    others: list[str]  # tables and views that are not a desk's
+    missing: list[str]  # the tables of a desk that it lacks
+    odd: list[str]  # what is not as in a desk's tables, each a sentence
 
     @property
     def is_foreign(self) -> bool:
-        """It has tables, and none of a desk's."""
+        """Whether it has tables, and none of a desk's."""
         return set(self.missing) == set(TABLES) and bool(self.others)
 
     @property
     def is_bare(self) -> bool:
-        """It has no table at all."""
+        """Whether it has no table at all."""
         return set(self.missing) == set(TABLES) and not self.others and not self.odd
 
     @property
     def is_first(self) -> bool:
-        """Its tables are those of the first schema."""
+        """Whether its tables are those of the first schema."""
         return set(self.missing) == set(SECOND) and not self.odd
 
     @property
     def is_second(self) -> bool:
-        """Its tables are those of the second schema."""
+        """Whether its tables are those of the second schema."""
         return not self.missing and not self.odd
 
 
-def tables_of(base: sqlite3.Connection) -> Tables:
-    """Whose tables these are. Names of tables are compared as SQL does, without regard to case."""
-    things = things_in(base)
-    tables = {thing.name: thing for thing in things if thing.kind == 'table'}
+def tables_of(connection: sqlite3.Connection) -> Tables:
+    """Compares the tables of a database with those of a desk; case does not count in their names,
+    as in SQL."""
+    entries = entries_in(connection)
+    tables = {entry.name: entry for entry in entries if entry.kind == 'table'}
     odd = [
-        f"the {thing.kind} {thing.name} has a name of a desk's table"
-        for thing in things
-        if thing.name.lower() in TABLES and (thing.kind != 'table' or thing.name not in TABLES)
+        f"the {entry.kind} {entry.name} has a name of a desk's table"
+        for entry in entries
+        if entry.name.lower() in TABLES and (entry.kind != 'table' or entry.name not in TABLES)
     ]
     for name in TABLES:
         if name in tables and not tables[name].is_table:
             odd.append(f'the table {name} is virtual')
         elif name in tables:
-            odd += [f'the table {name} {what}' for what in _oddities(base, tables[name], things)]
+            odd += [
+                f'the table {name} {what}' for what in _oddities(connection, tables[name], entries)
+            ]
     for name in sorted(set(tables) - set(TABLES)):
-        for parent in _parents(base, tables[name]):
+        for parent in _parents(connection, tables[name]):
             if parent.lower() in TABLES:
                 odd.append(f'the table {name} of others refers to {parent} by a foreign key')
     others = sorted(
-        thing.name
-        for thing in things
-        if thing.kind in ('table', 'view') and thing.name.lower() not in TABLES
+        entry.name
+        for entry in entries
+        if entry.kind in ('table', 'view') and entry.name.lower() not in TABLES
     )
     return Tables(others, [name for name in TABLES if name not in tables], odd)
 
 
-def _parents(base: sqlite3.Connection, table: Thing) -> list[str]:
-    """The tables to which one refers by foreign keys, each once."""
+def _parents(connection: sqlite3.Connection, table: SchemaEntry) -> list[str]:
+    """Returns the tables to which a table refers by foreign keys, each once."""
     if not table.is_table:
         return []
     return list(
         dict.fromkeys(
-            _text(row[2]) for row in base.execute(f'PRAGMA foreign_key_list({_quoted(table.name)})')
+            _text(row[2])
+            for row in connection.execute(f'PRAGMA foreign_key_list({_quoted(table.name)})')
         )
     )
 
 
-def unique_indexes(base: sqlite3.Connection) -> list[str]:
-    """Unique indexes of others on a desk's tables, by which SQL may refuse a row of the desk's."""
+def unique_indexes(connection: sqlite3.Connection) -> list[str]:
+    """Returns the unique indexes on a desk's tables that a desk does not make: with one SQLite may
+    refuse a row of the desk."""
     return [
         f'the unique index {name} on the table {table}'
         for table in TABLES
-        for _, name, unique, origin, _ in base.execute(f'PRAGMA index_list("{table}")')
+        for _, name, unique, origin, _ in connection.execute(f'PRAGMA index_list("{table}")')
         if unique and origin == 'c'
     ]
 
 
-def unread(base: sqlite3.Connection) -> Iterator[tuple[str, str]]:
-    """What keeps a desk's SQL from reading the file at all, in whosever tables it is, and what to
-    do."""
-    things = things_in(base)
+def unread(connection: sqlite3.Connection) -> Iterator[tuple[str, str]]:
+    """Yields what keeps a desk's SQL from reading the file at all, even if it is in tables that are
+    not a desk's, and what to do."""
+    entries = entries_in(connection)
     names = {
-        kind: {thing.name.lower() for thing in things if thing.kind == kind}
+        kind: {entry.name.lower() for entry in entries if entry.kind == kind}
         for kind in ('table', 'view')
     }
-    for thing in things:
-        if thing.kind == 'table' and not thing.is_table:
-            yield f'the virtual table {thing.name}', 'drop it'
-    for thing in things:
-        if thing.kind == 'trigger' and thing.table.lower() in names['view']:
-            yield f'the trigger {thing.name} on the view {thing.table}', 'drop it'
-        elif thing.kind == 'trigger' and thing.name.lower() in names['table'] | names['view']:
+    for entry in entries:
+        if entry.kind == 'table' and not entry.is_table:
+            yield f'the virtual table {entry.name}', 'drop it'
+    for entry in entries:
+        if entry.kind == 'trigger' and entry.table.lower() in names['view']:
+            yield f'the trigger {entry.name} on the view {entry.table}', 'drop it'
+        elif entry.kind == 'trigger' and entry.name.lower() in names['table'] | names['view']:
             yield (
-                f'the trigger {thing.name} with the name of a table or a ' 'view'
+                f'the trigger {entry.name} with the name of a table or a ' 'view'
             ), 'make it under another name'
-    triggers = _triggers_of(things)
-    for table in (thing for thing in things if thing.is_table):
+    triggers = _triggers_of(entries)
+    for table in (entry for entry in entries if entry.is_table):
         if 'references' in table.text.lower():
-            yield from _unread_row(base, table, triggers)
-    if base.execute('PRAGMA auto_vacuum').fetchone()[0]:
+            yield from _unread_row(connection, table, triggers)
+    if connection.execute('PRAGMA auto_vacuum').fetchone()[0]:
         yield 'auto-vacuum', 'turn it off by `PRAGMA auto_vacuum = NONE; VACUUM`'
-    if base.execute('PRAGMA encoding').fetchone()[0] != 'UTF-8':
+    if connection.execute('PRAGMA encoding').fetchone()[0] != 'UTF-8':
         yield 'its texts in UTF-16', 'copy its tables into a new file'
 
 
 def _unread_row(
-    base: sqlite3.Connection, table: Thing, triggers: dict[str, list[str]]
+    connection: sqlite3.Connection, table: SchemaEntry, triggers: dict[str, list[str]]
 ) -> Iterator[tuple[str, str]]:
-    """What keeps a desk's SQL from a table that refers to another one."""
-    frozen = next(_unread_on(base, table.name, triggers), None)
+    """Yields what keeps a desk's SQL from reading a table that refers to another one."""
+    frozen = next(_unread_on(connection, table.name, triggers), None)
     if frozen:
         yield f'the table {table.name}, which refers to another one and {frozen}', 'drop that'
-    if not is_plain(base, table):
+    if not is_plain(connection, table):
         return
-    with contextlib.suppress(sqlite3.OperationalError):  # of a key that refers to no key
-        for name, row, parent, _ in base.execute(
+    with contextlib.suppress(sqlite3.OperationalError):  # a foreign key that refers to no key
+        for name, row, parent, _ in connection.execute(
             f'PRAGMA foreign_key_check({_quoted(table.name)})'
         ).fetchmany(10):
             yield (
@@ -240,42 +250,45 @@ def _unread_row(
             )
 
 
-def _triggers_of(things: list[Thing]) -> dict[str, list[str]]:
-    """The triggers by their tables."""
+def _triggers_of(entries: list[SchemaEntry]) -> dict[str, list[str]]:
+    """Returns the names of the triggers, by the names of their tables in lower case."""
     found: dict[str, list[str]] = collections.defaultdict(list)
-    for thing in things:
-        if thing.kind == 'trigger':
-            found[thing.table.lower()].append(thing.name)
+    for entry in entries:
+        if entry.kind == 'trigger':
+            found[entry.table.lower()].append(entry.name)
     return found
 
 
 def _unread_on(
-    base: sqlite3.Connection, table: str, triggers: dict[str, list[str]]
+    connection: sqlite3.Connection, table: str, triggers: dict[str, list[str]]
 ) -> Iterator[str]:
-    """What on a table keeps a desk's SQL from reading it."""
+    """Yields the triggers and indexes of a table that keep a desk's SQL from reading it."""
     for name in triggers.get(table.lower(), ()):
         yield f'has the trigger {name}'
-    yield from _indexes_unread(base, table)
+    yield from _indexes_unread(connection, table)
 
 
-def _indexes_unread(base: sqlite3.Connection, table: str) -> Iterator[str]:
-    """The indexes of a table that have WHERE or an expression."""
-    for _, name, _, _, is_partial in base.execute(
+def _indexes_unread(connection: sqlite3.Connection, table: str) -> Iterator[str]:
+    """Yields the indexes of a table that have WHERE or an expression."""
+    for _, name, _, _, is_partial in connection.execute(
         f'PRAGMA index_list({_quoted(table)})'
     ).fetchall():
         if is_partial:
             yield f'has the index {name} with WHERE'
         elif any(
-            row[1] == -2 for row in base.execute(f'PRAGMA index_xinfo({_quoted(name)})').fetchall()
+            row[1] == -2
+            for row in connection.execute(f'PRAGMA index_xinfo({_quoted(name)})').fetchall()
         ):
             yield f'has the index {name} on an expression'
 
 
-def _oddities(base: sqlite3.Connection, thing: Thing, things: list[Thing]) -> Iterator[str]:
-    """What about a table isn't as the desk makes it."""
-    table = thing.name
+def _oddities(
+    connection: sqlite3.Connection, entry: SchemaEntry, entries: list[SchemaEntry]
+) -> Iterator[str]:
+    """Yields what of a desk's table is not as a desk makes it."""
+    table = entry.name
     columns, keys = columns_of(table), [key.split() for key in KEYS[table]]
-    found = base.execute(f'PRAGMA table_xinfo("{table}")').fetchall()
+    found = connection.execute(f'PRAGMA table_xinfo("{table}")').fetchall()
     names = [column.name for column in columns]
     if [row[1] for row in found] != names:
         yield f'has the columns {", ".join(row[1] for row in found)}, and not {", ".join(names)}'
@@ -289,36 +302,35 @@ def _oddities(base: sqlite3.Connection, thing: Thing, things: list[Thing]) -> It
             yield f'has the column {name} with the default {default}'
         if hidden:
             yield f'has the column {name} that is generated'
-    written = _keys(base, table)
+    written = _keys(connection, table)
     if {frozenset(key) for key in written} != {frozenset(key) for key in keys}:
-        yield f'has the keys {_told_keys(written)}, and not {_told_keys(keys)}'
-    options = _options(thing)
+        yield f'has the keys {_keys_text(written)}, and not {_keys_text(keys)}'
+    options = _options(entry)
     if options is None or not options.strict:
         yield "isn't STRICT"
     if options and options.without_rowid:
         yield 'is WITHOUT ROWID'
-    if base.execute(f'PRAGMA foreign_key_list("{table}")').fetchall():
+    if connection.execute(f'PRAGMA foreign_key_list("{table}")').fetchall():
         yield 'has a foreign key'
-    yield from _rules_in_text(thing.text)
-    yield from _unread_on(base, table, _triggers_of(things))
+    yield from _rules_in_text(entry.text)
+    yield from _unread_on(connection, table, _triggers_of(entries))
 
 
-def _told_keys(keys: list[list[str]]) -> str:
-    """Keys as they are told: `(id), (job, kind)`."""
+def _keys_text(keys: list[list[str]]) -> str:
+    """Returns keys as a sentence shows them: `(id), (job, kind)`."""
     return ', '.join(f'({", ".join(key)})' for key in keys)
 
 
 class Options(NamedTuple):
-    """What stands behind the columns of a table."""
+    """The options of a table, which stand behind its columns."""
 
     without_rowid: int
     strict: int
 
 
-def _options(table: Thing) -> Options | None:
-    """The options of a table. SQLite tells them by a list for which it compiles all views, so it is
-    asked about the same table in a database of its own. None where it doesn't make that table
-    there."""
+def _options(table: SchemaEntry) -> Options | None:
+    """Returns the options of a table, or None where SQLite does not make the table. SQLite lists
+    them only after it has compiled all views; so the table is made in a database of its own."""
     with contextlib.closing(sqlite3.connect(':memory:')) as alone:
         try:
             alone.execute(table.text)
@@ -329,14 +341,14 @@ def _options(table: Thing) -> Options | None:
     return told and Options(*told)
 
 
-def _keys(base: sqlite3.Connection, table: str) -> list[list[str]]:
-    """The primary key, if that is the rowid, which has no index, and the keys with an index, in
-    their order, each its columns; `DESC` and a collation are told with it."""
+def _keys(connection: sqlite3.Connection, table: str) -> list[list[str]]:
+    """Returns the columns of each key of a table: first of a primary key that is the rowid, which
+    has no index, then of the keys with an index. `DESC` and a collation stand behind a column."""
     found = []
-    indexes = base.execute(f'PRAGMA index_list("{table}")').fetchall()
+    indexes = connection.execute(f'PRAGMA index_list("{table}")').fetchall()
     for _, name, _, origin, _ in indexes:
         if origin != 'c':
-            parts = base.execute(f'PRAGMA index_xinfo("{name}")').fetchall()
+            parts = connection.execute(f'PRAGMA index_xinfo("{name}")').fetchall()
             said = [
                 column
                 + (' DESC' if desc else '')
@@ -345,14 +357,14 @@ def _keys(base: sqlite3.Connection, table: str) -> list[list[str]]:
                 if key
             ]
             found.append((int(name.rpartition('_')[2]), said))
-    rowid = [row[1] for row in base.execute(f'PRAGMA table_xinfo("{table}")') if row[5]]
+    rowid = [row[1] for row in connection.execute(f'PRAGMA table_xinfo("{table}")') if row[5]]
     if any(origin == 'pk' for _, _, _, origin, _ in indexes):
         rowid = []
     return [*([rowid] if rowid else []), *(said for _, said in sorted(found))]
 
 
 def _rules_in_text(text: str) -> Iterator[str]:
-    """Rules that stand in the text of a table alone."""
+    """Yields what only the statement that makes a table shows."""
     if _has_check(text):
         yield 'has a CHECK'
     if re.search(r'\bAUTOINCREMENT\b', _bare(text), re.I):
@@ -362,13 +374,14 @@ def _rules_in_text(text: str) -> Iterator[str]:
 
 
 def _has_check(text: str) -> bool:
+    """Whether the statement that makes a table has a CHECK."""
     return re.search(r'\bCHECK\s*\(', _bare(text), re.I) is not None
 
 
 def _bare(text: str) -> str:
-    """An SQL text without its comments, names in quotes, and texts, and with blanks for byte order
-    marks, as SQLite reads these. What has no end goes on to that of the text, so that each
-    character is passed once."""
+    """Returns an SQL statement without comments, quoted names and texts, and with blanks for byte
+    order marks, as SQLite reads them. One of these that is not closed reaches to the end of the
+    statement, so that each character is read once."""
     quoted = (
         r'--[^\n]*|/\*.*?(?:\*/|\Z)|\'(?:[^\']|\'\')*+(?:\'|\Z)|"(?:[^"]|"")*+(?:"|\Z)'
         r'|`(?:[^`]|``)*+(?:`|\Z)|\[[^\]]*+(?:\]|\Z)'

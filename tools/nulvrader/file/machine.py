@@ -1,6 +1,7 @@
-"""What of the machine keeps a desk from its file or its port, as Linux tells it: the programs that
-have them, by /proc; rights, by the bits of the files; and the room on the disk. Nothing is changed.
-And a port that nobody has."""
+"""Asks Linux what keeps a desk from its file or its port: which programs have them open (/proc),
+the rights on the files, and the room on the disk; and which port is free. Nothing is changed."""
+from __future__ import annotations
+
 import dataclasses
 import grp
 import os
@@ -12,35 +13,36 @@ from collections.abc import Iterator
 
 from ..common.text import shown
 
-WORDS = 400  # the most characters of the words of a program that are told
+COMMAND = 400  # the most characters of a command line that are shown
 
 
 @dataclasses.dataclass(frozen=True)
 class Program:
-    """A running program: its number and the words by which it was started, which are its own
-    choice."""
+    """A running program: its number and its command line, which the program can change to any
+    text."""
 
     pid: int
-    words: str
+    command: str
 
     def __str__(self) -> str:
-        return f'the program {self.pid} ({shown(self.words, WORDS)})'
+        return f'the program {self.pid} ({shown(self.command, COMMAND)})'
 
 
 @dataclasses.dataclass(frozen=True)
 class User:
-    """Whose rights are asked for."""
+    """The user whose rights on a file are asked for."""
 
     uid: int
     gids: frozenset[int]
 
     @staticmethod
-    def of_this_program() -> 'User':
+    def of_this_program() -> User:
+        """Returns the user as which this program runs."""
         return User(os.geteuid(), frozenset([os.getegid(), *os.getgroups()]))
 
     @staticmethod
-    def named(name: str) -> 'User':
-        """The user of this name; KeyError where there is none."""
+    def named(name: str) -> User:
+        """Returns the user of this name, or raises KeyError."""
         found = pwd.getpwnam(name)
         return User(found.pw_uid, frozenset(os.getgrouplist(name, found.pw_gid)))
 
@@ -51,9 +53,9 @@ class User:
             return f'with the number {self.uid}'
 
     def may(self, path: str, bit: int) -> bool:
-        """Whether the bits of the file allow it: `os.R_OK`, `os.W_OK`, or `os.X_OK`, which for a
-        folder is to look up what lies in it. The superuser may, but for writing where all is
-        mounted to be read."""
+        """Whether the user may read (`os.R_OK`) or write (`os.W_OK`) a file, or enter a folder
+        (`os.X_OK`), by the bits of the file. The superuser may do all of it, except write on a disk
+        that is mounted read-only."""
         if bit == os.W_OK and os.statvfs(path).f_flag & os.ST_RDONLY:
             return False
         if self == User.of_this_program():
@@ -64,7 +66,7 @@ class User:
 
 
 def owner(path: str) -> str:
-    """The user, the group and the bits of a file, as `ls -l` has them."""
+    """Returns the bits, the user and the group of a file, as `ls -l` has them."""
     found = os.stat(path)
     group: str | int = found.st_gid
     try:
@@ -75,24 +77,24 @@ def owner(path: str) -> str:
 
 
 def programs() -> Iterator[int]:
-    """The numbers of all programs but this one."""
+    """Yields the numbers of all running programs but this one."""
     for name in os.listdir('/proc'):
         if name.isdigit() and int(name) != os.getpid():
             yield int(name)
 
 
-def words_of(pid: int) -> str:
-    """The first words by which a program was started."""
+def command_of(pid: int) -> str:
+    """Returns the beginning of a program's command line."""
     try:
         with open(f'/proc/{pid}/cmdline', 'rb') as file:
-            said = file.read(4 * WORDS).rstrip(b'\0').replace(b'\0', b' ')
+            said = file.read(4 * COMMAND).rstrip(b'\0').replace(b'\0', b' ')
             return said.decode(errors='surrogateescape') or 'without words'
     except OSError:
         return 'that has ended since'
 
 
 def open_files(pid: int) -> Iterator[str]:
-    """The paths of what a program has open, as far as they may be seen."""
+    """Yields the paths of the descriptors of a program, if this user may see them."""
     folder = f'/proc/{pid}/fd'
     try:
         numbers = os.listdir(folder)
@@ -102,13 +104,15 @@ def open_files(pid: int) -> Iterator[str]:
 
 
 def who_has(path: str) -> list[Program]:
-    """The programs that have the file open, as far as their files may be seen."""
+    """Returns the programs that have the file open, of those whose descriptors this user may
+    see."""
     wanted = os.stat(path)
     found = (pid for pid in sorted(programs()) if any(_is(one, wanted) for one in open_files(pid)))
-    return [Program(pid, words_of(pid)) for pid in found]
+    return [Program(pid, command_of(pid)) for pid in found]
 
 
 def _is(path: str, wanted: os.stat_result) -> bool:
+    """Whether a path leads to this file."""
     try:
         return os.path.samestat(os.stat(path), wanted)
     except OSError:
@@ -116,7 +120,8 @@ def _is(path: str, wanted: os.stat_result) -> bool:
 
 
 def is_locked(path: str) -> bool:
-    """Whether a program has a lock on the file, seen or not."""
+    """Whether any program has a lock on the file, even one whose descriptors this user may not
+    see."""
     found = os.stat(path)
     wanted = f'{os.major(found.st_dev):02x}:{os.minor(found.st_dev):02x}:{found.st_ino}'
     try:
@@ -128,7 +133,8 @@ def is_locked(path: str) -> bool:
 
 @dataclasses.dataclass(frozen=True)
 class Listener:
-    """Who listens on a port: the address, the user, and the program, where it may be seen."""
+    """A program that listens on a port: the address, the user, and the program itself, if this
+    user may see it."""
 
     address: str
     user: User
@@ -136,7 +142,7 @@ class Listener:
 
 
 def given_ports() -> range:
-    """The ports of which the system gives one to each connection."""
+    """Returns the ports of which the system gives one to each outgoing connection."""
     try:
         with open('/proc/sys/net/ipv4/ip_local_port_range') as file:
             least, most = map(int, file.read().split())
@@ -146,9 +152,8 @@ def given_ports() -> range:
 
 
 def free_port() -> int:
-    """A port of 127.0.0.1 that nobody has. It is none that the system gives to a connection: so
-    nobody gets it while a program that listens on it is started again, not even who connects to it
-    meanwhile."""
+    """Returns a port of 127.0.0.1 that nobody has, and that the system gives to no outgoing
+    connection. So nobody else gets it while the program that listens on it is started again."""
     given = given_ports()
     ports = (
         range(max(1024, given.start - 20000), given.start)
@@ -166,10 +171,10 @@ def free_port() -> int:
 
 
 def who_listens(port: int) -> list[Listener]:
-    """Those that listen on the port, of 127.0.0.1 or of all addresses."""
+    """Returns the programs that listen on the port, at 127.0.0.1 or at all addresses."""
     sockets = list(_listening(port))
     found = {f'socket:[{inode}]': (address, user) for address, user, inode in sockets}
-    told: dict[str, Program] = {}
+    seen: dict[str, Program] = {}
     for pid in sorted(programs()) if found else ():
         for path in open_files(pid):
             try:
@@ -177,12 +182,12 @@ def who_listens(port: int) -> list[Listener]:
             except OSError:
                 continue
             if link in found:
-                told.setdefault(link, Program(pid, words_of(pid)))
-    return [Listener(address, user, told.get(link)) for link, (address, user) in found.items()]
+                seen.setdefault(link, Program(pid, command_of(pid)))
+    return [Listener(address, user, seen.get(link)) for link, (address, user) in found.items()]
 
 
-# How /proc/net/tcp and tcp6 write 127.0.0.1, all addresses, all of both kinds, and 127.0.0.1 as an
-# address of IPv6.
+# How /proc/net/tcp and tcp6 write 127.0.0.1, all addresses of IPv4, all addresses, and 127.0.0.1 as
+# an address of IPv6.
 ADDRESSES = {
     '0100007F': '127.0.0.1',
     '00000000': '0.0.0.0',
@@ -192,7 +197,7 @@ ADDRESSES = {
 
 
 def _listening(port: int) -> Iterator[tuple[str, User, str]]:
-    """Of each socket that listens there: its address, its user, and the number of its inode."""
+    """Yields the address, the user and the inode of each socket that listens on the port."""
     for name in ('tcp', 'tcp6'):
         try:
             with open('/proc/net/' + name) as file:
@@ -207,7 +212,7 @@ def _listening(port: int) -> Iterator[tuple[str, User, str]]:
 
 
 def first_port() -> int:
-    """The first port that a program without special rights may have."""
+    """Returns the first port on which a program without special rights may listen."""
     try:
         with open('/proc/sys/net/ipv4/ip_unprivileged_port_start') as file:
             return int(file.read())
@@ -216,6 +221,6 @@ def first_port() -> int:
 
 
 def free_bytes(path: str, user: User) -> int:
-    """How many bytes the user may still write on the disk of this file or folder."""
+    """Returns how many bytes the user may still write on the disk of a file or folder."""
     found = os.statvfs(path)
     return (found.f_bfree if user.uid == 0 else found.f_bavail) * found.f_frsize

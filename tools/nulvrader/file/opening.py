@@ -1,5 +1,5 @@
-"""Opens a database file that may be anybody's, to be read, without a change to it or to what lies
-beside it. What it may cost is bounded by its size."""
+"""Opens a database file for reading. The file may be anybody's: neither it nor what lies beside it
+is changed, and the work that it causes is bounded by its size."""
 from __future__ import annotations
 
 import contextlib
@@ -18,19 +18,17 @@ from .rows import any_text
 
 HEAD = b'SQLite format 3\0'
 BESIDE = ('-wal', '-shm', '-journal')  # what SQLite puts beside a file
-# The bytes of a file that SQLite, and a desk, lock: how many, and the first one. Who reads shares
-# the lock.
+# The bytes of a file that SQLite, and a desk, lock: how many, and the first one. Readers share the
+# lock.
 LOCKED = 510, 0x40000002
 
-# A desk's file at all limits of README.md has 1.5 GB. Of one with that size a reader of these tools
-# takes less than one step of SQLite's a byte.
+# A desk's file at all limits of README.md has 1.5 GB, and reading it takes less than one step of
+# SQLite for each byte.
 LARGEST = 4 * 2**30  # the most bytes of a file, and of its log
-STEPS, STEPS_OF_A_BYTE = (
-    2_000_000,
-    20,
-)  # the most steps of a connection: so many, and so many more for each byte
+# The most steps of a connection: so many, and so many more for each byte.
+STEPS, STEPS_OF_A_BYTE = 2_000_000, 20
 BLOCK = bytes(1 << 20)
-TURN = 1000  # steps from one look at their number to the next
+TURN = 1000  # steps from one count of them to the next
 LIMITS = {
     sqlite3.SQLITE_LIMIT_LENGTH: 10_000_000,  # bytes of a value
     sqlite3.SQLITE_LIMIT_EXPR_DEPTH: 200,
@@ -51,13 +49,13 @@ PRAGMAS = (
 def opened(
     path: str, alone: bool = False, folder: str | None = None, has_log: bool = True
 ) -> Iterator[sqlite3.Connection]:
-    """The database, to be read, while no other program has it. Where a log lies beside it, it is
-    read with that from a copy of both, since SQLite would change them; else as it is. The copy is
-    in a folder of its own in `folder`, or where TMPDIR says. With `alone` nobody who writes may
-    have it, else it is a BlockingIOError, and until the end nobody gets it. Without `has_log` a log
-    is ignored. A file that is no regular one, or is too large, is a `NotPlain`, and so is one that
-    lies beside it.
-    """
+    """Opens a database for reading. The caller sees to it that no other program has it.
+
+    SQLite would change a log that lies beside the file. So a file with a log is read from a copy of
+    both, which is made in a new folder in `folder`, or where TMPDIR says; without `has_log` the log
+    is ignored. With `alone` the file is locked until the end, and BlockingIOError is raised where a
+    program that writes has it. `NotPlain` is raised where the file, or one beside it, is not a
+    regular file or is too large."""
     with contextlib.ExitStack() as stack:
         file = stack.enter_context(plain_files.opened(path))
         size = _size(path, file)
@@ -72,19 +70,21 @@ def opened(
             _copy(file, size, copy)
             _copy(log, _size(path + '-wal', log), copy + '-wal')
             size += _size(path + '-wal', log)
-            base = sqlite3.connect(copy)
+            connection = sqlite3.connect(copy)
         else:
-            base = _as_it_is(path, file)
-        stack.callback(base.close)
-        bound(base, size)
-        yield base
+            connection = _as_it_is(path, file)
+        stack.callback(connection.close)
+        bound(connection, size)
+        yield connection
 
 
-def take(path: str, folder: str) -> str:
-    """Copies a file that nobody else writes, and what lies beside it, into a folder by the same
-    name, and returns where the copy is. Each is opened once, by the rights of the user whose folder
-    it is in, and a link is not followed: where others may put a file, root reads none for them that
-    they could not read themselves. The errors are those of `opened` with `alone`."""
+def copy_into(path: str, folder: str) -> str:
+    """Copies a file, and what lies beside it, into another folder under the same name, and returns
+    the path of the copy.
+
+    Each file is opened once, with the rights of the user who owns its folder, and no link is
+    followed: so root reads nothing for that user that the user could not read. Raises what `opened`
+    with `alone` does."""
     name = os.path.basename(path)
     place = os.open(os.path.dirname(path) or '.', os.O_RDONLY | os.O_DIRECTORY | os.O_CLOEXEC)
     copy = os.path.join(folder, name)
@@ -106,7 +106,7 @@ def take(path: str, folder: str) -> str:
 
 @contextlib.contextmanager
 def _as_the_owner(folder: int) -> Iterator[None]:
-    """Has no more rights than the user whose folder this is, if root runs this."""
+    """Runs a block with the rights of the user who owns a folder, if root runs this program."""
     owner, groups = os.fstat(folder), os.getgroups()
     if os.geteuid() != 0 or owner.st_uid == 0:
         yield
@@ -123,7 +123,7 @@ def _as_the_owner(folder: int) -> Iterator[None]:
 
 
 def _opened_in(folder: int, path: str) -> BinaryIO:
-    """Opens a regular file of a folder to be read. A link there is none."""
+    """Opens a regular file of a folder for reading. Raises `NotPlain` for a link."""
     flags = os.O_RDONLY | os.O_NONBLOCK | os.O_NOCTTY | os.O_CLOEXEC | os.O_NOFOLLOW
     try:
         handle = os.open(os.path.basename(path), flags, dir_fd=folder)
@@ -139,20 +139,20 @@ def _opened_in(folder: int, path: str) -> BinaryIO:
         raise
 
 
-def bound(base: sqlite3.Connection, size: int) -> None:
-    """Bounds what a connection to a file of so many bytes may cost: a statement that takes more
-    ends with the error `interrupted`, or with a MemoryError."""
-    base.text_factory = any_text
+def bound(connection: sqlite3.Connection, size: int) -> None:
+    """Bounds the steps and the memory of a connection to a file of `size` bytes. A statement that
+    needs more ends with the error `interrupted`, or with MemoryError."""
+    connection.text_factory = any_text
     for limit, most in LIMITS.items():
-        base.setlimit(limit, most)
+        connection.setlimit(limit, most)
     for pragma in PRAGMAS:
-        base.execute('PRAGMA ' + pragma)
+        connection.execute('PRAGMA ' + pragma)
     turns = iter(range((STEPS + STEPS_OF_A_BYTE * size) // TURN))
-    base.set_progress_handler(lambda: next(turns, None) is None, TURN)
+    connection.set_progress_handler(lambda: next(turns, None) is None, TURN)
 
 
 def why_unread(error: Exception) -> str:
-    """What an error of SQLite over a bounded connection says of the file."""
+    """Returns what an error of a bounded connection says of the file."""
     if isinstance(error, MemoryError):
         return 'SQLite needs more memory than a file of a desk does'
     if isinstance(error, UnicodeError):
@@ -163,8 +163,7 @@ def why_unread(error: Exception) -> str:
 
 
 def has_journal(path: str) -> bool:
-    """Whether a journal lies beside the file that another SQLite is to take back: one with a
-    head."""
+    """Whether a journal lies beside the file that SQLite has to roll back: one with a head."""
     try:
         with plain_files.opened(path + '-journal') as file:
             return any(file.read(8))
@@ -173,18 +172,18 @@ def has_journal(path: str) -> bool:
 
 
 def is_empty(path: str) -> bool:
-    """Whether SQLite takes it for a file in which nothing was made yet: of no byte, or of one."""
+    """Whether SQLite takes the file for a new one: it has no byte, or one."""
     return os.path.getsize(path) <= 1
 
 
 def head_of(path: str) -> bytes:
-    """The first bytes of a file, as many as the head of a database has."""
+    """Returns the first bytes of a file, as many as the head of a database has."""
     with plain_files.opened(path) as file:
         return file.read(len(HEAD))
 
 
 def has_head(path: str) -> bool:
-    """Whether it begins as a database of SQLite does, or its first page stands in the log alone."""
+    """Whether a file begins as a database of SQLite, or its first page may be in the log alone."""
     found, log = head_of(path), path + '-wal'
     return (
         found == HEAD or found[1:] == HEAD[1:] and os.path.exists(log) and os.path.getsize(log) > 0
@@ -192,7 +191,7 @@ def has_head(path: str) -> bool:
 
 
 def _size(path: str, file: BinaryIO) -> int:
-    """The bytes of a file, at most `LARGEST`."""
+    """Returns how many bytes a file has, or raises `NotPlain` for more than `LARGEST`."""
     size = os.fstat(file.fileno()).st_size
     if size > LARGEST:
         raise NotPlain(path, f'it has {size} bytes, and a file of a desk has at most {LARGEST}')
@@ -200,7 +199,7 @@ def _size(path: str, file: BinaryIO) -> int:
 
 
 def _log(stack: contextlib.ExitStack, path: str) -> BinaryIO | None:
-    """The log beside a file, where there is one with a byte."""
+    """Opens the log beside a file; None where there is none, or an empty one."""
     try:
         log = stack.enter_context(plain_files.opened(path + '-wal'))
     except FileNotFoundError:
@@ -209,7 +208,8 @@ def _log(stack: contextlib.ExitStack, path: str) -> BinaryIO | None:
 
 
 def _copy(file: BinaryIO, size: int, path: str) -> None:
-    """Copies the first bytes of a file to a new one. Stretches of zeros take no room there."""
+    """Copies the first `size` bytes of a file to a new one, and leaves holes for blocks of
+    zeros."""
     with open(path, 'xb') as other:
         while size > 0:
             part = file.read(min(size, len(BLOCK)))
@@ -224,18 +224,18 @@ def _copy(file: BinaryIO, size: int, path: str) -> None:
 
 
 def _as_it_is(path: str, file: BinaryIO) -> sqlite3.Connection:
-    """A connection to the file at a path. It is the file that was looked at and locked, and none
-    that was put in its place since."""
+    """Connects to the file at a path as it is, without its log. Raises `NotPlain` where another
+    file was put there after this one was opened and locked."""
     quoted = urllib.parse.quote(os.fsencode(os.path.abspath(path)))
-    base = sqlite3.connect(f'file:{quoted}?mode=ro&immutable=1', uri=True)
+    connection = sqlite3.connect(f'file:{quoted}?mode=ro&immutable=1', uri=True)
     if os.path.isdir('/proc/self/fd') and not _is_open_besides(file):
-        base.close()
+        connection.close()
         raise NotPlain(path, 'it was replaced while it was opened')
-    return base
+    return connection
 
 
 def _is_open_besides(file: BinaryIO) -> bool:
-    """Whether this program has the file open by another descriptor than this one."""
+    """Whether this program has the file open by a second descriptor, too."""
     wanted = os.fstat(file.fileno())
     for name in os.listdir('/proc/self/fd'):
         with contextlib.suppress(OSError):

@@ -1,7 +1,7 @@
-"""The rules of the open orders, and of the track that vehicles hold."""
+"""The rules of the open orders, and of the nodes and edges that vehicles hold."""
 import collections
 
-from .checks import SEATS, Found, rule, value_text, vehicle_text
+from .checks import SEATS, Breaches, rule, value_text, vehicle_text
 from .rows import Rows
 from .tables import Act, Leg, key_of
 
@@ -9,18 +9,18 @@ OVER = ('FINISHED', 'FAILED')
 
 
 @rule('vehicle of an order')
-def orders_have_a_vehicle(rows: Rows) -> Found:
+def orders_have_a_vehicle(rows: Rows) -> Breaches:
     """An open order has a vehicle, to which an order message was sent."""
-    for way in rows.ways.values():
-        vehicle = rows.vehicles.get(key_of(way.journey))
+    for order in rows.open_orders.values():
+        vehicle = rows.vehicles.get(key_of(order.journey))
         if vehicle is None:
-            yield way.journey, f'there is no {vehicle_text(key_of(way.journey))}'
+            yield order.journey, f'there is no {vehicle_text(key_of(order.journey))}'
         elif vehicle.order_header == 0:
-            yield f'{way.journey}, {vehicle}', 'no order message was sent to the vehicle'
+            yield f'{order.journey}, {vehicle}', 'no order message was sent to the vehicle'
 
 
 @rule('name of an order')
-def orders_are_used_names(rows: Rows) -> Found:
+def orders_are_used_names(rows: Rows) -> Breaches:
     """The name of an open order is among the used names."""
     used = {row.id for row in rows.used if row.kind == 'order'}
     for journey in rows.journey:
@@ -29,34 +29,33 @@ def orders_are_used_names(rows: Rows) -> Found:
 
 
 @rule('parts of an order')
-def parts_have_an_order(rows: Rows) -> Found:
+def parts_have_an_order(rows: Rows) -> Breaches:
     """Edges and acts belong to open orders, and are counted from 0 on, without a gap."""
     open_orders = {row.order_id for row in rows.journey}
     parts: list[Leg | Act] = [*rows.leg, *rows.act]
     for part in parts:
         if part.order_id not in open_orders:
             yield part, f'no order {part.order_id} is open'
-    for way in rows.ways.values():
+    for order in rows.open_orders.values():
         for of, numbers in (
-            ('leg', [leg.k for leg in way.legs]),
-            ('act', [act.n for act in way.acts]),
+            ('leg', [leg.k for leg in order.legs]),
+            ('act', [act.n for act in order.acts]),
         ):
             if numbers != list(range(len(numbers))):
-                yield (
-                    f'{way.journey}, its rows in ' f'`{of}`'
-                ), f'their numbers are {", ".join(map(str, numbers))}'
+                text = f'their numbers are {", ".join(map(str, numbers))}'
+                yield f'{order.journey}, its rows in `{of}`', text
 
 
 @rule('way of an order')
-def ways_are_walks(rows: Rows) -> Found:
+def ways_are_walks(rows: Rows) -> Breaches:
     """The edges of an open order, at most 200, lead from its start on, each from where the one
     before it ends."""
-    for way in rows.ways.values():
-        if way.journey.start not in rows.nodes:
-            yield way.journey, f'it starts at {value_text(way.journey.start)}, which is no node'
-        if len(way.legs) > 200:
-            yield way.journey, f'its way has {len(way.legs)} edges'
-        for at, leg in zip(way.nodes, way.legs):
+    for order in rows.open_orders.values():
+        if order.journey.start not in rows.nodes:
+            yield order.journey, f'it starts at {value_text(order.journey.start)}, which is no node'
+        if len(order.legs) > 200:
+            yield order.journey, f'its way has {len(order.legs)} edges'
+        for at, leg in zip(order.nodes, order.legs):
             if leg.edge not in rows.edges:
                 yield leg, 'there is no edge ' + value_text(leg.edge)
             elif at is not None and rows.edges[leg.edge].start != at:
@@ -64,126 +63,127 @@ def ways_are_walks(rows: Rows) -> Found:
 
 
 @rule('jobs of an order')
-def orders_pick_and_drop(rows: Rows) -> Found:
+def orders_pick_and_drop(rows: Rows) -> Breaches:
     """An open order is for at most as many jobs as its vehicle carries loads, and picks each of
     them once and, later, drops it once. An order for no job is a drive."""
-    for key, way in rows.ways.items():
+    for key, order in rows.open_orders.items():
         stops: dict[str, list[str]] = collections.defaultdict(list)
-        for act in way.acts:
+        for act in order.acts:
             stops[act.job].append(act.kind)
         for job, kinds in stops.items():
             if kinds != ['pick', 'drop']:
-                yield f'{way.journey}, job {job}', 'its acts for the job are: ' + ', '.join(kinds)
+                yield f'{order.journey}, job {job}', 'its acts for the job are: ' + ', '.join(kinds)
         if len(stops) > rows.capacities.get(key, SEATS):
-            yield way.journey, f'it is for {len(stops)} jobs'
+            yield order.journey, f'it is for {len(stops)} jobs'
 
 
 @rule('places of acts')
-def acts_are_at_stations(rows: Rows) -> Found:
+def acts_are_at_stations(rows: Rows) -> Breaches:
     """Each act of an open order is at the node of its station, which is the origin of its job for a
     pick and the target for a drop; the acts follow the way, and the last one, if there is one, is
     at its end."""
-    for way in rows.ways.values():
-        for act in way.acts:
+    for order in rows.open_orders.values():
+        for act in order.acts:
             station = _station_of(rows, act)
             if station is None:
                 yield act, f'there is no job {value_text(act.job)} with such a station'
-            elif way.node(act.place_at) != rows.stations[station].node:
-                yield act, (
-                    f'it is at place {act.place_at} of the way, and the station '
-                    f'{station} is not there'
-                )
-        places = [act.place_at for act in way.acts]
-        if places != sorted(places) or places[-1:] not in ([], [len(way.legs)]):
+            elif order.node(act.place_at) != rows.stations[station].node:
+                place = f'place {act.place_at} of the way'
+                yield act, f'it is at {place}, and the station {station} is not there'
+        places = [act.place_at for act in order.acts]
+        if places != sorted(places) or places[-1:] not in ([], [len(order.legs)]):
             at = ', '.join(map(str, places))
-            yield way.journey, f'its acts are at the places {at} of a way of {len(way.legs)} edges'
+            text = f'its acts are at the places {at} of a way of {len(order.legs)} edges'
+            yield order.journey, text
 
 
 def _station_of(rows: Rows, act: Act) -> str | None:
+    """Returns the station of an act, the origin or the target of its job, if the layout has it."""
     job = rows.jobs.get(act.job)
     station = None if job is None else job.origin if act.kind == 'pick' else job.target
     return station if station in rows.stations else None
 
 
 @rule('released track')
-def bases_are_in_order(rows: Rows) -> Found:
+def bases_are_in_order(rows: Rows) -> Breaches:
     """What is released of an order's way ends within it, at `base`, and no earlier than where the
     vehicle has got to. The last message begins at `first`: 0 where no update was sent, else before
     `base`. Each of the `sent` updates has released an edge or more."""
-    for way in rows.ways.values():
-        _, _, _, _, first, base, sent, _, seen = way.journey
-        if not base <= len(way.legs):
-            yield way.journey, f'base is {base}, and its way has {len(way.legs)} edges'
+    for order in rows.open_orders.values():
+        _, _, _, _, first, base, sent, _, seen = order.journey
+        if not base <= len(order.legs):
+            yield order.journey, f'base is {base}, and its way has {len(order.legs)} edges'
         for name, value in (('first', first), ('seen', seen), ('sent', sent)):
             if value > base:
-                yield way.journey, f'{name} is {value}, and base {base}'
+                yield order.journey, f'{name} is {value}, and base {base}'
         if sent == 0 and first != 0 or sent > 0 and first == base:
-            yield way.journey, f'first is {first} where sent is {sent} and base {base}'
+            yield order.journey, f'first is {first} where sent is {sent} and base {base}'
 
 
 @rule('confirmed updates')
-def updates_are_confirmed(rows: Rows) -> Found:
+def updates_are_confirmed(rows: Rows) -> Breaches:
     """The last confirmed update is the last one or, if the vehicle hasn't gone further than
     `first`, the one before; if none is confirmed, only the order itself was sent, and nothing of it
     was done."""
-    for way in rows.ways.values():
-        _, _, _, _, first, _, sent, confirmed, seen = way.journey
+    for order in rows.open_orders.values():
+        _, _, _, _, first, _, sent, confirmed, seen = order.journey
         if confirmed is None and (sent, first, seen) != (0, 0, 0):
-            yield way.journey, (
-                f'nothing is confirmed, and sent is {sent}, first {first}, seen ' f'{seen}'
-            )
-        if confirmed is None and any(act.status != 'WAITING' for act in way.acts):
-            yield way.journey, 'nothing is confirmed, and not all of its acts are WAITING'
+            text = f'sent is {sent}, first {first}, seen {seen}'
+            yield order.journey, f'nothing is confirmed, and {text}'
+        if confirmed is None and any(act.status != 'WAITING' for act in order.acts):
+            yield order.journey, 'nothing is confirmed, and not all of its acts are WAITING'
         if (
             confirmed is not None
             and confirmed != sent
             and not (confirmed + 1 == sent and seen <= first)
         ):
-            yield way.journey, f'confirmed is {confirmed}, sent {sent}, seen {seen}, first {first}'
+            text = f'confirmed is {confirmed}, sent {sent}, seen {seen}, first {first}'
+            yield order.journey, text
 
 
 @rule('finished acts')
-def acts_are_finished_in_turn(rows: Rows) -> Found:
+def acts_are_finished_in_turn(rows: Rows) -> Breaches:
     """An act is finished only if its place was reached, and a drop only if its pick is finished."""
-    for way in rows.ways.values():
-        finished = [act for act in way.acts if act.status == 'FINISHED']
+    for order in rows.open_orders.values():
+        finished = [act for act in order.acts if act.status == 'FINISHED']
         picked = {act.job for act in finished if act.kind == 'pick'}
         for act in finished:
-            if act.place_at > way.journey.seen:
-                yield act, f'it is finished at place {act.place_at}, and seen is {way.journey.seen}'
+            if act.place_at > order.journey.seen:
+                text = f'it is finished at place {act.place_at}, and seen is {order.journey.seen}'
+                yield act, text
             if act.kind == 'drop' and act.job not in picked:
                 yield act, f'it is finished, and the pick of {act.job} is not'
 
 
 @rule('ended orders')
-def ended_orders_are_gone(rows: Rows) -> Found:
+def ended_orders_are_gone(rows: Rows) -> Breaches:
     """An order whose vehicle is at the end of the way, with all acts finished or failed, is not
     open."""
-    for way in rows.ways.values():
-        at_end = way.journey.seen == len(way.legs)
-        if at_end and all(act.status in OVER for act in way.acts):
-            yield way.journey, 'it has ended'
+    for order in rows.open_orders.values():
+        at_end = order.journey.seen == len(order.legs)
+        if at_end and all(act.status in OVER for act in order.acts):
+            yield order.journey, 'it has ended'
 
 
 @rule('vehicle on its way')
-def vehicles_are_on_their_way(rows: Rows) -> Found:
+def vehicles_are_on_their_way(rows: Rows) -> Breaches:
     """A vehicle with an open order stands at the node that the order has seen last, and has no
     rest."""
-    for key, way in rows.ways.items():
+    for key, order in rows.open_orders.items():
         vehicle = rows.vehicles.get(key)
-        if vehicle is not None and way.node(way.journey.seen) != vehicle.node:
-            nodes = vehicle.node, way.node(way.journey.seen)
-            text = 'it stands at %s, and the order has seen %s last' % tuple(map(value_text, nodes))
-            yield f'{vehicle}, {way.journey}', text
+        if vehicle is not None and order.node(order.journey.seen) != vehicle.node:
+            seen = value_text(order.node(order.journey.seen))
+            text = f'it stands at {value_text(vehicle.node)}, and the order has seen {seen} last'
+            yield f'{vehicle}, {order.journey}', text
         if vehicle is not None and vehicle.rest_node is not None:
-            yield f'{vehicle}, {way.journey}', 'it has a rest'
+            yield f'{vehicle}, {order.journey}', 'it has a rest'
 
 
-# ---- the track
+# ---- the nodes and edges that are held
 
 
 @rule('one holder')
-def track_is_apart(rows: Rows) -> Found:
+def nothing_is_held_twice(rows: Rows) -> Breaches:
     """No node or edge is held by two vehicles: where each stands, its rest, and what is released to
     it."""
     for (kind, name), keys in rows.held.items():
@@ -192,7 +192,7 @@ def track_is_apart(rows: Rows) -> Found:
 
 
 @rule('holds')
-def holds_are_what_is_held(rows: Rows) -> Found:
+def holds_are_what_is_held(rows: Rows) -> Breaches:
     """`hold` has exactly the nodes and edges that are held, each with its vehicle."""
     for row in rows.hold:
         if key_of(row) not in rows.held.get((row.kind, row.id), ()):

@@ -1,6 +1,6 @@
-"""Why a desk does not start on a file and a port, or has ended: each reason as a sentence that says
-what to do. The file, what lies beside it and the machine are only looked at; names in them are
-anybody's, and are told as `shown` shows them."""
+"""Finds the reasons why a desk does not start on a file and a port, or has ended: sentences that
+say what to do. The file, what lies beside it and the machine are only read. Names in them may be
+anybody's, so they are printed by `shown`."""
 from __future__ import annotations
 
 import itertools
@@ -14,9 +14,9 @@ from . import machine, opening
 from .contents import (
     Findings,
     command_text,
-    guarded,
-    look_at_names,
-    look_into,
+    noting_faults,
+    check_table_names,
+    check_rows_of,
     path_text,
 )
 from .machine import Program, User
@@ -25,29 +25,30 @@ ROOM = 1_000_000  # bytes: with less on the disk a desk that begins or copies it
 LAST_SECOND = 4102444799  # of 2099
 
 
-def look(path: str, port: int | None, user: User, rows_of_a_rule: int) -> Findings:
-    """The reasons, with at most so many rows for each rule that they break."""
+def find_reasons(path: str, port: int | None, user: User, rows_of_a_rule: int) -> Findings:
+    """Finds the reasons on this file, port and user, with at most `rows_of_a_rule` rows for each
+    rule that rows break."""
     findings = Findings()
     if not 0 <= time.time() <= LAST_SECOND:
         findings.reasons.append('The clock is not between 1970 and 2099 (`fault: Clock`): set it.')
-    is_free, holders = _look_at_path(findings, path, user)
+    is_free, holders = _check_path(findings, path, user)
     if port is not None:
-        _look_at_port(findings, path, port, user, holders)
+        _check_port(findings, path, port, user, holders)
     elif holders:
         findings.reasons.append(_has_file(path, holders))
     if is_free and os.path.exists(path):
-        look_into(findings, path, rows_of_a_rule)
+        check_rows_of(findings, path, rows_of_a_rule)
     return findings
 
 
-def look_at_file(path: str) -> Findings:
-    """Whether the file is a desk's, by its tables alone: its rows are not read. It is a reason,
-    too, that a desk would begin a new warehouse."""
+def check_file(path: str) -> Findings:
+    """Finds whether the file is a desk's, by its tables alone; its rows are not read. That a desk
+    would begin a new warehouse is a reason, too."""
     findings = Findings()
     if not os.path.exists(path):
         findings.note_new(f'There is no file {path_text(path)}.')
     else:
-        guarded(findings, path, lambda: look_at_names(findings, path))
+        noting_faults(findings, path, lambda: check_table_names(findings, path))
     if findings.is_new:
         why = ' '.join(findings.notes)
         text = f'No desk is started, since it would begin a new warehouse: {why} {MAKE}'
@@ -65,6 +66,7 @@ MAKE = (
 
 
 def _has_file(path: str, holders: list[Program]) -> str:
+    """Returns the sentence that these programs have the file open, and what to do."""
     whose = ' and '.join(map(str, holders))
     return (
         f'{whose} has {path_text(path)} open, and a desk needs its file to itself (`fault:'
@@ -72,10 +74,11 @@ def _has_file(path: str, holders: list[Program]) -> str:
     )
 
 
-def _look_at_port(
+def _check_port(
     findings: Findings, path: str, port: int, user: User, holders: list[Program]
 ) -> None:
-    """Who listens on the port, and who of them has the file, too."""
+    """Notes which programs listen on the port, which of them have the file open, and whether the
+    user may use the port."""
     listeners = machine.who_listens(port)
     for listener in listeners:
         if listener.program in holders:
@@ -104,9 +107,9 @@ def _look_at_port(
 # ---- the folder, the file, the rights and the disk
 
 
-def _look_at_path(findings: Findings, path: str, user: User) -> tuple[bool, list[Program]]:
-    """What keeps the user from the file; whether it may be looked into, and which programs have
-    it."""
+def _check_path(findings: Findings, path: str, user: User) -> tuple[bool, list[Program]]:
+    """Notes what keeps the user from the file. Returns whether its rows may be read, and which
+    programs have it open."""
     path = os.path.abspath(path)
     folder = os.path.dirname(path)
     elsewhere = lock.reason(path)
@@ -119,12 +122,7 @@ def _look_at_path(findings: Findings, path: str, user: User) -> tuple[bool, list
     if reason:
         findings.reasons.append(reason + ' (`fault: Storage`)')
         return False, []
-    free = machine.free_bytes(folder, user)
-    if free < ROOM:
-        findings.reasons.append(
-            f'The disk of {path_text(folder)} is full: {free} bytes are free, and a desk needs'
-            f' {ROOM} (`fault: Storage`). Make room.'
-        )
+    _check_disk(findings, folder, user)
     if not os.path.exists(path):
         findings.note_new(
             f'There is no file {path_text(path)}: a desk that is started makes it, and begins a new'
@@ -146,8 +144,18 @@ def _look_at_path(findings: Findings, path: str, user: User) -> tuple[bool, list
     return not holders and not is_locked, list(dict.fromkeys(holders))
 
 
+def _check_disk(findings: Findings, folder: str, user: User) -> None:
+    """Notes that the disk of a folder is full."""
+    free = machine.free_bytes(folder, user)
+    if free < ROOM:
+        findings.reasons.append(
+            f'The disk of {path_text(folder)} is full: {free} bytes are free, and a desk needs'
+            f' {ROOM} (`fault: Storage`). Make room.'
+        )
+
+
 def _folder(folder: str, user: User) -> str | None:
-    """What is wrong with the folder or one above it."""
+    """Returns what is wrong with the folder or one above it."""
     parts = itertools.accumulate(
         folder.split('/')[1:], lambda above, name: above + '/' + name, initial=''
     )
@@ -171,6 +179,7 @@ GRANT = 'give the right, by `chmod` or `chown`, or run the desk as another user.
 
 
 def _new_file(path: str, user: User) -> str | None:
+    """Returns what keeps the user from making a file at a path."""
     return (
         None
         if user.may(os.path.dirname(path), os.W_OK)
@@ -179,6 +188,7 @@ def _new_file(path: str, user: User) -> str | None:
 
 
 def _no_writing(folder: str, user: User) -> str:
+    """Returns the sentence that the user may not make files in a folder, and what to do."""
     return (
         f'The user {user} may not make files in the folder {path_text(folder)}'
         f' ({machine.owner(folder)}): {_mounted(folder) or GRANT}'
@@ -186,13 +196,14 @@ def _no_writing(folder: str, user: User) -> str:
 
 
 def _mounted(path: str) -> str | None:
+    """Returns what to do where the disk of a path is mounted read-only, else None."""
     readable = os.statvfs(path).f_flag & os.ST_RDONLY
     return 'its disk is mounted read-only: mount it read-write.' if readable else None
 
 
 def _file(path: str, user: User) -> str | None:
-    """What is wrong with the file itself, the log beside it, or the folder where that is to be
-    made."""
+    """Returns what is wrong with the file, the log beside it, or the folder in which the log is to
+    be made."""
     if os.path.isdir(path):
         return (
             f'{path_text(path)} is a folder: name a file in it, as'

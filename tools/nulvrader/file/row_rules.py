@@ -1,7 +1,7 @@
 """The rules of each row by itself, of the layout and of the vehicles."""
 import collections
 
-from .checks import SEATS, Found, rule, value_text, vehicle_text
+from .checks import SEATS, Breaches, rule, value_text, vehicle_text
 from ..common.names import is_name
 from .rows import Rows
 from .tables import (
@@ -27,21 +27,21 @@ PENDING = (None, 'startPause', 'stopPause', 'cancelOrder')
 
 
 @rule('schema')
-def has_schema(rows: Rows) -> Found:
+def has_schema(rows: Rows) -> Breaches:
     """`meta` has one row, 1 and the number of the schema, which is 2."""
     if rows.meta != [(1, 2)]:
         yield 'meta', f'its rows are {", ".join(str(tuple(row)) for row in rows.meta) or "none"}'
 
 
 @rule('no old trips')
-def has_no_trips(rows: Rows) -> Found:
+def has_no_trips(rows: Rows) -> Breaches:
     """`trip` is empty: only the first schema has open orders there."""
     for trip in rows.trip:
         yield trip, 'it belongs to the first schema'
 
 
 @rule('one row a key')
-def has_keys_once(rows: Rows) -> Found:
+def has_keys_once(rows: Rows) -> Breaches:
     """No two rows of a table have the same key; no vehicle has two journeys, and no job two picks
     or two drops."""
     found = collections.Counter(map(str, rows.all()))
@@ -53,7 +53,7 @@ def has_keys_once(rows: Rows) -> Found:
 
 
 @rule('names')
-def has_names(rows: Rows) -> Found:
+def has_names(rows: Rows) -> Breaches:
     """Nodes, edges, stations, vehicles, loads, jobs, orders and references have names of 1 to 32
     bytes of `A-Z a-z 0-9 _ . : -`, and so has the order that a vehicle has reported."""
     named: list[Node | Edge | Station | Load | Job | Used]
@@ -68,7 +68,7 @@ def has_names(rows: Rows) -> Found:
 
 
 @rule('words')
-def has_words(rows: Rows) -> Found:
+def has_words(rows: Rows) -> Breaches:
     """Kinds, phases, statuses, pending actions and truth values are those of docs/TABLES.md."""
     for vehicle in rows.vehicle:
         yield from _wrong(vehicle, 'pending', vehicle.pending, PENDING)
@@ -87,16 +87,15 @@ def has_words(rows: Rows) -> Found:
         yield from _wrong(used, 'kind', used.kind, ('order', 'ref'))
 
 
-def _wrong(row: object, column: str, value: object, words: tuple[object, ...]) -> Found:
+def _wrong(row: object, column: str, value: object, words: tuple[object, ...]) -> Breaches:
+    """Yields a breach where the value of a column is none of these words."""
     if value not in words:
-        yield row, (
-            f'{column} is {value_text(value)}, and not one of '
-            f'{", ".join(map(value_text, words))}'
-        )
+        known = ', '.join(map(value_text, words))
+        yield row, f'{column} is {value_text(value)}, and not one of {known}'
 
 
 @rule('numbers')
-def has_numbers(rows: Rows) -> Found:
+def has_numbers(rows: Rows) -> Breaches:
     """Numbers lie from 0 to 4294967295, moments from 0 to 4102444799999."""
     for vehicle in rows.vehicle:
         for column in ('last_header', 'order_header', 'instant_header', 'order_at', 'instant_at'):
@@ -113,7 +112,7 @@ def has_numbers(rows: Rows) -> Found:
 
 
 @rule('limits')
-def is_within_limits(rows: Rows) -> Found:
+def is_within_limits(rows: Rows) -> Breaches:
     """There are at most 500 nodes, 1,500 edges, 500 stations, 100 vehicles, and 1,000,000 loads,
     jobs, orders and references each, ended ones included."""
     used = collections.Counter(row.kind for row in rows.used)
@@ -134,15 +133,15 @@ def is_within_limits(rows: Rows) -> Found:
 # ---- the layout
 
 
-def unknown_nodes(rows: Rows, row: Edge | Station | Vehicle, *nodes: str) -> Found:
-    """Those of a row's nodes that the layout doesn't have."""
+def unknown_nodes(rows: Rows, row: Edge | Station | Vehicle, *nodes: str) -> Breaches:
+    """Yields a breach for each of these nodes of a row that the layout doesn't have."""
     for node in nodes:
         if node not in rows.nodes:
             yield row, 'there is no node ' + value_text(node)
 
 
 @rule('edges')
-def edges_join_nodes(rows: Rows) -> Found:
+def edges_join_nodes(rows: Rows) -> Breaches:
     """An edge leads from a node of the layout to another one."""
     for edge in rows.edge:
         yield from unknown_nodes(rows, edge, edge.start, edge.finish)
@@ -151,7 +150,7 @@ def edges_join_nodes(rows: Rows) -> Found:
 
 
 @rule('stations')
-def stations_are_at_nodes(rows: Rows) -> Found:
+def stations_are_at_nodes(rows: Rows) -> Breaches:
     """A station is at a node of the layout, and its capacity is 1 to 999 loads."""
     for station in rows.station:
         yield from unknown_nodes(rows, station, station.node)
@@ -163,14 +162,14 @@ def stations_are_at_nodes(rows: Rows) -> Found:
 
 
 @rule('where a vehicle stands')
-def vehicles_are_at_nodes(rows: Rows) -> Found:
+def vehicles_are_at_nodes(rows: Rows) -> Breaches:
     """A vehicle stands at a node of the layout."""
     for vehicle in rows.vehicle:
         yield from unknown_nodes(rows, vehicle, vehicle.node)
 
 
 @rule('rest of a vehicle')
-def rests_go_on(rows: Rows) -> Found:
+def rests_go_on(rows: Rows) -> Breaches:
     """A vehicle's rest is an edge that begins where it stands, and the node where that edge ends;
     or it has none."""
     for vehicle in rows.vehicle:
@@ -179,12 +178,13 @@ def rests_go_on(rows: Rows) -> Found:
         if rest != (None, None) and (
             edge is None or (edge.start, edge.finish) != (vehicle.node, vehicle.rest_node)
         ):
-            text = 'it stands at %s, and its rest is the edge %s to the node %s'
-            yield vehicle, text % tuple(map(value_text, (vehicle.node, *rest)))
+            node, rest_edge, rest_node = map(value_text, (vehicle.node, *rest))
+            text = f'its rest is the edge {rest_edge} to the node {rest_node}'
+            yield vehicle, f'it stands at {node}, and {text}'
 
 
 @rule('moments of messages')
-def moments_have_messages(rows: Rows) -> Found:
+def moments_have_messages(rows: Rows) -> Breaches:
     """The moment of a vehicle's last message is 0 if none was sent."""
     for vehicle in rows.vehicle:
         for topic, count, at in (
@@ -192,23 +192,21 @@ def moments_have_messages(rows: Rows) -> Found:
             ('instantActions', vehicle.instant_header, vehicle.instant_at),
         ):
             if count == 0 and at != 0:
-                yield vehicle, (
-                    f'no {topic} message was sent to it, and the moment of the last ' f'one is {at}'
-                )
+                text = f'the moment of the last one is {at}'
+                yield vehicle, f'no {topic} message was sent to it, and {text}'
 
 
 @rule('pending actions')
-def pending_actions_were_sent(rows: Rows) -> Found:
+def pending_actions_were_sent(rows: Rows) -> Breaches:
     """An instant action is pending only if an instantActions message was sent."""
     for vehicle in rows.vehicle:
         if vehicle.pending is not None and vehicle.instant_header == 0:
-            yield vehicle, (
-                f'{vehicle.pending} is pending, and no instantActions message was ' 'sent to it'
-            )
+            text = 'no instantActions message was sent to it'
+            yield vehicle, f'{vehicle.pending} is pending, and {text}'
 
 
 @rule('capacity of a vehicle')
-def vehicles_have_a_capacity(rows: Rows) -> Found:
+def vehicles_have_a_capacity(rows: Rows) -> Breaches:
     """Each vehicle has a row in `capacity`, and nothing else has; it carries 1 to 4 loads."""
     for vehicle in rows.vehicle:
         if key_of(vehicle) not in rows.capacities:

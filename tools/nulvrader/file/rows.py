@@ -1,5 +1,5 @@
-"""The rows of a desk's file, and what follows from them that more than one rule asks for: the way
-of each open order, and what each vehicle holds. A file may have anything in the place of these
+"""Reads the rows of a desk's file, and derives from them what more than one rule needs: each open
+order with its way, and what each vehicle holds. The file may have anything in the place of these
 rows: they are read one by one, and no more than a desk has."""
 from __future__ import annotations
 
@@ -7,7 +7,7 @@ import collections
 import dataclasses
 import functools
 import sqlite3
-from collections.abc import Callable, Iterable, Iterator
+from collections.abc import Callable, Iterator
 from typing import Any, TypeVar
 
 from .tables import (
@@ -25,7 +25,7 @@ from .tables import (
     Load,
     Meta,
     Node,
-    Row,
+    AnyRow,
     Station,
     Trip,
     Used,
@@ -39,8 +39,8 @@ Thing = tuple[str, str]  # `node` or `edge`, and its name
 
 
 @dataclasses.dataclass(frozen=True)
-class Way:
-    """An open order: its journey, its legs and its acts in their order, and the nodes of its way. A
+class OpenOrder:
+    """An open order: its rows of the tables `journey`, `leg` and `act`, and the nodes of its way. A
     node is None where the layout doesn't have the edge before it."""
 
     journey: Journey
@@ -49,10 +49,11 @@ class Way:
     nodes: list[str | None]
 
     def node(self, k: int) -> str | None:
+        """Returns the node at place k of the way, from 0; None where there is none."""
         return self.nodes[k] if 0 <= k < len(self.nodes) else None
 
     def released(self) -> Iterator[Thing]:
-        """The node that the vehicle has reached, and each edge and node that is released ahead of
+        """Yields the node that the vehicle has reached, and each released edge and node ahead of
         it."""
         journey = self.journey
         for k in range(max(journey.seen, 0), min(journey.base, len(self.legs)) + 1):
@@ -63,11 +64,13 @@ class Way:
                 yield 'edge', self.legs[k].edge
 
 
-Named = TypeVar('Named', Edge, Station, Load, Job)
+NamedRow = TypeVar('NamedRow', Edge, Station, Load, Job)
 
 
-def by_name(rows_of: Callable[[Rows], list[Named]]) -> functools.cached_property[dict[str, Named]]:
-    """The rows of a table by their names, made when they are first asked for."""
+def by_name(
+    rows_of: Callable[[Rows], list[NamedRow]]
+) -> functools.cached_property[dict[str, NamedRow]]:
+    """Returns a property with the rows of a table by their names, which is made once."""
     return functools.cached_property(lambda rows: {row.id: row for row in rows_of(rows)})
 
 
@@ -90,13 +93,14 @@ class Rows:
     journey: list[Journey]
     act: list[Act]
 
-    def all(self) -> Iterator[Row]:
-        """All rows, table by table."""
+    def all(self) -> Iterator[AnyRow]:
+        """Yields all rows, table by table."""
         for table in TABLES:
             yield from getattr(self, table)
 
     @functools.cached_property
     def nodes(self) -> set[str]:
+        """The names of the nodes."""
         return {row.id for row in self.node}
 
     edges = by_name(lambda rows: rows.edge)
@@ -106,14 +110,16 @@ class Rows:
 
     @functools.cached_property
     def vehicles(self) -> dict[Key, Vehicle]:
+        """The vehicles by their keys."""
         return {key_of(row): row for row in self.vehicle}
 
     @functools.cached_property
     def capacities(self) -> dict[Key, int]:
+        """The capacity of each vehicle."""
         return {key_of(row): row.capacity for row in self.capacity}
 
     @functools.cached_property
-    def ways(self) -> dict[Key, Way]:
+    def open_orders(self) -> dict[Key, OpenOrder]:
         """The open order of each vehicle that has one."""
         legs: dict[str, list[Leg]] = collections.defaultdict(list)
         acts: dict[str, list[Act]] = collections.defaultdict(list)
@@ -123,34 +129,34 @@ class Rows:
             acts[act.order_id].append(act)
         found = {}
         for journey in self.journey:
-            way = legs.get(journey.order_id, [])
-            ends = [self.edges[leg.edge].finish if leg.edge in self.edges else None for leg in way]
-            found[key_of(journey)] = Way(
-                journey, way, acts.get(journey.order_id, []), [journey.start, *ends]
+            walk = legs.get(journey.order_id, [])
+            ends = [self.edges[leg.edge].finish if leg.edge in self.edges else None for leg in walk]
+            found[key_of(journey)] = OpenOrder(
+                journey, walk, acts.get(journey.order_id, []), [journey.start, *ends]
             )
         return found
 
     @functools.cached_property
     def to_drop(self) -> dict[str, Act]:
-        """By job, the drop of an open order that is not finished."""
-        acts = (act for way in self.ways.values() for act in way.acts)
+        """The drops of open orders that are not finished, by their jobs."""
+        acts = (act for order in self.open_orders.values() for act in order.acts)
         return {act.job: act for act in acts if act.kind == 'drop' and act.status != 'FINISHED'}
 
     @functools.cached_property
     def held(self) -> dict[Thing, list[Key]]:
-        """Each node and edge that is held, with the vehicles that hold it: of one without an order
-        the node where it stands and its rest, of one with an order what is released to it."""
+        """The vehicles that hold each node and edge. A vehicle without an order holds the node
+        where it stands and its rest, one with an order what is released to it."""
         found: dict[Thing, list[Key]] = collections.defaultdict(list)
         for key, vehicle in self.vehicles.items():
-            things: Iterable[Thing] = (
-                self.ways[key].released() if key in self.ways else _without_order(vehicle)
-            )
+            order = self.open_orders.get(key)
+            things = _without_order(vehicle) if order is None else order.released()
             for thing in dict.fromkeys(things):
                 found[thing].append(key)
         return found
 
 
 def _without_order(vehicle: Vehicle) -> Iterator[Thing]:
+    """Yields what a vehicle without an order holds."""
     yield 'node', vehicle.node
     if vehicle.rest_edge is not None:
         yield 'edge', vehicle.rest_edge
@@ -163,20 +169,23 @@ VALUE = 1000  # the most bytes of one that SQLite reads, where it lies in more t
 
 
 class BadRows(Exception):
-    """Rows that no table of a desk's has, which no rule can be asked about. Its `str()` says what
-    is wrong."""
+    """A table has rows of a form that no desk writes, so that no rule can be checked. Its `str()`
+    says what is wrong."""
 
 
-def rows_in(base: sqlite3.Connection, table: str, most: int | None = None) -> Iterator[Any]:
-    """The rows of a table, past its indexes, at most `MOST` or as many as is said. Bytes that are
-    no UTF-8 become characters that no name has. A row whose values are not of the types of its
-    columns, or one with a text of more than `LONGEST` characters, is a `BadRows`."""
-    base.text_factory = any_text
-    base.setlimit(sqlite3.SQLITE_LIMIT_LENGTH, VALUE)
+def rows_in(connection: sqlite3.Connection, table: str, most: int | None = None) -> Iterator[Any]:
+    """Yields the rows of a table without the use of an index. Bytes that are not UTF-8 become
+    characters that no name has. Raises `BadRows` for more than `most` rows (without it the `MOST`
+    of the table), a value that is not of the type of its column, and a text of more than `LONGEST`
+    characters."""
+    connection.text_factory = any_text
+    connection.setlimit(sqlite3.SQLITE_LIMIT_LENGTH, VALUE)
     allowed, make = types_of(table), TABLES[table]._make
     most = MOST[table] if most is None else most
     names = ', '.join(f'"{name}"' for name in columns(table))
-    for number, values in enumerate(base.execute(f'SELECT {names} FROM "{table}" NOT INDEXED')):
+    for number, values in enumerate(
+        connection.execute(f'SELECT {names} FROM "{table}" NOT INDEXED')
+    ):
         if number >= most:
             raise BadRows(f'the table {table} has more than {most} rows')
         if tuple(map(type, values)) not in allowed:
@@ -186,14 +195,15 @@ def rows_in(base: sqlite3.Connection, table: str, most: int | None = None) -> It
         yield make(values)
 
 
-def read_rows(base: sqlite3.Connection) -> Rows:
-    """All rows of a file of the second schema."""
-    return Rows(**{table: _read(base, table) for table in TABLES})
+def read_rows(connection: sqlite3.Connection) -> Rows:
+    """Reads all rows of a file of the second schema."""
+    return Rows(**{table: _read(connection, table) for table in TABLES})
 
 
-def read_first_rows(base: sqlite3.Connection) -> Rows:
-    """All rows of a file of the first schema, as `migrate` makes them rows of the second one."""
-    found = {table: _read(base, table) for table in TABLES if table not in SECOND}
+def read_first_rows(connection: sqlite3.Connection) -> Rows:
+    """Reads all rows of a file of the first schema, and returns them as `migrate` would write them
+    in the second one."""
+    found = {table: _read(connection, table) for table in TABLES if table not in SECOND}
     trips: list[Trip] = found.pop('trip')
     found['meta'] = [Meta(row.id, row.schema + 1) for row in found['meta']]
     return Rows(
@@ -206,20 +216,23 @@ def read_first_rows(base: sqlite3.Connection) -> Rows:
 
 
 def _journey_of(trip: Trip) -> Journey:
+    """Returns the row of `journey` that `migrate` makes of a trip."""
     walk = trip.start, trip.first, trip.base, trip.sent, trip.confirmed, trip.seen
     return Journey(trip.order_id, trip.manufacturer, trip.serial, *walk)
 
 
 def _acts_of(trip: Trip) -> Iterator[Act]:
+    """Yields the rows of `act` that `migrate` makes of a trip."""
     yield Act(trip.order_id, 0, trip.job, 'pick', trip.pick_at, trip.pick_status)
     yield Act(trip.order_id, 1, trip.job, 'drop', trip.drop_at, trip.drop_status)
 
 
 def any_text(data: bytes) -> str:
-    """A text of SQLite, also where it is no UTF-8."""
+    """Returns a text of SQLite, which need not be UTF-8."""
     return data.decode('utf-8', 'surrogateescape')
 
 
-def _read(base: sqlite3.Connection, table: str) -> list[Any]:
-    """The rows of a table, and some more than there may be, so that a rule tells that."""
-    return list(rows_in(base, table, MOST[table] + 1000))
+def _read(connection: sqlite3.Connection, table: str) -> list[Any]:
+    """Reads the rows of a table, and up to 1000 beyond the limit, so that a rule can say that there
+    are too many."""
+    return list(rows_in(connection, table, MOST[table] + 1000))

@@ -1,6 +1,5 @@
-"""The rules that the rows of a desk's file keep, and which rows break them. A desk is opened only
-over rows that keep them all; docs/MODEL.md says the same of the world, and docs/TABLES.md has the
-list of the rules."""
+"""The list of the rules for the rows of a desk's file. A desk starts only on rows that keep all of
+them. docs/TABLES.md has the same list, and docs/MODEL.md says the same of the world."""
 import dataclasses
 import itertools
 from collections.abc import Iterator
@@ -10,7 +9,7 @@ from .checks import Breach, Rule
 from .rows import Rows
 from ..common.text import shown
 
-TOLD = 1000  # the most characters that are told of what is wrong with rows
+LONGEST = 1000  # the most characters of what is wrong with rows
 RULES: list[Rule] = [
     row_rules.has_schema,
     row_rules.has_no_trips,
@@ -37,7 +36,7 @@ RULES: list[Rule] = [
     order_rules.acts_are_finished_in_turn,
     order_rules.ended_orders_are_gone,
     order_rules.vehicles_are_on_their_way,
-    order_rules.track_is_apart,
+    order_rules.nothing_is_held_twice,
     order_rules.holds_are_what_is_held,
     stock_rules.loads_have_places,
     stock_rules.jobs_name_what_is_known,
@@ -54,7 +53,7 @@ RULES: list[Rule] = [
 
 @dataclasses.dataclass(frozen=True)
 class Broken:
-    """A rule that rows break: the first breaches of it, and how many more there are."""
+    """A rule that rows break: the first breaches, and how many more there are."""
 
     rule: Rule
     first: list[Breach]
@@ -62,11 +61,11 @@ class Broken:
 
 
 def broken_rules(rows: Rows, most: int) -> Iterator[Broken]:
-    """The rules that are broken, in their order, with at most so many breaches of each; none where
-    the rows are those of a lawful world."""
+    """Yields the rules that the rows break, in the order of `RULES`, each with at most `most`
+    breaches."""
     for rule in RULES:
         found = rule.check(rows)
         some = itertools.islice(found, most)
-        first = [Breach(rule, shown(str(of)), shown(text, TOLD)) for of, text in some]
+        first = [Breach(rule, shown(str(of)), shown(text, LONGEST)) for of, text in some]
         if first:
             yield Broken(rule, first, sum(1 for _ in found))

@@ -1,6 +1,6 @@
-"""The file of a desk that is stopped, read by SQLite. Neither it nor what lies beside it is
-changed. It may be anybody's file: it is read if its tables are a desk's, and given as far as its
-rows could be those of a desk."""
+"""Reads the file of a desk that is stopped, by SQLite. Neither the file nor what lies beside it is
+changed. The file may be anybody's: its rows are read only if its tables are a desk's, and only as
+long as they could be a desk's rows."""
 from __future__ import annotations
 
 import contextlib
@@ -24,7 +24,8 @@ NO_TABLES = 'it has no tables of a desk'
 
 
 class Unread(Exception):
-    """Why there is nothing to read. Its `str()` is a sentence that begins with the file's name."""
+    """A file that can't be read as a desk's. Its `str()` is a sentence that begins with the file's
+    name."""
 
     def __init__(self, path: str, why: str) -> None:
         super().__init__(f'{shown(path, PATH)}: {shown(why, 2 * PATH)}')
@@ -32,18 +33,16 @@ class Unread(Exception):
 
 @contextlib.contextmanager
 def opened(path: str, folder: str | None = None) -> Iterator[sqlite3.Connection]:
-    """A connection to the file of a desk, or to a copy of it in the folder `folder`; `Unread` where
-    that can't be, or where a question of the block fails. Its tables are a desk's, so that a
-    question to them computes nothing else.
-    """
+    """Opens the file of a desk, or where it has a log a copy in `folder`. Raises `Unread` where its
+    tables are not a desk's, or where opening it or a query of the block fails."""
     try:
         if not os.path.exists(path):
             raise Unread(path, 'there is no such file')
         if opening.has_journal(path):
             raise Unread(path, STOPPED)
-        with opening.opened(path, alone=True, folder=folder) as base:
-            _check_tables(path, base)
-            yield base
+        with opening.opened(path, alone=True, folder=folder) as connection:
+            _check_tables(path, connection)
+            yield connection
     except BlockingIOError:
         raise Unread(path, LOCKED) from None
     except NotPlain as fault:
@@ -57,10 +56,10 @@ def opened(path: str, folder: str | None = None) -> Iterator[sqlite3.Connection]
         raise Unread(path, NO_TABLES if is_none else opening.why_unread(fault)) from None
 
 
-def _check_tables(path: str, base: sqlite3.Connection) -> None:
-    """Whether the tables are those of a desk, and of this schema."""
-    found = database.tables_of(base)
-    if found.is_first or found.is_second and [*rows_in(base, 'meta')] != [(1, SCHEMA)]:
+def _check_tables(path: str, connection: sqlite3.Connection) -> None:
+    """Raises `Unread` where the tables are not a desk's of this schema."""
+    found = database.tables_of(connection)
+    if found.is_first or found.is_second and [*rows_in(connection, 'meta')] != [(1, SCHEMA)]:
         raise Unread(path, f'it has not schema {SCHEMA}: `./desk migrate` migrates one of schema 1')
     if not found.is_second:
         why = found.odd or [f'the table {name} is missing' for name in found.missing]
@@ -68,22 +67,22 @@ def _check_tables(path: str, base: sqlite3.Connection) -> None:
         raise Unread(path, NO_TABLES if is_none else f"its tables aren't those of a desk: {why[0]}")
 
 
-def rows_in(base: sqlite3.Connection, table: str) -> Iterator[Any]:
-    """The rows of a table, no more than a desk has, each text of which is a name or a word of the
-    desk's; else it is a `BadRows`."""
-    for row in rows.rows_in(base, table):
+def rows_in(connection: sqlite3.Connection, table: str) -> Iterator[Any]:
+    """Yields the rows of a table. Raises `BadRows` for more rows than a desk has, and for a text
+    that could not be a name."""
+    for row in rows.rows_in(connection, table):
         for value in row:
             if isinstance(value, str) and not is_name(value):
                 raise BadRows(f'the table {table} has a text that is no name')
         yield row
 
 
-def layout_in(base: sqlite3.Connection) -> Layout:
-    """The layout; it has no nodes before one is set."""
+def layout_in(connection: sqlite3.Connection) -> Layout:
+    """Reads the layout, which has no nodes before one is set."""
     layout = of_parts(
-        (row.id for row in rows_in(base, 'node')),
-        (Edge(*row) for row in rows_in(base, 'edge')),
-        (Station(*row) for row in rows_in(base, 'station')),
+        (row.id for row in rows_in(connection, 'node')),
+        (Edge(*row) for row in rows_in(connection, 'edge')),
+        (Station(*row) for row in rows_in(connection, 'station')),
     )
     ends = {node for edge in layout.edges.values() for node in (edge.start, edge.finish)}
     if not ends | {station.node for station in layout.stations.values()} <= set(layout.nodes):
@@ -91,11 +90,11 @@ def layout_in(base: sqlite3.Connection) -> Layout:
     return layout
 
 
-def places_in(base: sqlite3.Connection) -> dict[str, str]:
-    """The place of each load, those that left too, by the load's name: `station A`, `vehicle
-    KIT/0001`, `checking`, `left`."""
+def places_in(connection: sqlite3.Connection) -> dict[str, str]:
+    """Reads the place of each load, even of those that have left, by the load's name: `station A`,
+    `vehicle KIT/0001`, `checking`, `left`."""
     found = {}
-    for load in sorted(rows_in(base, 'load'), key=lambda row: str(row.id)):
+    for load in sorted(rows_in(connection, 'load'), key=lambda row: str(row.id)):
         where = {'station': load.station, 'vehicle': f'{load.manufacturer}/{load.serial}'}.get(
             load.kind
         )
@@ -103,11 +102,13 @@ def places_in(base: sqlite3.Connection) -> dict[str, str]:
     return found
 
 
-def vehicles_in(base: sqlite3.Connection, layout: Layout) -> dict[VehicleKey, tuple[str, int]]:
-    """The node and the capacity of each vehicle."""
-    capacities = {key_of(row): row.capacity for row in rows_in(base, 'capacity')}
+def vehicles_in(
+    connection: sqlite3.Connection, layout: Layout
+) -> dict[VehicleKey, tuple[str, int]]:
+    """Reads the node and the capacity of each vehicle."""
+    capacities = {key_of(row): row.capacity for row in rows_in(connection, 'capacity')}
     found = {}
-    for row in sorted(rows_in(base, 'vehicle'), key=key_of):
+    for row in sorted(rows_in(connection, 'vehicle'), key=key_of):
         if row.node not in layout.nodes or key_of(row) not in capacities:
             raise BadRows(
                 'a vehicle has no capacity, or stands at a node that the layout does not have'
@@ -116,6 +117,8 @@ def vehicles_in(base: sqlite3.Connection, layout: Layout) -> dict[VehicleKey, tu
     return found
 
 
-def live_jobs_in(base: sqlite3.Connection) -> dict[str, tuple[str, str]]:
-    """By the load of each live job, the job and its target."""
-    return {job.load: (job.id, job.target) for job in rows_in(base, 'job') if job.phase in LIVE}
+def live_jobs_in(connection: sqlite3.Connection) -> dict[str, tuple[str, str]]:
+    """Reads the live jobs: by the load of each, its name and its target."""
+    return {
+        job.load: (job.id, job.target) for job in rows_in(connection, 'job') if job.phase in LIVE
+    }

@@ -1,5 +1,5 @@
-"""The tables of a desk's file as docs/TABLES.md has them: a type for the rows of each, its columns
-and its keys, and how many rows it may have."""
+"""The tables of a desk's file, as docs/TABLES.md has them: the type of their rows, their columns
+and keys, and how many rows each may have."""
 from __future__ import annotations
 
 import functools
@@ -10,45 +10,46 @@ from typing import Any, NamedTuple, TypeVar
 
 MANY = 1_000_000  # the most loads, jobs, orders and references, of each
 LIVE = ('waiting', 'riding')
-Of = TypeVar('Of', bound=type[tuple[Any, ...]])
+RowType = TypeVar('RowType', bound=type[tuple[Any, ...]])
 
 
-def told_as(form: str) -> Callable[[Of], Of]:
-    """Has `str()` of a row tell its table and its key, which are its first columns."""
+def shown_as(form: str) -> Callable[[RowType], RowType]:
+    """Returns a decorator that makes `str()` of a row the name of its table and its key, which is
+    in its first columns."""
 
-    def with_text(of: Of) -> Of:
-        setattr(of, '__str__', lambda row: form.format(*row))
-        return of
+    def with_text(kind: RowType) -> RowType:
+        setattr(kind, '__str__', lambda row: form.format(*row))
+        return kind
 
     return with_text
 
 
-@told_as('meta {}, {}')
+@shown_as('meta {}, {}')
 class Meta(NamedTuple):
     id: int
     schema: int
 
 
-@told_as('node {}')
+@shown_as('node {}')
 class Node(NamedTuple):
     id: str
 
 
-@told_as('edge {}')
+@shown_as('edge {}')
 class Edge(NamedTuple):
     id: str
     start: str
     finish: str
 
 
-@told_as('station {}')
+@shown_as('station {}')
 class Station(NamedTuple):
     id: str
     node: str
     capacity: int
 
 
-@told_as('vehicle {}/{}')
+@shown_as('vehicle {}/{}')
 class Vehicle(NamedTuple):
     manufacturer: str
     serial: str
@@ -66,7 +67,7 @@ class Vehicle(NamedTuple):
     pending: str | None
 
 
-@told_as('trip {}')
+@shown_as('trip {}')
 class Trip(NamedTuple):
     """An open order as the first schema has it; in the second one this table is empty."""
 
@@ -86,14 +87,14 @@ class Trip(NamedTuple):
     drop_status: str
 
 
-@told_as('leg {}, {}')
+@shown_as('leg {}, {}')
 class Leg(NamedTuple):
     order_id: str
     k: int
     edge: str
 
 
-@told_as('load {}')
+@shown_as('load {}')
 class Load(NamedTuple):
     id: str
     kind: str
@@ -102,7 +103,7 @@ class Load(NamedTuple):
     serial: str | None
 
 
-@told_as('job {}')
+@shown_as('job {}')
 class Job(NamedTuple):
     id: str
     load: str
@@ -111,7 +112,7 @@ class Job(NamedTuple):
     phase: str
 
 
-@told_as('hold {} {}')
+@shown_as('hold {} {}')
 class Hold(NamedTuple):
     kind: str
     id: str
@@ -119,20 +120,20 @@ class Hold(NamedTuple):
     serial: str
 
 
-@told_as('used {} {}')
+@shown_as('used {} {}')
 class Used(NamedTuple):
     kind: str
     id: str
 
 
-@told_as('capacity {}/{}')
+@shown_as('capacity {}/{}')
 class Capacity(NamedTuple):
     manufacturer: str
     serial: str
     capacity: int
 
 
-@told_as('journey {}')
+@shown_as('journey {}')
 class Journey(NamedTuple):
     order_id: str
     manufacturer: str
@@ -145,7 +146,7 @@ class Journey(NamedTuple):
     seen: int
 
 
-@told_as('act {}, {}')
+@shown_as('act {}, {}')
 class Act(NamedTuple):
     order_id: str
     n: int
@@ -155,7 +156,8 @@ class Act(NamedTuple):
     status: str
 
 
-Row = (
+# A row of any table; its `str()` names the table and the key.
+AnyRow = (
     Meta
     | Node
     | Edge
@@ -170,16 +172,16 @@ Row = (
     | Capacity
     | Journey
     | Act
-)  # a row of any table; its text names the table and the key
+)
 Key = tuple[str, str]  # a vehicle's manufacturer and serial number
 
 
 def key_of(row: Vehicle | Capacity | Journey | Hold) -> Key:
-    """The vehicle that the row is about."""
+    """Returns the key of the vehicle that a row is about."""
     return row.manufacturer, row.serial
 
 
-TABLES: dict[str, type[Row]] = {
+TABLES: dict[str, type[AnyRow]] = {
     'meta': Meta,
     'node': Node,
     'edge': Edge,
@@ -217,7 +219,7 @@ KEYS = {
 
 
 class Column(NamedTuple):
-    """A column of a table: its values are whole numbers or texts."""
+    """A column of a table, of whole numbers or of texts."""
 
     name: str
     is_number: bool
@@ -225,7 +227,7 @@ class Column(NamedTuple):
 
 
 def columns(table: str) -> tuple[str, ...]:
-    """The columns of a table, in their order."""
+    """Returns the names of a table's columns, in their order."""
     return TABLES[table]._fields
 
 
@@ -250,7 +252,7 @@ MOST = {
 
 @functools.cache
 def columns_of(table: str) -> tuple[Column, ...]:
-    """The columns of a table, in their order, as the type of its rows has them."""
+    """Returns the columns of a table, in their order, by the types of its row."""
     return tuple(
         Column(name, int in kinds, type(None) in kinds)
         for name, kinds in zip(TABLES[table]._fields, _kinds_of(table))
@@ -258,12 +260,12 @@ def columns_of(table: str) -> tuple[Column, ...]:
 
 
 def _kinds_of(table: str) -> list[tuple[type, ...]]:
-    """The types that each value of a row may have."""
+    """Returns the types that each value of a row may have."""
     hints = typing.get_type_hints(TABLES[table]).values()
     return [typing.get_args(hint) or (hint,) for hint in hints]
 
 
 @functools.cache
 def types_of(table: str) -> frozenset[tuple[type, ...]]:
-    """The types that the values of a row may have together."""
+    """Returns all combinations of types that the values of a row may have."""
     return frozenset(itertools.product(*_kinds_of(table)))

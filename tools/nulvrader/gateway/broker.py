@@ -1,4 +1,4 @@
-"""An MQTT broker, by the library paho-mqtt of version 1 or 2."""
+"""Connects to an MQTT broker, by the library paho-mqtt of version 1 or 2."""
 from __future__ import annotations
 
 import importlib
@@ -10,9 +10,9 @@ from typing import Any
 
 from ..common.text import shown
 from .inbox import FRONT, LONGEST, Inbox
-from .log import Said
+from .log import Log
 
-KEPT = LONGEST + 100_000  # so many bytes of a packet are kept: a topic, and more than is read
+KEPT = LONGEST + 100_000  # the most bytes of a packet that are kept: room for the topic, too
 PART = 65_536  # bytes that are read at once
 REFUSED = 128  # the first code that refuses a subscription
 
@@ -29,8 +29,8 @@ class NoLibrary(Exception):
 
 @dataclass(frozen=True)
 class Address:
-    """Where a broker is, and how the gateway shows who it is: by a password, or by the files `cert`
-    and `key`. With `ca`, a file of authorities, it is connected to by TLS."""
+    """Where a broker is, and how the gateway proves who it is: by a password, or by a certificate
+    in the files `cert` and `key`. With `ca`, a file of authorities, the connection has TLS."""
 
     host: str
     port: int
@@ -49,9 +49,9 @@ def new_client(library: Any) -> Any:
 
 
 def limit_packets(client: Any) -> None:
-    """Lets a client of the library keep only the first KEPT bytes of a packet: it would keep up to
-    256 MB, several times. The rest is read and dropped. The parts of the library that this needs
-    are those of version 1.6; where one is missing, nothing is limited."""
+    """Makes a client of the library keep only the first KEPT bytes of a packet; the rest is read
+    and dropped. The library itself keeps up to 256 MB, several times. This needs two private
+    members of version 1.6; where one is missing, nothing is limited."""
     receive: Any = getattr(client, '_sock_recv', None)
     if receive is None or not isinstance(getattr(client, '_in_packet', None), dict):
         return
@@ -66,16 +66,16 @@ def limit_packets(client: Any) -> None:
 
 
 class Broker:
-    """A broker, whose messages of vehicles go into an inbox. The library's thread calls the methods
-    `on_`. It is connected to again and again until it is there, and whenever the connection is
-    lost."""
+    """A connection to a broker, which puts the messages of vehicles into an inbox. The thread of
+    the library connects again and again until the broker is there, and whenever the connection is
+    lost; it calls the methods `on_`."""
 
-    def __init__(self, address: Address, inbox: Inbox, said: Said, front: str = FRONT) -> None:
+    def __init__(self, address: Address, inbox: Inbox, log: Log, front: str = FRONT) -> None:
         try:
             library: Any = importlib.import_module('paho.mqtt.client')
         except ImportError:
             raise NoLibrary from None
-        self.library, self.inbox, self.said, self.front = library, inbox, said, front
+        self.library, self.inbox, self.log, self.front = library, inbox, log, front
         self.connections, self.is_connected = 0, False
         self.client = client = new_client(library)
         if address.user:
@@ -92,12 +92,12 @@ class Broker:
         client.loop_start()
 
     def say(self, line: str) -> None:
-        """Says what happens to the connection, unless it was said last."""
-        self.said.of('broker', 'connection', f'the broker {line}')
+        """Logs what happens to the connection, unless the last line says the same."""
+        self.log.of('broker', 'connection', f'the broker {line}')
 
     def loop_forever(self, *words: Any, **named: Any) -> Any:
-        """Runs the library's thread. An exception would end it, and the gateway would be deaf, as
-        where a broker sends bytes that are no MQTT: then it connects anew."""
+        """Runs in the library's thread, and connects again after an exception, as one of bytes that
+        are not MQTT: it would end the thread, and the gateway would hear nothing any more."""
         while True:
             try:
                 return self.forever(*words, **named)
@@ -112,7 +112,7 @@ class Broker:
 
     def on_connect(self, paho: Any, _data: object, _flags: object, code: Any, *_: object) -> None:
         """Subscribes to the topics of the vehicles. `code` is a number with version 1 of the
-        library, and an object that says itself with version 2."""
+        library, and with version 2 an object whose `str()` is a text."""
         if code != 0:
             text = self.library.connack_string(code) if isinstance(code, int) else code
             self.say(f'refuses the connection: {shown(str(text))}')
@@ -123,8 +123,8 @@ class Broker:
         self.connections, self.is_connected = self.connections + 1, True
 
     def on_connect_fail(self, *_: object) -> None:
-        """Says why there is no connection. It is called while the fault is handled; version 1.5 and
-        earlier ones do not call it."""
+        """Logs why there is no connection. The library calls it while it handles the fault; its
+        versions before 1.6 do not call it."""
         fault = sys.exc_info()[1]
         if isinstance(fault, ssl.SSLCertVerificationError):
             self.say(f'is not trusted: {shown(fault.verify_message)}')
@@ -134,18 +134,19 @@ class Broker:
     def on_subscribe(
         self, _paho: object, _data: object, _mid: object, codes: Any, *_: object
     ) -> None:
-        """Says it if the user may not read the topics. `codes` are numbers with version 1."""
+        """Logs that the user may not read the topics, if so. `codes` are numbers with version 1."""
         if any(int(getattr(code, 'value', code)) >= REFUSED for code in codes):
             self.say('refuses the subscription to the topics of the vehicles')
 
     def on_disconnect(self, *_: object) -> None:
-        """Says that a connection is lost."""
+        """Logs that a connection is lost."""
         if self.is_connected:
-            self.said.of('broker', 'connection', 'the connection to the broker is lost')
+            self.log.of('broker', 'connection', 'the connection to the broker is lost')
         self.is_connected = False
 
     def on_message(self, _paho: object, _data: object, message: Any) -> None:
-        """Puts a message into the inbox. A state that the broker has retained may be old."""
+        """Puts a message into the inbox, except for a state that the broker has retained, which may
+        be old."""
         try:
             topic = message.topic
         except UnicodeDecodeError:
@@ -154,5 +155,5 @@ class Broker:
             self.inbox.put(topic, message.payload)
 
     def publish(self, topic: str, data: bytes) -> bool:
-        """Publishes a message. Whether it went out."""
+        """Publishes a message, and returns whether it went out."""
         return bool(self.client.publish(topic, data).rc == 0)

@@ -7,7 +7,6 @@ import signal
 import sys
 import threading
 from types import FrameType
-from typing import Any
 
 from ..common import entry
 from ..desk import arguments
@@ -15,14 +14,14 @@ from ..desk.client import Desk
 from .broker import Address, Broker, NoLibrary
 from .carrier import Gateway
 from .inbox import FRONT, Inbox
-from .log import Said, Tally, say
-from .words import Words
+from .log import Log, Tally, say
+from .telemetry import TelemetrySender
 
 LOCAL = ('localhost', '127.0.0.1', '::1')
 
 
-class Unready(Exception):
-    """What can't be had. Its `str()` is a sentence."""
+class NotStarted(Exception):
+    """The gateway can't be started. Its `str()` is a sentence that says why."""
 
 
 def host_and_port(text: str) -> tuple[str, int]:
@@ -40,73 +39,79 @@ def topic_front(text: str) -> str:
     return text
 
 
-def words(text: str) -> argparse.ArgumentParser:
-    """Returns what the line may say. `text` is the head of the help."""
+def parser_of(text: str) -> argparse.ArgumentParser:
+    """Returns the parser of the command line; `text` is the head of its help."""
     line = entry.parser(text, 'gateway')
     arguments.add_desk(line, front='desk-')
     add = line.add_argument
     add('--broker', type=host_and_port, default='127.0.0.1:1883', metavar='HOST:PORT')
     add('--user', help='the user name for the broker')
     add('--password-file', metavar='FILE', help='a file whose first line is the password')
-    told = "use TLS; a PEM file with the authority of the broker's certificate"
-    add('--ca', metavar='FILE', help=told)
-    told = "a PEM file with the gateway's certificate for the broker, which wants one"
-    add('--cert', metavar='FILE', help=told)
+    help_text = "use TLS; a PEM file with the authority of the broker's certificate"
+    add('--ca', metavar='FILE', help=help_text)
+    help_text = "a PEM file with the gateway's certificate for the broker, which wants one"
+    add('--cert', metavar='FILE', help=help_text)
     add('--key', metavar='FILE', help='a PEM file with the key of that certificate')
-    told = 'the part of a topic before MANUFACTURER/SERIAL'
-    add('--front', type=topic_front, default=FRONT, help=told)
-    told = 'a vehicle whose messages are fetched before its first state'
+    help_text = 'the part of a topic before MANUFACTURER/SERIAL'
+    add('--front', type=topic_front, default=FRONT, help=help_text)
+    help_text = 'a vehicle whose messages are fetched before its first state'
     vehicle = arguments.vehicle
-    add('--vehicle', type=vehicle, action='append', default=[], metavar='VEHICLE', help=told)
-    told = 'the name of the list in an instantActions message'
-    add('--instant-list', default='actions', metavar='NAME', help=told)
-    told = 'the socket of a board (its --words), which is told what vehicles say of themselves'
-    add('--board', metavar='FILE', help=told)
-    told = 'seconds from one turn to the next (default: 1)'
-    add('--every', type=arguments.seconds, default=1.0, metavar='SECONDS', help=told)
+    add('--vehicle', type=vehicle, action='append', default=[], metavar='VEHICLE', help=help_text)
+    help_text = 'the name of the list in an instantActions message'
+    add('--instant-list', default='actions', metavar='NAME', help=help_text)
+    help_text = 'the socket of a board (its --words), which is told what vehicles say of themselves'
+    add('--board', metavar='FILE', help=help_text)
+    help_text = 'seconds from one turn to the next (default: 1)'
+    add('--every', type=arguments.seconds, default=1.0, metavar='SECONDS', help=help_text)
     return line
 
 
 def parsed(line: list[str], text: str) -> argparse.Namespace:
-    """Reads the line. One that is wrong ends the program with status 2."""
-    parser = words(text)
-    given = parser.parse_args(line)
-    if given.password_file and not given.user:
+    """Reads the command line. A wrong one ends the program with status 2."""
+    parser = parser_of(text)
+    args = parser.parse_args(line)
+    if args.password_file and not args.user:
         parser.error('--password-file needs --user')
-    if bool(given.cert) != bool(given.key):
+    if bool(args.cert) != bool(args.key):
         parser.error('--cert and --key need one another')
-    if given.cert and not given.ca:
+    if args.cert and not args.ca:
         parser.error('--cert needs --ca')
-    return given
+    return args
 
 
-def address_of(given: argparse.Namespace) -> Address:
-    """Returns where the broker is, and who the gateway is there."""
-    host, port = given.broker
-    password = arguments.first_line(given.password_file) if given.password_file else None
-    if password is not None and not given.ca and host not in LOCAL:
+def address_of(args: argparse.Namespace) -> Address:
+    """Returns where the broker is, and how the gateway proves there who it is."""
+    host, port = args.broker
+    password = arguments.first_line(args.password_file) if args.password_file else None
+    if password is not None and not args.ca and host not in LOCAL:
         say('the password goes to the broker without TLS: give --ca')
-    return Address(host, port, given.user, password, given.ca, given.cert, given.key)
+    return Address(host, port, args.user, password, args.ca, args.cert, args.key)
 
 
-def gateway_of(given: argparse.Namespace) -> Gateway:
-    """Starts what the line says."""
+def gateway_of(args: argparse.Namespace) -> Gateway:
+    """Starts a gateway as the command line says. Raises `NotStarted`."""
     try:
-        desk: Desk = arguments.desk_of(given)
-        inbox = Inbox(Tally(say), given.front)
-        broker = Broker(address_of(given), inbox, Said(say), given.front)
+        desk: Desk = arguments.desk_of(args)
+        inbox = Inbox(Tally(say), args.front)
+        broker = Broker(address_of(args), inbox, Log(say), args.front)
     except (NoLibrary, OSError, ValueError) as fault:
-        raise Unready(str(fault)) from None
-    vehicles = [str(key) for key in given.vehicle]
-    more: dict[str, Any] = {'front': given.front, 'instant_list': given.instant_list}
-    if given.board is not None:
-        more['words'] = Words(given.board, Said(say))
-    return Gateway(desk, broker, inbox, vehicles, **more)
+        raise NotStarted(str(fault)) from None
+    vehicles = [str(key) for key in args.vehicle]
+    telemetry = None if args.board is None else TelemetrySender(args.board, Log(say))
+    return Gateway(
+        desk,
+        broker,
+        inbox,
+        vehicles,
+        front=args.front,
+        instant_list=args.instant_list,
+        telemetry=telemetry,
+    )
 
 
 def ended() -> threading.Event:
-    """Returns what is set once SIGINT or SIGTERM has come. The signal also ends what waits then, as
-    for an answer of the desk."""
+    """Returns an event that is set once SIGINT or SIGTERM has come. The signal also ends what waits
+    at that moment, as for an answer of the desk."""
     over = threading.Event()
 
     def end(_number: int, _frame: FrameType | None) -> None:
@@ -119,15 +124,15 @@ def ended() -> threading.Event:
 
 
 def run(line: list[str], text: str) -> int:
-    """Runs the gateway; `text` is the head of its help. The status: 1 where something can't be had,
-    2 where the line is wrong."""
-    given = parsed(line, text)
+    """Runs the gateway; `text` is the head of its help. Returns the status, 1 where it can't be
+    started."""
+    args = parsed(line, text)
     over = ended()
     try:
-        gateway = gateway_of(given)
-    except Unready as fault:
+        gateway = gateway_of(args)
+    except NotStarted as fault:
         print(f'gateway: {fault}', file=sys.stderr)
         return 1
-    while not over.wait(given.every):
+    while not over.wait(args.every):
         gateway.turn()
     return 0

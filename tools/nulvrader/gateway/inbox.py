@@ -1,5 +1,5 @@
-"""What has come from the broker and has not been taken. The broker's thread puts, the gateway's
-takes."""
+"""Keeps what has come from the broker until the gateway takes it. The broker's thread puts messages
+in, and the gateway's thread takes them out."""
 from __future__ import annotations
 
 import collections
@@ -13,10 +13,10 @@ from .log import Tally
 FRONT = 'uagv/v2'
 NAME = '[A-Za-z0-9_.:-]{1,32}'
 LONGEST = 250_000  # bytes of the longest message that is read
-EACH = 64  # the most messages of a kind and a vehicle that wait, in LONGEST bytes
+EACH = 64  # the most messages of one kind of a vehicle that are kept, in LONGEST bytes
 TURN = 2_000_000  # the most bytes that are taken in a turn
-STRANGERS = 1_000  # the most other vehicles of which messages wait,
-STRANGE = 16_000_000  # and the most bytes that these have
+STRANGERS = 1_000  # the most queues of vehicles that the desk does not have,
+STRANGE = 16_000_000  # and the most bytes in these
 
 NO_NAMES = f'a manufacturer and a serial number are each {NAME_RULE}'
 TOO_LONG = f'more than {LONGEST} bytes'
@@ -73,7 +73,7 @@ class Inbox:
         return None
 
     def _add(self, key: Key, data: bytes) -> None:
-        """Adds a message, in the place of the oldest ones of its queue if there is no room."""
+        """Adds a message to its queue, and drops the oldest ones if there is no room."""
         is_known = key[0] in self.known
         queues = self.queues if is_known else self.others
         if not is_known:
@@ -101,8 +101,8 @@ class Inbox:
             self.size = sum(queue.size for queue in self.others.values())
 
     def take(self) -> list[Message]:
-        """Takes messages of the vehicles that the desk has: of all if they have at most TURN bytes,
-        else of those that have sent least. So one that sends much delays itself alone."""
+        """Takes the messages of the desk's vehicles: at most TURN bytes, first of the vehicles that
+        have sent least. So a vehicle that sends much delays only itself."""
         taken: dict[Key, Queue] = {}
         with self.lock:
             size = 0
@@ -114,12 +114,12 @@ class Inbox:
         return [Message(*key, data) for key, queue in taken.items() for data in queue.items]
 
     def strangers(self) -> set[str]:
-        """Returns the vehicles that the desk does not have, and of which messages wait."""
+        """Returns the vehicles that the desk does not have, and whose messages are kept."""
         with self.lock:
             return {vehicle for vehicle, _ in self.others}
 
     def drop(self, strangers: set[str]) -> None:
-        """Drops what waits of strangers."""
+        """Drops the messages of strangers."""
         with self.lock:
             for key in [key for key in self.others if key[0] in strangers]:
                 queue = self.others.pop(key)

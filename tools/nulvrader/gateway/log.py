@@ -1,5 +1,5 @@
-"""The lines that the gateway writes: each once until it changes, and never more than a person can
-read, whatever vehicles, broker or desk send."""
+"""Writes the lines of the gateway: each once until it changes, and never more than a person can
+read, whatever the vehicles, the broker or the desk send."""
 from __future__ import annotations
 
 import contextlib
@@ -15,7 +15,7 @@ LINE = 1000  # characters of the longest line
 SPAN = 60.0  # seconds
 LINES = 20  # the most lines about one vehicle within SPAN
 THINGS = 10_000  # the most things of which the last line is kept
-EXAMPLES = 3  # so many names of what was dropped are said
+EXAMPLES = 3  # the most names in a line about messages that were dropped
 
 Say = Callable[[str], None]
 Clock = Callable[[], float]
@@ -30,16 +30,16 @@ def say(line: str) -> None:
 
 @dataclass
 class Budget:
-    """How many lines about something were written since a moment, and how many were left out."""
+    """How many lines about an owner were written since a moment, and how many were left out."""
 
     since: float
     written: int = 0
     left_out: int = 0
 
 
-class Said:
-    """Says a line about a thing when it differs from the last one about it. About all things of
-    one owner, as of a vehicle, it writes at most LINES within SPAN seconds."""
+class Log:
+    """Writes a line about a thing when it differs from the last one about that thing. About all
+    things of one owner, such as a vehicle, it writes at most LINES within SPAN seconds."""
 
     def __init__(self, write: Say, clock: Clock = time.monotonic) -> None:
         self.write, self.clock = write, clock
@@ -47,7 +47,8 @@ class Said:
         self.budgets: dict[str, Budget] = {}
 
     def of(self, owner: str, thing: str, line: str | None) -> None:
-        """Says a line about a thing of an owner. None: nothing is wrong with it any more."""
+        """Writes a line about a thing of an owner, if it is a new one. With None it writes nothing,
+        and the next line counts as new."""
         key = (owner, thing)
         if line is None:
             self.last.pop(key, None)
@@ -58,7 +59,7 @@ class Said:
             self.once(owner, line)
 
     def once(self, owner: str, line: str) -> None:
-        """Says a line about an owner, unless too many were said."""
+        """Writes a line about an owner, unless too many were written."""
         if len(self.budgets) >= THINGS:
             self.budgets.clear()
         now = self.clock()
@@ -76,7 +77,8 @@ class Said:
 
 @dataclass
 class Dropped:
-    """How many messages were dropped for a reason since this was said, and whose they were."""
+    """How many messages were dropped for a reason since the last line about it, and whose they
+    were."""
 
     count: int = 0
     names: list[str] = field(default_factory=list)
@@ -84,8 +86,8 @@ class Dropped:
 
 
 class Tally:
-    """Counts the messages that are dropped, by reason, in any thread. The first of a reason is said
-    at once, and then a sum at most every SPAN seconds."""
+    """Counts the messages that are dropped, by reason, in any thread. For each reason a line with
+    the sum is written at once, and again at most every SPAN seconds."""
 
     def __init__(self, write: Say, clock: Clock = time.monotonic) -> None:
         self.write, self.clock = write, clock
@@ -101,7 +103,7 @@ class Tally:
                 dropped.names.append(shown(name, 80))
 
     def say_due(self) -> None:
-        """Says each sum that is due."""
+        """Writes the sums that are due."""
         now, due = self.clock(), []
         with self.lock:
             for reason, one in self.dropped.items():

@@ -1,68 +1,65 @@
-"""Which vehicles the desk has, as far as the gateway knows."""
+"""Keeps track of which vehicles the desk has."""
 from __future__ import annotations
 
 import time
-from collections.abc import Iterable
+from collections.abc import Collection, Iterable
 from typing import Protocol
 
-from ..desk.client import Answer, Refused, Vehicle, told
+from ..desk.client import Answer, Refused, Vehicle
+from ..desk.errors import told
 from ..common.names import VehicleKey
-from ..desk.reports import read_holds
-from .log import Clock, Said
+from .log import Clock, Log
 
-LOOK = 2.0  # seconds from one look to the next
-MOST = 100  # the most vehicles of a desk (README.md, *Limits*)
+EVERY = 2.0  # the least seconds from one request to the next
 
 
-class Asked(Protocol):
-    """What a gateway asks of a desk, as of `client.Desk`. Each method raises `NoAnswer` if no desk
+class DeskCalls(Protocol):
+    """The calls of `client.Desk` that a gateway makes. Each method raises `NoAnswer` if no desk
     answers; the last two also raise `Refused`."""
 
     address: str
 
     def ask(self, method: str, target: str, body: bytes | None = None) -> Answer:
-        """Makes one request."""
+        """Sends one request, and returns the answer."""
 
-    def hold_report(self) -> bytes:
-        """Returns the hold report."""
+    def vehicles(self) -> Collection[VehicleKey]:
+        """Returns the vehicles of the desk, at most 100."""
 
     def vehicle(self, vehicle: VehicleKey) -> Vehicle:
         """Returns what the desk knows of a vehicle."""
 
 
-class Fleet:
-    """The vehicles of the desk, which its hold report names: each holds the node where it stands.
+class DeskFleet:
+    """The vehicles of the desk, by its export of vehicles.
 
-    The desk is asked only when a message has come of a vehicle that is not among them, or one that
-    is named on the command line is missing, and at most every LOOK seconds: any number of invented
-    vehicles costs one call in this time."""
+    The desk is asked when a message has come from a vehicle that is not among them, or while one
+    that the command line names is missing, and at most every EVERY seconds. So any number of
+    invented vehicles costs one request in this time."""
 
     def __init__(
-        self, desk: Asked, named: Iterable[str], said: Said, clock: Clock = time.monotonic
+        self, desk: DeskCalls, named: Iterable[str], log: Log, clock: Clock = time.monotonic
     ) -> None:
-        self.desk, self.named, self.said, self.clock = desk, frozenset(named), said, clock
+        self.desk, self.named, self.log, self.clock = desk, frozenset(named), log, clock
         self.known: frozenset[str] = frozenset()
-        self.looked_at: float | None = None
+        self.refreshed_at: float | None = None
 
-    def look(self, strangers: set[str]) -> bool:
-        """Asks the desk for its vehicles if this is due. Returns whether they are known since."""
+    def refresh(self, strangers: set[str]) -> bool:
+        """Asks the desk for its vehicles if that is due. Returns whether it has answered."""
         now = self.clock()
         is_wanted = bool((strangers | self.named) - self.known)
-        if not is_wanted or (self.looked_at is not None and now < self.looked_at + LOOK):
+        if not is_wanted or (self.refreshed_at is not None and now < self.refreshed_at + EVERY):
             return False
-        self.looked_at = now
+        self.refreshed_at = now
         try:
-            holds = read_holds(self.desk.hold_report())
+            found = self.desk.vehicles()
         except Refused as fault:
-            self.said.of('desk', 'vehicles', f'the vehicles of the desk are unknown: {told(fault)}')
+            self.log.of('desk', 'vehicles', f'the vehicles of the desk are unknown: {told(fault)}')
             return False
-        found = sorted({str(vehicle) for vehicle in holds.nodes.values()})
-        many = f'the desk has {len(found)} vehicles, and only {MOST} of them are served'
-        self.said.of('desk', 'vehicles', many if len(found) > MOST else None)
-        self.known = frozenset(found[:MOST])
+        self.log.of('desk', 'vehicles', None)
+        self.known = frozenset(map(str, found))
         missing = ', '.join(sorted(self.named - self.known))
         line = f'the desk does not have what --vehicle names: {missing}' if missing else None
-        self.said.of('desk', 'named', line)
+        self.log.of('desk', 'named', line)
         return True
 
     def forget(self, vehicle: str) -> None:
