@@ -372,15 +372,5 @@ class Numbers(unittest.TestCase):
             self.ids(record=name)
 
 
-def load_tests(
-    loader: unittest.TestLoader, _: unittest.TestSuite, __: str | None
-) -> unittest.TestSuite:
-    """`Watching` and `Asks` have no tests of their own."""
-    suite = unittest.TestSuite()
-    for case in (Histories, Events, Numbers):
-        suite.addTests(loader.loadTestsFromTestCase(case))
-    return suite
-
-
 if __name__ == '__main__':
     unittest.main()

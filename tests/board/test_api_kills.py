@@ -154,15 +154,5 @@ class Posted(Watching):
         self.assertGreater(len(once), self.turn - 4)
 
 
-def load_tests(
-    loader: unittest.TestLoader, _: unittest.TestSuite, __: str | None
-) -> unittest.TestSuite:
-    """`Watching` has no tests of its own."""
-    suite = unittest.TestSuite()
-    for case in (Followed, Posted):
-        suite.addTests(loader.loadTestsFromTestCase(case))
-    return suite
-
-
 if __name__ == '__main__':
     unittest.main()

@@ -291,15 +291,5 @@ class Health(unittest.TestCase):
         )
 
 
-def load_tests(
-    loader: unittest.TestLoader, _: unittest.TestSuite, __: str | None
-) -> unittest.TestSuite:
-    """`Watching` has no tests of its own."""
-    suite = unittest.TestSuite()
-    for case in (Metrics, Files, Health):
-        suite.addTests(loader.loadTestsFromTestCase(case))
-    return suite
-
-
 if __name__ == '__main__':
     unittest.main()

@@ -541,15 +541,5 @@ class Keeps(Watching):
             self.rows(f"SELECT {mark} FROM {table} WHERE {mark} IN ('old', 'new')", [('new',)])
 
 
-def load_tests(
-    loader: unittest.TestLoader, _: unittest.TestSuite, __: str | None
-) -> unittest.TestSuite:
-    """`Watching` has no tests of its own."""
-    suite = unittest.TestSuite()
-    for case in (Follows, Silent, Asks, Keeps):
-        suite.addTests(loader.loadTestsFromTestCase(case))
-    return suite
-
-
 if __name__ == '__main__':
     unittest.main()

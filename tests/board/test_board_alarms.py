@@ -320,15 +320,5 @@ class WithoutAProxy(Watching):
         self.rows('SELECT taken_by FROM alarms', [('anna\\x1b[31m',)])
 
 
-def load_tests(
-    loader: unittest.TestLoader, _: unittest.TestSuite, __: str | None
-) -> unittest.TestSuite:
-    """`Watching` and `Followed` have no tests of their own."""
-    suite = unittest.TestSuite()
-    for case in (OfVehicles, OfThePlant, Kept, Taken, WithoutAProxy):
-        suite.addTests(loader.loadTestsFromTestCase(case))
-    return suite
-
-
 if __name__ == '__main__':
     unittest.main()

@@ -544,15 +544,5 @@ class Advice(unittest.TestCase):
         self.assertEqual(refusals.BY_NAME['Full'].on_page, full)
 
 
-def load_tests(
-    loader: unittest.TestLoader, _: unittest.TestSuite, __: str | None
-) -> unittest.TestSuite:
-    """`Watching` has no tests of its own."""
-    suite = unittest.TestSuite()
-    for case in (Commands, FarDrives, MayAsk, ReadOnly, Starts, Advice):
-        suite.addTests(loader.loadTestsFromTestCase(case))
-    return suite
-
-
 if __name__ == '__main__':
     unittest.main()

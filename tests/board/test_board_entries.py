@@ -266,15 +266,5 @@ class OnThePage(Page):
         self.assertEqual(self.browser.run(count), 260)
 
 
-def load_tests(
-    loader: unittest.TestLoader, _: unittest.TestSuite, __: str | None
-) -> unittest.TestSuite:
-    """`Watching` and `Page` have no tests of their own."""
-    suite = unittest.TestSuite()
-    for case in (Finds, Asked, OnThePage):
-        suite.addTests(loader.loadTestsFromTestCase(case))
-    return suite
-
-
 if __name__ == '__main__':
     unittest.main()

@@ -149,15 +149,5 @@ class ByKeyboard(Page):
         )
 
 
-def load_tests(
-    loader: unittest.TestLoader, _: unittest.TestSuite, __: str | None
-) -> unittest.TestSuite:
-    """`Page` has no tests of its own."""
-    suite = unittest.TestSuite()
-    for case in (Eyes, ByKeyboard):
-        suite.addTests(loader.loadTestsFromTestCase(case))
-    return suite
-
-
 if __name__ == '__main__':
     unittest.main()

@@ -83,12 +83,5 @@ class Finds(Page):
         self.has_focus('dataset.command', 'correct')
 
 
-def load_tests(
-    loader: unittest.TestLoader, _: unittest.TestSuite, __: str | None
-) -> unittest.TestSuite:
-    """`Page` has no tests of its own."""
-    return loader.loadTestsFromTestCase(Finds)
-
-
 if __name__ == '__main__':
     unittest.main()

@@ -268,15 +268,5 @@ class Long(Alarmed):
         self.assertEqual(rows, [('?', '{"x": "?"}')])
 
 
-def load_tests(
-    loader: unittest.TestLoader, _: unittest.TestSuite, __: str | None
-) -> unittest.TestSuite:
-    """`Alarmed` has no tests of its own."""
-    suite = unittest.TestSuite()
-    for case in (Floods, Alike, Long):
-        suite.addTests(loader.loadTestsFromTestCase(case))
-    return suite
-
-
 if __name__ == '__main__':
     unittest.main()

@@ -337,15 +337,5 @@ class BrowserKilled(Page):
             browser.open(f'http://127.0.0.1:{self.board.port}/')
 
 
-def load_tests(
-    loader: unittest.TestLoader, _: unittest.TestSuite, __: str | None
-) -> unittest.TestSuite:
-    """`Watching` and `Page` have no tests of their own."""
-    suite = unittest.TestSuite()
-    for case in (DeskKilled, BrowserKilled):
-        suite.addTests(loader.loadTestsFromTestCase(case))
-    return suite
-
-
 if __name__ == '__main__':
     unittest.main()

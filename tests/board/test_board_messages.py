@@ -332,15 +332,5 @@ class InTheBrowser(Page):
         self.assertEqual(said, [say(name, json.loads(json.dumps(values)), 'de') for name in names])
 
 
-def load_tests(
-    loader: unittest.TestLoader, _: unittest.TestSuite, __: str | None
-) -> unittest.TestSuite:
-    """`Page` has no tests of its own."""
-    suite = unittest.TestSuite()
-    for case in (Table, OfTheDesk, InTheBrowser):
-        suite.addTests(loader.loadTestsFromTestCase(case))
-    return suite
-
-
 if __name__ == '__main__':
     unittest.main()

@@ -654,15 +654,5 @@ class EyesAndHands(Page):
         return (high + 0.05) / (low + 0.05)
 
 
-def load_tests(
-    loader: unittest.TestLoader, _: unittest.TestSuite, __: str | None
-) -> unittest.TestSuite:
-    """`Page` has no tests of its own."""
-    suite = unittest.TestSuite()
-    for case in (AtWork, Says, FallsSilent, Gives, LooksOnly, EyesAndHands):
-        suite.addTests(loader.loadTestsFromTestCase(case))
-    return suite
-
-
 if __name__ == '__main__':
     unittest.main()

@@ -287,15 +287,5 @@ class Bounds(unittest.TestCase):
             self.assertEqual(heard.take().keys(), {'KIT/250'})
 
 
-def load_tests(
-    loader: unittest.TestLoader, _: unittest.TestSuite, __: str | None
-) -> unittest.TestSuite:
-    """`Watching` has no tests of its own."""
-    suite = unittest.TestSuite()
-    for case in (Reads, Keeps, Hears, Bounds):
-        suite.addTests(loader.loadTestsFromTestCase(case))
-    return suite
-
-
 if __name__ == '__main__':
     unittest.main()
