@@ -22,7 +22,7 @@ from tests.attacks.record import OddBytes, OtherSites, RefusedReader, RotatedRec
 # The board's token is taken by a request within the body of another one; what is none reaches the
 # board.
 from tests.attacks.board_bytes import Desync
-from tests.attacks.way_in import OddTokens
+from tests.attacks.tokens import OddTokens
 
 # Vehicles that nobody knows, messages that are too long or hostile, and what the broker lets a
 # vehicle write.

@@ -1,7 +1,9 @@
-"""Receivers of webhooks, good and hostile, on a port of this machine."""
+"""Receivers of webhooks, good and hostile, on a port of this machine, and how a sender is told of
+them."""
 from __future__ import annotations
 
 import contextlib
+import dataclasses
 import json
 import socket
 import threading
@@ -9,6 +11,12 @@ from collections.abc import Callable
 from dataclasses import dataclass
 from typing import Any
 
+from nulvrader.board.api.webhooks.config import Hook
+from nulvrader.board.api.webhooks.delivery import secrets_of
+from nulvrader.desk.wire import Place
+
+# The secret that the Standard Webhooks libraries test with.
+SECRET = 'whsec_MfKQ9r8GKYqrTwjUPD8ILPZIo2LaLaSw'
 Answers = Callable[[socket.socket, 'Got'], None]
 
 
@@ -105,3 +113,17 @@ def read(client: socket.socket) -> Got:
 def event(number: int, **members: Any) -> dict[str, Any]:
     """An event as a board tells it."""
     return {'id': number, 'at': '2026-11-28T06:15:00.123Z', 'kind': 'job', **members}
+
+
+def hook(port: int, path: str = '/hook', **others: Any) -> Hook:
+    """A receiver on a port of this machine."""
+    made = Hook(
+        'erp',
+        Place.parse(f'http://127.0.0.1:{port}'),
+        path,
+        kinds=None,
+        secrets=secrets_of(SECRET),
+        ca=None,
+        loopback=True,
+    )
+    return dataclasses.replace(made, **others)

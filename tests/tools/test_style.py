@@ -16,7 +16,7 @@ PYTHON = '#!/usr/bin/env python3\n'
 MOST_LINES = 50  # of a function
 LONG = {
     'tests/board/test_board.py: test_a_transport',
-    'tests/board/test_board.py: test_old_rows_are_removed',
+    'tests/board/test_board_keeps.py: test_old_rows_are_removed',
     'tests/board/test_board_page_commands.py: test_an_order',
 }
 NAMED = re.compile(r'(?<![\w./-])(?:tools|dev|tests|bench|examples)/[\w/.-]*\w(?![\w/*<{-]|\.\*)')
