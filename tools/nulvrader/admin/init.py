@@ -16,7 +16,7 @@ from ..common.plain_files import read_text
 from ..common.text import shown
 from ..desk.answers import refused
 from ..desk.client import Answer, Desk, NoAnswer
-from ..file import reasons, stopped_file
+from ..file import reasons, stopped_file, tables
 from . import conf, units
 from .copies import RunAs
 from .units import AdminError
@@ -54,9 +54,9 @@ def is_made(db: str, wanted: bytes) -> bool:
     try:
         with stopped_file.opened(db) as connection:
             layout = stopped_file.layout_in(connection)
-            is_used = any(
-                any(stopped_file.rows_in(connection, table)) for table in ('vehicle', 'load')
-            )
+            vehicles = stopped_file.rows_in(connection, tables.Vehicle)
+            loads = stopped_file.rows_in(connection, tables.Load)
+            is_used = any(vehicles) or any(loads)
     except stopped_file.Unread as fault:
         raise AdminError(f'there is a file already: {fault}') from None
     if not layout.nodes:

@@ -20,7 +20,7 @@ from ..common.plain_files import PATH, read_text
 from ..common.text import shown
 from ..desk import questions
 from ..desk.client import Desk, NoAnswer, Refused
-from ..file import opening, stopped_file
+from ..file import opening, stopped_file, tables
 from . import conf, copies, init, units
 from .units import AdminError
 
@@ -85,7 +85,7 @@ class Restore:
     def _read(self, connection: sqlite3.Connection) -> None:
         """Reads the layout, the waiting jobs and the vehicles of the copy."""
         self.layout = stopped_file.layout_in(connection)
-        jobs = stopped_file.rows_in(connection, 'job')
+        jobs = stopped_file.rows_in(connection, tables.Job)
         self.waiting = sorted(job.id for job in jobs if job.phase == 'waiting')
         self.vehicles = sorted(stopped_file.vehicles_in(connection, self.layout))
 

@@ -3,7 +3,7 @@ from __future__ import annotations
 
 from dataclasses import dataclass, field
 
-from ..file import stopped_file
+from ..file import stopped_file, tables
 from ..desk.client import Desk
 from ..common.layouts import Layout, of_parts
 from ..desk.reports import read_holds, read_stock
@@ -30,7 +30,7 @@ def of_file(path: str) -> Warehouse:
             str(key): node
             for key, (node, _) in stopped_file.vehicles_in(connection, found.layout).items()
         }
-        for hold in stopped_file.rows_in(connection, 'hold'):
+        for hold in stopped_file.rows_in(connection, tables.Hold):
             found.holds[f'{hold.kind} {hold.id}'] = '/'.join(key_of(hold))
         found.loads = {
             load: place

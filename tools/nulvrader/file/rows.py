@@ -7,7 +7,7 @@ import collections
 import dataclasses
 import functools
 import sqlite3
-from collections.abc import Callable, Iterator
+from collections.abc import Callable, Iterable, Iterator
 from typing import Any, TypeVar
 
 from .tables import (
@@ -32,6 +32,7 @@ from .tables import (
     Vehicle,
     columns,
     key_of,
+    table_of,
     types_of,
 )
 
@@ -168,19 +169,25 @@ LONGEST = 64  # the most characters of a text that is read: a name has 32 bytes
 VALUE = 1000  # the most bytes of one that SQLite reads, where it lies in more than a page
 
 
+RowOfTable = TypeVar('RowOfTable', bound=tuple[Any, ...])
+
+
 class BadRows(Exception):
     """A table has rows of a form that no desk writes, so that no rule can be checked. Its `str()`
     says what is wrong."""
 
 
-def rows_in(connection: sqlite3.Connection, table: str, most: int | None = None) -> Iterator[Any]:
-    """Yields the rows of a table without the use of an index. Bytes that are not UTF-8 become
-    characters that no name has. Raises `BadRows` for more than `most` rows (without it the `MOST`
-    of the table), a value that is not of the type of its column, and a text of more than `LONGEST`
-    characters."""
+def rows_in(
+    connection: sqlite3.Connection, kind: type[RowOfTable], most: int | None = None
+) -> Iterator[RowOfTable]:
+    """Yields the rows of the table of a type, without the use of an index. Bytes that are not UTF-8
+    become characters that no name has. Raises `BadRows` for more than `most` rows (without it the
+    `MOST` of the table), a value that is not of the type of its column, and a text of more than
+    `LONGEST` characters."""
     connection.text_factory = any_text
     connection.setlimit(sqlite3.SQLITE_LIMIT_LENGTH, VALUE)
-    allowed, make = types_of(table), TABLES[table]._make
+    table = table_of(kind)
+    allowed = types_of(table)
     most = MOST[table] if most is None else most
     names = ', '.join(f'"{name}"' for name in columns(table))
     for number, values in enumerate(
@@ -192,18 +199,18 @@ def rows_in(connection: sqlite3.Connection, table: str, most: int | None = None)
             raise BadRows(f'the table {table} has a value that is not of the type of its column')
         if any(isinstance(value, str) and len(value) > LONGEST for value in values):
             raise BadRows(f'the table {table} has a text of more than {LONGEST} characters')
-        yield make(values)
+        yield kind(*values)
 
 
 def read_rows(connection: sqlite3.Connection) -> Rows:
     """Reads all rows of a file of the second schema."""
-    return Rows(**{table: _read(connection, table) for table in TABLES})
+    return Rows(**_read(connection, TABLES))
 
 
 def read_first_rows(connection: sqlite3.Connection) -> Rows:
     """Reads all rows of a file of the first schema, and returns them as `migrate` would write them
     in the second one."""
-    found = {table: _read(connection, table) for table in TABLES if table not in SECOND}
+    found = _read(connection, (table for table in TABLES if table not in SECOND))
     trips: list[Trip] = found.pop('trip')
     found['meta'] = [Meta(row.id, row.schema + 1) for row in found['meta']]
     return Rows(
@@ -232,7 +239,7 @@ def any_text(data: bytes) -> str:
     return data.decode('utf-8', 'surrogateescape')
 
 
-def _read(connection: sqlite3.Connection, table: str) -> list[Any]:
-    """Reads the rows of a table, and up to 1000 beyond the limit, so that a rule can say that there
-    are too many."""
-    return list(rows_in(connection, table, MOST[table] + 1000))
+def _read(connection: sqlite3.Connection, tables: Iterable[str]) -> dict[str, Any]:
+    """Reads the rows of these tables, by the names that `Rows` has them under. Of each, up to 1000
+    beyond the limit are read, so that a rule can say that there are too many."""
+    return {table: list(rows_in(connection, TABLES[table], MOST[table] + 1000)) for table in tables}

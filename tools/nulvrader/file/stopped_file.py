@@ -7,15 +7,14 @@ import contextlib
 import os
 import sqlite3
 from collections.abc import Iterator
-from typing import Any
 
-from . import database, opening, rows
+from . import database, opening, rows, tables
 from ..common.layouts import Edge, Layout, Station, of_parts
 from ..common.names import VehicleKey, is_name
 from ..common.plain_files import PATH, NotPlain
 from ..common.text import shown
-from .rows import BadRows
-from .tables import LIVE, key_of
+from .rows import BadRows, RowOfTable
+from .tables import LIVE, key_of, table_of
 
 SCHEMA = 2
 STOPPED = 'another SQLite was stopped in the middle of a change: tools/why says what to do'
@@ -59,7 +58,7 @@ def opened(path: str, folder: str | None = None) -> Iterator[sqlite3.Connection]
 def _check_tables(path: str, connection: sqlite3.Connection) -> None:
     """Raises `Unread` where the tables are not a desk's of this schema."""
     found = database.tables_of(connection)
-    if found.is_first or found.is_second and [*rows_in(connection, 'meta')] != [(1, SCHEMA)]:
+    if found.is_first or found.is_second and [*rows_in(connection, tables.Meta)] != [(1, SCHEMA)]:
         raise Unread(path, f'it has not schema {SCHEMA}: `./desk migrate` migrates one of schema 1')
     if not found.is_second:
         why = found.odd or [f'the table {name} is missing' for name in found.missing]
@@ -67,22 +66,22 @@ def _check_tables(path: str, connection: sqlite3.Connection) -> None:
         raise Unread(path, NO_TABLES if is_none else f"its tables aren't those of a desk: {why[0]}")
 
 
-def rows_in(connection: sqlite3.Connection, table: str) -> Iterator[Any]:
-    """Yields the rows of a table. Raises `BadRows` for more rows than a desk has, and for a text
-    that could not be a name."""
-    for row in rows.rows_in(connection, table):
+def rows_in(connection: sqlite3.Connection, kind: type[RowOfTable]) -> Iterator[RowOfTable]:
+    """Yields the rows of the table of a type. Raises `BadRows` for more rows than a desk has, and
+    for a text that could not be a name."""
+    for row in rows.rows_in(connection, kind):
         for value in row:
             if isinstance(value, str) and not is_name(value):
-                raise BadRows(f'the table {table} has a text that is no name')
+                raise BadRows(f'the table {table_of(kind)} has a text that is no name')
         yield row
 
 
 def layout_in(connection: sqlite3.Connection) -> Layout:
     """Reads the layout, which has no nodes before one is set."""
     layout = of_parts(
-        (row.id for row in rows_in(connection, 'node')),
-        (Edge(*row) for row in rows_in(connection, 'edge')),
-        (Station(*row) for row in rows_in(connection, 'station')),
+        (row.id for row in rows_in(connection, tables.Node)),
+        (Edge(*row) for row in rows_in(connection, tables.Edge)),
+        (Station(*row) for row in rows_in(connection, tables.Station)),
     )
     ends = {node for edge in layout.edges.values() for node in (edge.start, edge.finish)}
     if not ends | {station.node for station in layout.stations.values()} <= set(layout.nodes):
@@ -94,7 +93,7 @@ def places_in(connection: sqlite3.Connection) -> dict[str, str]:
     """Reads the place of each load, even of those that have left, by the load's name: `station A`,
     `vehicle KIT/0001`, `checking`, `left`."""
     found = {}
-    for load in sorted(rows_in(connection, 'load'), key=lambda row: str(row.id)):
+    for load in sorted(rows_in(connection, tables.Load), key=lambda row: str(row.id)):
         where = {'station': load.station, 'vehicle': f'{load.manufacturer}/{load.serial}'}.get(
             load.kind
         )
@@ -106,9 +105,9 @@ def vehicles_in(
     connection: sqlite3.Connection, layout: Layout
 ) -> dict[VehicleKey, tuple[str, int]]:
     """Reads the node and the capacity of each vehicle."""
-    capacities = {key_of(row): row.capacity for row in rows_in(connection, 'capacity')}
+    capacities = {key_of(row): row.capacity for row in rows_in(connection, tables.Capacity)}
     found = {}
-    for row in sorted(rows_in(connection, 'vehicle'), key=key_of):
+    for row in sorted(rows_in(connection, tables.Vehicle), key=key_of):
         if row.node not in layout.nodes or key_of(row) not in capacities:
             raise BadRows(
                 'a vehicle has no capacity, or stands at a node that the layout does not have'
@@ -119,6 +118,5 @@ def vehicles_in(
 
 def live_jobs_in(connection: sqlite3.Connection) -> dict[str, tuple[str, str]]:
     """Reads the live jobs: by the load of each, its name and its target."""
-    return {
-        job.load: (job.id, job.target) for job in rows_in(connection, 'job') if job.phase in LIVE
-    }
+    jobs = rows_in(connection, tables.Job)
+    return {job.load: (job.id, job.target) for job in jobs if job.phase in LIVE}

@@ -181,22 +181,13 @@ def key_of(row: Vehicle | Capacity | Journey | Hold) -> Key:
     return row.manufacturer, row.serial
 
 
-TABLES: dict[str, type[AnyRow]] = {
-    'meta': Meta,
-    'node': Node,
-    'edge': Edge,
-    'station': Station,
-    'vehicle': Vehicle,
-    'trip': Trip,
-    'leg': Leg,
-    'load': Load,
-    'job': Job,
-    'hold': Hold,
-    'used': Used,
-    'capacity': Capacity,
-    'journey': Journey,
-    'act': Act,
-}
+def table_of(kind: type[tuple[Any, ...]]) -> str:
+    """Returns the name of the table that has rows of this type."""
+    return kind.__name__.lower()
+
+
+# The types of rows, by the names of their tables.
+TABLES: dict[str, type[AnyRow]] = {table_of(kind): kind for kind in typing.get_args(AnyRow)}
 SECOND = ('capacity', 'journey', 'act')  # the tables that the first schema lacks
 # The keys of each table, each a list of columns; here the primary one is first, and in a file they
 # may have any order.
