@@ -16,7 +16,7 @@ from tests.support.board_run import ONE, Watching, until
 from tests.support.event_client import Stream
 
 from nulvrader.board.api import queries
-from nulvrader.board.api.events import Asked, OtherRecord, last_number, read_events
+from nulvrader.board.api.events import EventQuery, OtherRecord, last_number, read_events
 from nulvrader.board.api.feed import Feed
 from nulvrader.board.api.reading import Reading
 from nulvrader.board.api.routes import name_record
@@ -248,7 +248,7 @@ class Events(Asks):
         for last in ('x', '-1', '1 2', '9' * 17):
             told = self.board.ask('GET', '/api/events/stream', None, {'Last-Event-ID': last})
             self.assertEqual(told[0], 400, last)
-        self.assertEqual(queries.asked_of('after=7', ''), Asked(7))
+        self.assertEqual(queries.asked_of('after=7', ''), EventQuery(7))
 
     def test_a_stream(self) -> None:
         """It has what was, and then what comes, at once; who connects again goes on where it
@@ -304,7 +304,7 @@ class Numbers(unittest.TestCase):
         return numbers
 
     def ids(self, **asked: Any) -> list[int]:
-        batch = read_events(self.reading, Asked(**asked), last_number(self.reading))
+        batch = read_events(self.reading, EventQuery(**asked), last_number(self.reading))
         return [event['id'] for event in batch.events]
 
     def test_they_never_go_back(self) -> None:
@@ -315,12 +315,14 @@ class Numbers(unittest.TestCase):
         self.record.close()
         self.open()
         self.assertEqual(self.put(20), [4])
-        batch = read_events(self.reading, Asked(after=2), 4)
+        batch = read_events(self.reading, EventQuery(after=2), 4)
         self.assertEqual(([event['id'] for event in batch.events], batch.missed), ([4], True))
         for after, missed in ((0, False), (1, True), (3, False), (4, False)):
-            self.assertEqual(read_events(self.reading, Asked(after=after), 4).missed, missed, after)
+            self.assertEqual(
+                read_events(self.reading, EventQuery(after=after), 4).missed, missed, after
+            )
         self.record.remove_old(30)
-        batch = read_events(self.reading, Asked(after=1), 4)
+        batch = read_events(self.reading, EventQuery(after=1), 4)
         self.assertEqual((batch.events, batch.missed, batch.after), ((), True, 4))
 
     def test_what_is_not_committed(self) -> None:

@@ -20,7 +20,7 @@ from tests.support.board_run import ONE, Plant, has_loopback, until
 from tests.support.event_client import Stream, messages
 
 from nulvrader.board.api import share as share_module
-from nulvrader.board.api.events import Asked, Batch, Kept, event_of, last_number, read_events
+from nulvrader.board.api.events import EventQuery, Batch, Kept, event_of, last_number, read_events
 from nulvrader.board.api.meters import Counter, gauge
 from nulvrader.board.api.reading import Reading
 from nulvrader.board.api.share import Share
@@ -217,7 +217,7 @@ class Texts(unittest.TestCase):
             found: list[int] = []
             after, more = 0, True
             while more:
-                batch = read_events(reading, Asked(after, 100), last_number(reading))
+                batch = read_events(reading, EventQuery(after, 100), last_number(reading))
                 told = json.dumps(batch.told(), separators=(',', ':'))
                 self.assertLess(len(told), 1_000_000)
                 found += [event['id'] for event in batch.events]
@@ -244,7 +244,9 @@ class Texts(unittest.TestCase):
             found: list[list[int]] = []
             ends, after, more = [], 0, True
             while more:
-                batch = read_events(reading, Asked(after, 1, frozenset(['failed', 'zzz'])), 49_999)
+                batch = read_events(
+                    reading, EventQuery(after, 1, frozenset(['failed', 'zzz'])), 49_999
+                )
                 found.append([event['id'] for event in batch.events])
                 after, more = batch.after, batch.more
                 ends.append(after)

@@ -16,7 +16,7 @@ from nulvrader.board.messages import table
 from nulvrader.board.news import OrderEnd
 from nulvrader.board.page_state import Shown
 from nulvrader.board.news import News
-from nulvrader.board.vehicle_words import Error, Failed, Words
+from nulvrader.board.vehicle_words import Error, FailedAction, Words
 from nulvrader.board.waits import Wait
 from nulvrader.desk.client import Job
 
@@ -78,13 +78,13 @@ class OfVehicles(Alarmed):
     def test_a_failed_action(self) -> None:
         """Until its vehicle lists it no more; not of an order that was cancelled."""
         self.news.ends_order('O0', OrderEnd('cancelled', Cause('client')))
-        self.says(Words(failed=(Failed('O0.0', 'pick', ''),)))
+        self.says(Words(failed=(FailedAction('O0.0', 'pick', ''),)))
         self.turn()
         self.turn()
         self.assertEqual(self.kinds(), {})
         words = 'KIT/0001 says that its action O1.0 has failed, at N1: pick: no grip'
         self.raised(
-            lambda: self.says(Words(failed=(Failed('O1.0', 'pick', 'no grip'),))),
+            lambda: self.says(Words(failed=(FailedAction('O1.0', 'pick', 'no grip'),))),
             'action',
             words,
             lambda: self.says(Words(failed=())),
@@ -97,7 +97,7 @@ class OfVehicles(Alarmed):
         self.is_so(**ORDER)
         words = 'KIT/0001 says that its action O1.1 has failed, at N1: drop L1: it does not say why'
         self.raised(
-            lambda: self.says(Words(failed=(Failed('O1.1', '', ''),))),
+            lambda: self.says(Words(failed=(FailedAction('O1.1', '', ''),))),
             'action',
             words,
             lambda: self.says(Words(failed=())),

@@ -16,7 +16,7 @@ from nulvrader.board.events import Cause, Event, told
 from nulvrader.board.news import News
 from nulvrader.board.page_state import Shown
 from nulvrader.board.record import EVENT, event_row
-from nulvrader.board.vehicle_words import Error, Failed, Words
+from nulvrader.board.vehicle_words import Error, FailedAction, Words
 from nulvrader.board.words_keeper import MOST, SPAN, Keeper
 
 LOW, FULL = Words(battery=10.0, charging=False), Words(battery=90.0, charging=False)
@@ -37,12 +37,12 @@ class Floods(Alarmed):
         self.says(Words(**words))
         self.turn(1000)
 
-    def failed(self, number: int) -> tuple[Failed, ...]:
+    def failed(self, number: int) -> tuple[FailedAction, ...]:
         """Sixteen actions that have failed, others for each number."""
-        return tuple(Failed(f'O{number}.{act}', 'pick', 'no grip') for act in range(16))
+        return tuple(FailedAction(f'O{number}.{act}', 'pick', 'no grip') for act in range(16))
 
     def test_all_that_a_vehicle_may_say(self) -> None:
-        """Failed actions that come and go, a battery, a mode and errors."""
+        """FailedAction actions that come and go, a battery, a mode and errors."""
         before = self.rows()
         for second in range(SPAN // 1000 - 5):
             failed = self.failed(second // 4) if second // 4 % 2 else ()
@@ -71,14 +71,14 @@ class Floods(Alarmed):
         """It is seen while it is so, and not once it is over; its end is told later."""
         for number in range(2 * MOST):
             self.second(mode=f'M{number}')
-        self.second(failed=(Failed('O1.0', 'pick', 'no grip'),), battery=10.0, charging=False)
+        self.second(failed=(FailedAction('O1.0', 'pick', 'no grip'),), battery=10.0, charging=False)
         self.turn()
         words = 'KIT/0001 says that its action O1.0 has failed, at N1: pick: no grip'
         low = 'The battery of KIT/0001 is low, 10 %, at N1, and does not charge'
         self.assertEqual(self.kinds(), {'action': words, 'battery': low})
         self.second(failed=(), battery=90.0)
         self.assertEqual(self.kinds(), {})
-        self.second(failed=(Failed('O2.0', 'drop', 'full'),))
+        self.second(failed=(FailedAction('O2.0', 'drop', 'full'),))
         self.turn()
         words = 'KIT/0001 says that its action O2.0 has failed, at N1: drop: full'
         self.assertEqual(self.kinds(), {'action': words})
@@ -128,7 +128,7 @@ class Alike(Alarmed):
 
     def test_many_failed_actions(self) -> None:
         """They are one alarm, of the last one, which changes with them."""
-        grip, full = Failed('O1.0', 'pick', 'no grip'), Failed('O1.1', 'drop', 'full')
+        grip, full = FailedAction('O1.0', 'pick', 'no grip'), FailedAction('O1.1', 'drop', 'full')
         for failed, words in (
             ((grip,), 'O1.0 has failed, at N1: pick: no grip'),
             ((grip, full), 'O1.1 (+1) has failed, at N1: drop: full'),
@@ -143,7 +143,7 @@ class Alike(Alarmed):
 
     def test_a_board_that_is_started_again(self) -> None:
         """It has the alarm of failed actions that it had, once."""
-        self.says(Words(failed=(Failed('O1.0', 'pick', 'no grip'),)))
+        self.says(Words(failed=(FailedAction('O1.0', 'pick', 'no grip'),)))
         self.turn()
         self.turn()
         kinds = self.kinds()
@@ -217,7 +217,7 @@ class Long(Alarmed):
         word, text = self.FACE * 60, self.FACE * 300
         error = Error(word, 'FATAL', text, text, (f'{word} {word}',) * 6)
         errors = tuple(replace(error, type=f'{number}{word[2:]}') for number in range(16))
-        failed = (Failed(word, word, text),)
+        failed = (FailedAction(word, word, text),)
         self.says(Words(mode=word, stop=word, errors=errors, failed=failed))
         self.is_so(ready=False)
         self.turn()

@@ -12,7 +12,7 @@ from unittest import mock
 from tests.support.board_run import ONE
 from nulvrader.board import poller
 from nulvrader.board.fleet import Fleet
-from nulvrader.board.floor import Floor
+from nulvrader.board.shown_layout import ShownLayout
 from nulvrader.board.news import News
 from nulvrader.board.page_state import Shown
 from nulvrader.board.record import Record
@@ -122,7 +122,7 @@ class Turns(unittest.TestCase):
         self.desk, self.fleet = MadeUp(self.clock), Fleet(news, 10_000)
         followers = poller.Followers(Stores(news), self.fleet, Same(record))
         desk: Any = self.desk
-        self.asker = poller.Asker(desk, news, Floor(news), lambda: followers, 30)
+        self.asker = poller.Asker(desk, news, ShownLayout(news), lambda: followers, 30)
         self.run_for(2)
         self.assertEqual(self.times('layout'), [BEGUN])
         self.desk.asked.clear()

@@ -11,7 +11,7 @@ from typing import Any
 
 from nulvrader.dispatch.lanes import Ground, Way
 from nulvrader.dispatch.deadlock import after_release, along, finishing, look
-from nulvrader.dispatch.floor import Floor
+from nulvrader.dispatch.search_space import SearchSpace
 from nulvrader.dispatch.judge import Judge
 from nulvrader.dispatch.traffic import Traffic
 from nulvrader.dispatch.routes import Ways
@@ -102,10 +102,10 @@ class AgainstAllStates(unittest.TestCase):
             self.assertEqual(settled, {renamed[new]: at for new, at in again.items()})
 
     def settled(self, ways: Mapping[str, Way], walls: Collection[str]) -> dict[str, int]:
-        floor = Floor(ways, walls)
-        state = floor.start()
-        floor.settle(state)
-        return dict(zip(floor.names, state.at))
+        space = SearchSpace(ways, walls)
+        state = space.start()
+        space.settle(state)
+        return dict(zip(space.names, state.at))
 
     def test_moves_that_are_tried_first(self) -> None:
         """Whoever is said to finish by moves of any kind can; and where the moves of a look are

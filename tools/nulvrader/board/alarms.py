@@ -11,13 +11,13 @@ from typing import Any
 
 from ..common.layouts import Layout
 from .events import ABOUT, BOARD
-from .fleet import Fleet, Seen
+from .fleet import Fleet, KnownVehicle
 from .messages import Line, say, told, words_of
 from .news import News
 from .progress import Thing
 from .record import moment_of
 from .stock import Stores
-from .vehicle_words import Failed
+from .vehicle_words import FailedAction
 from .words_keeper import Keeper
 
 EVERY = 1.0  # seconds from one look to the next
@@ -36,7 +36,7 @@ NAMES = 10  # that one alarm says
 
 
 @dataclass(frozen=True)
-class Found:
+class Condition:
     """Something that needs a person. `level` is `bad`, or `warn` where it is to be looked at; its
     sentences are `alarm.KIND` and `alarm.KIND.do` of the table, with these values. `since` is the
     moment from which on it is so, where that is known."""
@@ -66,7 +66,7 @@ class Alarm:
     taken it on, when it came again where it flaps, and since when it is not so any more."""
 
     number: int
-    found: Found
+    found: Condition
     began: int
     taken: tuple[str, int] | None = None
     again: int | None = None
@@ -97,7 +97,7 @@ class Alarms:
             ' WHERE ended IS NULL'
         )
         for number, key, kind, level, more, began, who, at in rows:
-            found = Found(key, kind, level, json.loads(more), moment_of(began))
+            found = Condition(key, kind, level, json.loads(more), moment_of(began))
             taken = None if who is None else (str(who), moment_of(at))
             self.open[key] = Alarm(number, found, moment_of(began), taken)
             self._show(self.open[key])
@@ -125,7 +125,7 @@ class Alarms:
         self._take(self._settled(found, at), at, keeper)
         return True
 
-    def _settled(self, found: Mapping[str, Found], at: int) -> dict[str, Found]:
+    def _settled(self, found: Mapping[str, Condition], at: int) -> dict[str, Condition]:
         """What is found, without what may be so only between two answers of the desk."""
         self._first = {key: self._first.get(key, at) for key in found}
         return {
@@ -134,7 +134,7 @@ class Alarms:
             if key in self.open or one.kind not in SETTLES or at - self._first[key] >= SETTLE
         }
 
-    def _take(self, found: Mapping[str, Found], at: int, keeper: Keeper | None) -> None:
+    def _take(self, found: Mapping[str, Condition], at: int, keeper: Keeper | None) -> None:
         """Brings the open alarms in line with what was found: raises new ones, changes those that
         say something else, and ends those that are over, in the record and on the page. Reads from
         the record who has taken each on, which another thread writes there."""
@@ -159,7 +159,7 @@ class Alarms:
                 self._show(alarm)
         self.news.at = before
 
-    def _begin(self, found: Found, keeper: Keeper | None) -> Alarm:
+    def _begin(self, found: Condition, keeper: Keeper | None) -> Alarm:
         """Raises an alarm. Where a vehicle's words make it, its row and its entry are counted, and
         made in any case: its end is not told as long as there are too many."""
         began = found.since or self.news.at
@@ -184,7 +184,7 @@ class Alarms:
             self._ended[found.key] = at
 
     @staticmethod
-    def _may_tell(found: Found, keeper: Keeper | None, count: int = 1) -> bool:
+    def _may_tell(found: Condition, keeper: Keeper | None, count: int = 1) -> bool:
         """Whether so many rows may be made of an alarm that may be of what a vehicle says."""
         if found.kind not in SAID or keeper is None:
             return True
@@ -197,7 +197,7 @@ class Alarms:
         self.news.record.end_alarm(alarm.number, alarm.gone or self.news.at)
         self._tell('over', alarm.found)
 
-    def _tell(self, what: str, found: Found) -> None:
+    def _tell(self, what: str, found: Condition) -> None:
         more = {**found.values, 'alarm': found.kind, 'key': found.key, 'level': found.level}
         self.news.event(f'alarm.{what}', BOARD, found.about(), more=more)
 
@@ -215,47 +215,47 @@ class Alarms:
         }
         self.news.shown.put('alarm', found.key, row)
 
-    def _of_the_machine(self, at: int) -> Iterator[Found]:
+    def _of_the_machine(self, at: int) -> Iterator[Condition]:
         """The desk, the clock and the disk."""
         desk = self.news.shown.get('desk', '')
         if desk is not None and not desk['up']:
             kind = 'other' if desk['other'] else 'desk'
             values = {'fault': desk['fault'], 'says': desk.get('says', [])}
-            yield Found('desk', kind, 'bad', values, desk['since'])
+            yield Condition('desk', kind, 'bad', values, desk['since'])
         offset = time.time() - time.monotonic()
         if self._offset is not None and abs(offset - self._offset) > JUMP:
             self._jump = at, round(offset - self._offset)
         self._offset = offset
         if self._jump is not None and at < self._jump[0] + JUMPED:
-            yield Found('clock', 'clock', 'bad', {'seconds': self._jump[1]}, self._jump[0])
+            yield Condition('clock', 'clock', 'bad', {'seconds': self._jump[1]}, self._jump[0])
         free = free_of(self.news.record.path)
         if free is not None:
-            yield Found('disk', 'disk', 'bad', {'free': free})
+            yield Condition('disk', 'disk', 'bad', {'free': free})
 
     def _of_the_plant(
         self, stores: Stores, fleet: Fleet, keeper: Keeper | None, layout: Layout, at: int
-    ) -> Iterator[Found]:
+    ) -> Iterator[Condition]:
         for name, seen in fleet.seen.items():
             yield from self._of_a_vehicle(name, seen)
             loads = [load for load in fleet.loads.get(name, ()) if stores.jobs.of(load) is None]
             if loads:
                 values = {'vehicle': name, 'load': loads[0], 'loads': loads, 'node': seen.row.node}
                 level = 'bad' if seen.row.order is None else 'warn'
-                yield Found(f'aboard {name}', 'aboard', level, values)
+                yield Condition(f'aboard {name}', 'aboard', level, values)
         yield from self._of_words(fleet, keeper)
         for circle in fleet.circles:
             values = {'vehicle': circle[0], 'vehicles': circle}
-            yield Found(f'circle {" ".join(circle)}', 'circle', 'bad', values)
+            yield Condition(f'circle {" ".join(circle)}', 'circle', 'bad', values)
         yield from self._of_waits(fleet, layout, at)
         yield from self._of_jobs(stores, at)
         yield from self._of_stations(layout)
 
-    def _of_a_vehicle(self, name: str, seen: Seen) -> Iterator[Found]:
+    def _of_a_vehicle(self, name: str, seen: KnownVehicle) -> Iterator[Condition]:
         row, values = seen.row, {'vehicle': name, 'node': seen.row.node}
         if row.astray:
-            yield Found(f'astray {name}', 'astray', 'bad', values)
+            yield Condition(f'astray {name}', 'astray', 'bad', values)
         elif seen.silent is not None:
-            yield Found(f'silent {name}', 'silent', 'bad', values, seen.silent)
+            yield Condition(f'silent {name}', 'silent', 'bad', values, seen.silent)
         elif row.header is not None and not row.ready:
             why = self.news.reasons.get(name) or []
             kind = 'unready' if why else 'unready.unknown'
@@ -264,9 +264,9 @@ class Alarms:
                 rows = dict.fromkeys(f'{one.name}.do' for one in why)
                 does = [Line(row, values) for row in rows]
                 more = {'why': words_of(why, ', '), 'says': told(why), 'does': told(does)}
-            yield Found(f'unready {name}', kind, 'bad', {**values, **more}, seen.unready)
+            yield Condition(f'unready {name}', kind, 'bad', {**values, **more}, seen.unready)
 
-    def _of_words(self, fleet: Fleet, keeper: Keeper | None) -> Iterator[Found]:
+    def _of_words(self, fleet: Fleet, keeper: Keeper | None) -> Iterator[Condition]:
         """Actions that have failed, and batteries that are low."""
         for name, said in keeper.said.items() if keeper is not None else ():
             seen = fleet.seen.get(name)
@@ -277,13 +277,13 @@ class Alarms:
                 values = self._of_action(seen, one)
                 if len(failed) > 1:
                     values['action'] += f' (+{len(failed) - 1})'
-                yield Found(f'action {name}', 'action', 'bad', values)
+                yield Condition(f'action {name}', 'action', 'bad', values)
             charge = said.words.battery
             if said.is_low and charge is not None and not said.words.charging:
                 values = {'vehicle': name, 'node': seen.row.node, 'battery': f'{charge:g}'}
-                yield Found(f'battery {name}', 'battery', 'warn', values)
+                yield Condition(f'battery {name}', 'battery', 'warn', values)
 
-    def _of_action(self, seen: Seen, failed: Failed) -> dict[str, Any]:
+    def _of_action(self, seen: KnownVehicle, failed: FailedAction) -> dict[str, Any]:
         """What an alarm says of an action that has failed: what it was, where its order is known,
         and what the vehicle says of it."""
         values = {'vehicle': str(seen.row.key), 'action': failed.action, 'type': failed.type}
@@ -304,7 +304,7 @@ class Alarms:
         says.append(result if failed.result else Line('failed.unsaid'))
         return {**values, 'what': words_of(says, ': '), 'says': told(says)}
 
-    def _of_waits(self, fleet: Fleet, layout: Layout, at: int) -> Iterator[Found]:
+    def _of_waits(self, fleet: Fleet, layout: Layout, at: int) -> Iterator[Condition]:
         """Vehicles that have waited for long for another one, which may have no order."""
         for name, wait in fleet.waits.items():
             since, holder = fleet.waits_since[name], fleet.seen.get(wait.by)
@@ -318,16 +318,16 @@ class Alarms:
                 is_free = has_exit(layout, fleet.holders, wait.by, holder.row.node)
                 does = Line('shut.send' if is_free else 'shut.cancel', dict(values))
                 values['does'] = [does.told()]
-            yield Found(f'wait {name}', kind, level, values, since)
+            yield Condition(f'wait {name}', kind, level, values, since)
 
-    def _of_jobs(self, stores: Stores, at: int) -> Iterator[Found]:
+    def _of_jobs(self, stores: Stores, at: int) -> Iterator[Condition]:
         for job in stores.jobs.live.values():
             since = job.added or self.begun
             if job.phase == 'waiting' and at - since >= self.late:
                 values = {'job': job.name, 'load': job.load, 'station': job.target}
-                yield Found(f'late {job.name}', 'late', 'warn', values, since)
+                yield Condition(f'late {job.name}', 'late', 'warn', values, since)
 
-    def _of_stations(self, layout: Layout) -> Iterator[Found]:
+    def _of_stations(self, layout: Layout) -> Iterator[Condition]:
         """The stations in which no place is free, all in one alarm."""
         full = []
         for name, station in layout.stations.items():
@@ -337,7 +337,7 @@ class Alarms:
         if full:
             more = f' (+{len(full) - NAMES})' if len(full) > NAMES else ''
             values = {'stations': ', '.join(full[:NAMES]) + more, 'count': len(full)}
-            yield Found('full', 'full', 'warn', {**values, 'station': full[0]})
+            yield Condition('full', 'full', 'warn', {**values, 'station': full[0]})
 
 
 MACHINE = ('desk', 'clock', 'disk')  # the keys of what is of the machine

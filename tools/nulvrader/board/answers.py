@@ -1,4 +1,4 @@
-"""What is answered to a request: a status, and a body whole."""
+"""What the board replies to a request: a status, and a body whole."""
 from __future__ import annotations
 
 import json
@@ -11,20 +11,20 @@ JSON = 'application/json'
 
 
 @dataclass(frozen=True)
-class Answer:
-    """The status, the type of what is told, and its bytes."""
+class Reply:
+    """What is sent back: the status, the type of the body, and its bytes."""
 
     status: int
     kind: str
     data: bytes
 
 
-def told(what: Any, status: int = 200) -> Answer:
-    """An answer of JSON."""
-    return Answer(status, JSON, json.dumps(what, separators=(',', ':')).encode())
+def told(what: Any, status: int = 200) -> Reply:
+    """Returns a reply of JSON."""
+    return Reply(status, JSON, json.dumps(what, separators=(',', ':')).encode())
 
 
-def refused(status: int, words: str | Line) -> Answer:
+def refused(status: int, words: str | Line) -> Reply:
     """A refusal, with a sentence; one of the table of messages the page says in its language."""
     if isinstance(words, str):
         return told({'fault': words}, status)

@@ -14,7 +14,7 @@ LATE = 30_000  # milliseconds from the end of a command, within which what it ch
 
 
 @dataclass
-class Sent:
+class SentCommand:
     """A command of this board: the number of its row, who gave it, what it says, and its moment.
     `done` is None until the answer has come, and where it never does."""
 
@@ -35,12 +35,12 @@ class Calls:
 
     def __init__(self) -> None:
         self._lock = threading.Lock()
-        self._sent: deque[Sent] = deque(maxlen=KEPT)
+        self._sent: deque[SentCommand] = deque(maxlen=KEPT)
 
     def sent(self, number: int, who: str, name: str, values: Mapping[str, str], at: int) -> None:
         """A command is about to be sent."""
         with self._lock:
-            self._sent.append(Sent(number, who, name, values, at))
+            self._sent.append(SentCommand(number, who, name, values, at))
 
     def ended(self, number: int, done: bool | None, at: int) -> None:
         """What came of a command."""

@@ -18,8 +18,8 @@ from .api.watched_desk import DeskMeter, WatchedDesk
 from .poller import Asker, Followers
 from .commands import Commands
 from .fleet import Fleet
-from .floor import Floor
-from .command_log import Given
+from .shown_layout import ShownLayout
+from .command_log import CommandLog
 from .guard import Guard
 from .journal import log
 from .news import News
@@ -110,13 +110,13 @@ def wait_for_the_end(over: threading.Event, asker: Asker, server: Server) -> boo
 
 
 def commands_of(
-    said: argparse.Namespace, desk: Desk, floor: Floor, news: News, asker: Asker
+    said: argparse.Namespace, desk: Desk, drawn: ShownLayout, news: News, asker: Asker
 ) -> Commands | None:
     """The commands, None where there are none. What an earlier run has sent without hearing of it
     is told."""
     if said.read_only:
         return None
-    commands = Commands(desk, floor, news, Given(said.db, news.shown.event), asker)
+    commands = Commands(desk, drawn, news, CommandLog(said.db, news.shown.event), asker)
     try:
         commands.tell_left()
     except NoRecord as fault:
@@ -132,11 +132,11 @@ def serve(said: argparse.Namespace) -> bool:
         desks = WatchedDesk(meter, **options), WatchedDesk(meter, **options)
         record = Record(said.db)
         news = News(Shown(), record)
-        floor = Floor(news)
+        drawn = ShownLayout(news)
         heard = heard_of(said)
         follow = functools.partial(followers_of, news, said.silent, said.late)
-        asker = Asker(desks[0], news, floor, follow, said.days, heard)
-        commands = commands_of(said, desks[1], floor, news, asker)
+        asker = Asker(desks[0], news, drawn, follow, said.days, heard)
+        commands = commands_of(said, desks[1], drawn, news, asker)
         api = Api(record, Watch(said.db, news.shown, asker, meter))
     except (NoRecord, OSError, ValueError, sqlite3.Error) as fault:
         raise Unready(str(fault)) from None
@@ -158,7 +158,7 @@ def serve(said: argparse.Namespace) -> bool:
         heard.stop()
     api.feed.stop()
     if commands is not None:
-        commands.given.close()
+        commands.log.close()
     record.close()
     return told
 

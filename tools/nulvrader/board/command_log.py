@@ -39,7 +39,7 @@ class Outcome:
     event: Event
 
 
-class Given:
+class CommandLog:
     """Writes commands by a connection of its own, so that each is on the disk at once. Threads may
     use it at the same time. `told` takes each entry that was written, as pages have it."""
 

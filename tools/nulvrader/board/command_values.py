@@ -30,7 +30,7 @@ class NoCommand(ValueError):
 
 
 @dataclass(frozen=True)
-class Asked:
+class AskedCommand:
     """A command as it is asked for: its name and its values, each a text of its kind."""
 
     name: str
@@ -42,7 +42,7 @@ def wrong(name: str, /, **values: object) -> NoCommand:
     return NoCommand(Line(f'wrong.{name}', values))
 
 
-def read_command(said: Mapping[str, Any], layout: Layout, is_whole: bool) -> Asked:
+def read_command(said: Mapping[str, Any], layout: Layout, is_whole: bool) -> AskedCommand:
     """The command that was said. `is_whole` says that it has to have what the look adds."""
     name, told = said.get('command'), said.get('values')
     if not isinstance(name, str) or name not in COMMANDS or not isinstance(told, dict):
@@ -62,7 +62,7 @@ def read_command(said: Mapping[str, Any], layout: Layout, is_whole: bool) -> Ask
             check(field, values[field.name], layout)
         elif is_needed:
             raise wrong('missing', field=field.row)
-    return Asked(name, values)
+    return AskedCommand(name, values)
 
 
 def check(field: Field, text: str, layout: Layout) -> None:

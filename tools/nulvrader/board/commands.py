@@ -13,11 +13,11 @@ from ..desk.client import Desk, NoAnswer, Refused
 from . import order_previews
 from .command_calls import NotAll
 from .command_kinds import COMMANDS
-from .command_log import Command, Given, Outcome
-from .command_values import NAME, Asked, read_command, wrong
+from .command_log import Command, CommandLog, Outcome
+from .command_values import NAME, AskedCommand, read_command, wrong
 from .desk_faults import advice_of, fault_of, refusal_of
 from .events import ABOUT, Cause, Event
-from .floor import Floor
+from .shown_layout import ShownLayout
 from .messages import Line, has, say, told, words_of
 from .news import News
 from .poller import now
@@ -100,9 +100,9 @@ class Commands:
     """Looks at commands and carries them out, each over a connection of its own. Threads may call
     it at a time."""
 
-    def __init__(self, desk: Desk, floor: Floor, news: News, given: Given, asker: Hurried):
-        self.desk, self.floor, self.shown, self.calls = desk, floor, news.shown, news.calls
-        self.given, self.asker = given, asker
+    def __init__(self, desk: Desk, drawn: ShownLayout, news: News, log: CommandLog, asker: Hurried):
+        self.desk, self.drawn, self.shown, self.calls = desk, drawn, news.shown, news.calls
+        self.log, self.asker = log, asker
 
     def listed(self) -> list[dict[str, Any]]:
         """The commands, as the page makes its forms of them."""
@@ -126,8 +126,8 @@ class Commands:
 
     def look(self, said: Mapping[str, Any]) -> dict[str, Any]:
         """What a command will do, with the values for `do`."""
-        asked = read_command(said, self.floor.layout, is_whole=False)
-        look = COMMANDS[asked.name].look(Scene(self.floor.layout, self.shown), asked.values)
+        asked = read_command(said, self.drawn.layout, is_whole=False)
+        look = COMMANDS[asked.name].look(Scene(self.drawn.layout, self.shown), asked.values)
         desk = self.shown.get('desk', '')
         down = [Line('look.down')]
         warns = look.warns if desk is None or desk['up'] else down + look.warns
@@ -142,14 +142,14 @@ class Commands:
     def do(self, said: Mapping[str, Any], who: str) -> dict[str, Any]:
         """Carries a command out. What is told says whether it was done, what is to be said of it,
         and what to do. `NotSent` where it can't be recorded, or another desk answers."""
-        asked = read_command(said, self.floor.layout, is_whole=True)
+        asked = read_command(said, self.drawn.layout, is_whole=True)
         if asked.values.get('edges') in order_previews.WAYS:
             raise wrong('edges')
         desk = self.shown.get('desk', '')
         if desk is not None and desk.get('other'):
             raise NotSent('unsent.other')
         try:
-            number = self.given.asked(now(), who, asked.name, asked.values)
+            number = self.log.asked(now(), who, asked.name, asked.values)
         except NoRecord as fault:
             raise NotSent('unsent.record', fault=str(fault)) from fault
         self.calls.sent(number, who, asked.name, asked.values, now())
@@ -164,7 +164,7 @@ class Commands:
             self.asker.hurry()
         return answered.told()
 
-    def _sent(self, asked: Asked) -> Answered:
+    def _sent(self, asked: AskedCommand) -> Answered:
         """Sends a command to the desk. What came of it."""
         try:
             return Answered(True, COMMANDS[asked.name].do(self.desk, asked.values), [])
@@ -183,7 +183,7 @@ class Commands:
         known."""
         cause = Cause('person', given.who or None, given.name, given.number)
         event = event_of(given, cause, answered)
-        self.given.answered(given.number, Outcome(done, answered.text(), now(), event))
+        self.log.answered(given.number, Outcome(done, answered.text(), now(), event))
 
     def take(self, said: Mapping[str, Any], user: str) -> dict[str, Any]:
         """Notes that somebody has taken an alarm on, or has it no more. `NotSent` where that can't
@@ -195,23 +195,23 @@ class Commands:
             raise wrong('nobody')
         is_taken = said.get('take') is not False
         try:
-            event = self.given.take(number, who if is_taken else None, now())
+            event = self.log.take(number, who if is_taken else None, now())
             if event is None:
                 raise wrong('over')
             if not is_taken:
                 event = replace(event, cause=Cause('person', who))
-            self.given.tell(event, now())
+            self.log.tell(event, now())
         except NoRecord as fault:
             raise NotSent('unsent.take', fault=str(fault)) from fault
         return {'done': True}
 
     def tell_left(self) -> None:
         """Tells of the commands of an earlier run whose outcome is not known."""
-        for left in self.given.left():
+        for left in self.log.left():
             self._end(left, Answered(False, [Line('answer.unknown')], []), None)
 
 
-def unanswered(asked: Asked, fault: NoAnswer) -> Answered:
+def unanswered(asked: AskedCommand, fault: NoAnswer) -> Answered:
     """What came of a command to which the desk has not answered."""
     why = fault_of(fault.fault if isinstance(fault, NotAll) else fault)
     values: dict[str, Any] = {'fault': why.words(), 'says': [why.told()]}

@@ -23,7 +23,7 @@ CALLS = {'startPause': 'pause', 'stopPause': 'resume', 'cancelOrder': 'cancel'}
 
 
 @dataclass
-class Seen:
+class KnownVehicle:
     """What is known of a vehicle: what the desk tells of it, and the way of its open order, None
     until the order's message has told it. `is_asked` says that it was asked for since the vehicle
     was told of last. `heard` is when the board last saw that a state had come, and `silent` since
@@ -44,7 +44,7 @@ class Fleet:
 
     def __init__(self, news: News, silent_after: int):
         self.news, self.silent_after = news, silent_after
-        self.seen: dict[str, Seen] = {}
+        self.seen: dict[str, KnownVehicle] = {}
         self.loads: dict[str, tuple[str, ...]] = {}
         self.holders: dict[Thing, str] = {}
         self.waits: dict[str, Wait] = {}
@@ -103,7 +103,9 @@ class Fleet:
     def _take_row(self, name: str, row: VehicleRow, is_unseen: bool) -> None:
         seen = self.seen.get(name)
         if seen is None:
-            seen = self.seen[name] = Seen(row, heard=None if row.header is None else self.news.at)
+            seen = self.seen[name] = KnownVehicle(
+                row, heard=None if row.header is None else self.news.at
+            )
             self._is_new(name, row, is_unseen)
         before, seen.row, seen.is_asked = seen.row, row, False
         self._hear(name, seen, row.header not in (None, before.header))
@@ -218,7 +220,7 @@ class Fleet:
         is_so['cancelOrder'] = row.order is None
         return 'obeyed' if is_so.get(action, True) else 'disobeyed'
 
-    def _hear(self, name: str, seen: Seen, is_new: bool) -> None:
+    def _hear(self, name: str, seen: KnownVehicle, is_new: bool) -> None:
         """A state of a vehicle is new, or none has come for a while."""
         at = self.news.at
         if is_new:
@@ -272,7 +274,7 @@ class Fleet:
         about = {'vehicle': name, 'order_name': order}
         self.news.event(f'order.{end.how}', end.cause, about)
 
-    def _show(self, name: str, seen: Seen) -> None:
+    def _show(self, name: str, seen: KnownVehicle) -> None:
         row = seen.row
         values = sentences.vehicle(row)
         if values != seen.kept:

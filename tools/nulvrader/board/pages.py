@@ -12,7 +12,7 @@ from typing import Any
 
 from ..common.text import shown
 from . import entries
-from .answers import JSON, Answer, refused, told
+from .answers import JSON, Reply, refused, told
 from .api.routes import Api
 from .api.streams import Stream
 from .poller import Asker, now
@@ -66,16 +66,16 @@ class Pages:
         page = self.files.pop('/index.html')
         tokens = {True: board.guard.token.encode(), False: b''}
         self.fronts = {
-            may: Answer(200, page.kind, page.data.replace(b'{{token}}', token))
+            may: Reply(200, page.kind, page.data.replace(b'{{token}}', token))
             for may, token in tokens.items()
         }
 
     @staticmethod
-    def _file(name: str) -> Answer:
+    def _file(name: str) -> Reply:
         with open(os.path.join(FOLDER, name), 'rb') as file:
-            return Answer(200, TYPES[os.path.splitext(name)[1]], file.read())
+            return Reply(200, TYPES[os.path.splitext(name)[1]], file.read())
 
-    def refusal(self, head: Head) -> Answer | None:
+    def refusal(self, head: Head) -> Reply | None:
         """Returns the answer that refuses a request by its head alone, or None where its body may
         be read: a foreign page, or a user who may give no commands, has no body read at all."""
         guard = self.board.guard
@@ -93,7 +93,7 @@ class Pages:
             return refused(403, Line('page.nobody'))
         return None
 
-    async def answer(self, head: Head, body: bytes) -> Answer | Stream:
+    async def answer(self, head: Head, body: bytes) -> Reply | Stream:
         """What a request is answered, which was not refused."""
         path, _, query = head.target.partition('?')
         try:
@@ -112,21 +112,21 @@ class Pages:
         except Busy:
             return refused(503, Line('page.busy'))
 
-    def _page(self, path: str, asked: dict[str, str]) -> Answer:
+    def _page(self, path: str, asked: dict[str, str]) -> Reply:
         if path == '/data':
             return self._data(asked)
         if path == '/commands':
             return told(self.board.commands.listed() if self.board.commands else [])
         return self.files.get(path) or refused(404, f'There is nothing at {path[:80]}.')
 
-    def _data(self, asked: dict[str, str]) -> Answer:
+    def _data(self, asked: dict[str, str]) -> Reply:
         board, since = self.board, asked.get('since', '')
         version = int(since) if re.fullmatch('[0-9]{1,15}', since) else 0
         newer = board.shown.newer(asked.get('run', ''), version)
         asking = json.dumps(board.asker.asking)
-        return Answer(200, JSON, b'{"now":%d,"asking":%s,%s}' % (now(), asking.encode(), newer))
+        return Reply(200, JSON, b'{"now":%d,"asking":%s,%s}' % (now(), asking.encode(), newer))
 
-    def _history(self, load: str) -> Answer:
+    def _history(self, load: str) -> Reply:
         question = (
             'SELECT at, from_place, to_place FROM load_moves WHERE load = ? ORDER BY n DESC LIMIT ?'
         )
@@ -135,18 +135,18 @@ class Pages:
         place, since = rows[0] if rows else (None, None)
         return told({'moves': moves, 'place': place, 'since': since})
 
-    def _entries(self, path: str, asked: dict[str, str]) -> Answer:
+    def _entries(self, path: str, asked: dict[str, str]) -> Reply:
         """The entries that are asked for: a page of them, or a file."""
         try:
             if path == '/record':
                 return told(entries.page_of(self.board.record.path, asked))
-            return Answer(200, CSV, entries.csv_of(self.board.record.path, asked))
+            return Reply(200, CSV, entries.csv_of(self.board.record.path, asked))
         except entries.BadQuestion as wrong:
             return refused(400, wrong.line)
         except sqlite3.Error as fault:
             return refused(503, Line('record.unread', {'fault': str(fault)}))
 
-    async def _command(self, path: str, head: Head, body: bytes) -> Answer:
+    async def _command(self, path: str, head: Head, body: bytes) -> Reply:
         commands = self.board.commands
         said = object_of(body)
         if commands is None or path not in ('/may', '/look', '/do', '/take'):

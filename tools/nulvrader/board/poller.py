@@ -21,7 +21,7 @@ from .alarms import Alarms
 from .desk_faults import fault_of
 from .events import BOARD
 from .fleet import Fleet
-from .floor import Floor
+from .shown_layout import ShownLayout
 from .journal import log
 from .messages import Line, told
 from .news import News
@@ -53,7 +53,7 @@ def now() -> int:
 
 
 @dataclass
-class Turn:
+class TimedQuestion:
     """A question that is asked in turn: at most every so many seconds, and less often where the
     answer takes long. `due` is of `time.monotonic`."""
 
@@ -93,23 +93,25 @@ class Asker(threading.Thread):
         self,
         desk: Desk,
         news: News,
-        floor: Floor,
+        drawn: ShownLayout,
         follow: Callable[[], Followers],
         days: int,
         heard: Heard | None = None,
     ):
         super().__init__(name='asker', daemon=True)
-        self.desk, self.news, self.floor, self.follow, self.days = desk, news, floor, follow, days
+        self.desk, self.news, self.drawn, self.follow, self.days = desk, news, drawn, follow, days
         self.heard = heard
         self._take_up()
         # Jobs come before the stock report, by which it is known how one has ended.
         self.turns = (
-            Turn(self.ask_vehicles, OFTEN),
-            Turn(self.ask_holds, OFTEN),
-            Turn(self.ask_jobs, SOMETIMES),
-            Turn(self.ask_stock, SOMETIMES),
+            TimedQuestion(self.ask_vehicles, OFTEN),
+            TimedQuestion(self.ask_holds, OFTEN),
+            TimedQuestion(self.ask_jobs, SOMETIMES),
+            TimedQuestion(self.ask_stock, SOMETIMES),
         )
-        self.layout, self.export = Turn(self.ask_layout, RARELY), Turn(self.ask_export, RARELY)
+        self.layout, self.export = TimedQuestion(self.ask_layout, RARELY), TimedQuestion(
+            self.ask_export, RARELY
+        )
         self.asking: int | None = None  # since when the desk is asked what it has not yet answered
         self.asked = 0  # how many requests the last turn took
         self.up: bool | None = None
@@ -121,7 +123,7 @@ class Asker(threading.Thread):
         self._woken = threading.Event()
 
     def _take_up(self) -> None:
-        self.floor.show()
+        self.drawn.show()
         followers = self.follow()
         self.stores, self.fleet, self.same = followers.stores, followers.fleet, followers.same
         self.keeper, self.alarms = followers.keeper, followers.alarms
@@ -173,7 +175,7 @@ class Asker(threading.Thread):
 
     def look_for_alarms(self, alarms: Alarms) -> None:
         """Looks for what needs a person, where that is due."""
-        if alarms.turn(self.stores, self.fleet, self.keeper, self.floor.layout):
+        if alarms.turn(self.stores, self.fleet, self.keeper, self.drawn.layout):
             self.news.commit()
 
     def _wait_for_the_record(self, fault: str) -> None:
@@ -245,7 +247,7 @@ class Asker(threading.Thread):
         for turn in self.turns:
             if at >= turn.due:
                 return turn.ask
-        if not self.floor.layout.nodes and at >= self.layout.due:
+        if not self.drawn.layout.nodes and at >= self.layout.due:
             return self.layout.ask
         if self.stores.needs_export and at >= self.export.due:
             return self.export.ask
@@ -315,7 +317,7 @@ class Asker(threading.Thread):
     def ask_layout(self) -> None:
         layout = self._told(self.desk.layout)
         self.same.check_layout(layout)
-        self.floor.take(layout)
+        self.drawn.take(layout)
 
     def ask_vehicles(self) -> None:
         rows = self._told(self.desk.vehicles)

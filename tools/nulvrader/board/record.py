@@ -75,7 +75,7 @@ def opened(path: str, wait: float = 10.0) -> sqlite3.Connection:
     return sqlite3.connect(path, timeout=wait, isolation_level=None, check_same_thread=False)
 
 
-class Told(Protocol):
+class RecordedAlarm(Protocol):
     """An alarm, as the record takes it."""
 
     @property
@@ -312,7 +312,7 @@ class Record:
             'vehicle_batteries', {**row, 'charging': None if charging is None else int(charging)}
         )
 
-    def alarm(self, found: Told, began: int) -> int:
+    def alarm(self, found: RecordedAlarm, began: int) -> int:
         """Something needs a person, since a moment. The number of its row."""
         about = {name: found.about().get(name) for name in ('vehicle', 'load', 'job', 'station')}
         row: dict[str, Any] = {'key': found.key, 'kind': found.kind, 'level': found.level, **about}
@@ -321,7 +321,7 @@ class Record:
             self._row('alarms', {**row, 'more': json_of(values_cut(found.values))})
             return int(self.rows('SELECT last_insert_rowid()')[0][0])
 
-    def change_alarm(self, number: int, found: Told) -> None:
+    def change_alarm(self, number: int, found: RecordedAlarm) -> None:
         """An alarm says something else now."""
         row = found.kind, found.level, cut(found.words()), cut(found.todo())
         names = 'kind = ?, level = ?, words = ?, todo = ?, more = ?'

@@ -12,7 +12,7 @@ import threading
 from .guard import HEADERS
 from .journal import log
 from .messages import Line
-from .answers import Answer, refused
+from .answers import Reply, refused
 from .api.streams import Stream
 from .pages import Pages
 from .private_sockets import bound_to
@@ -82,7 +82,7 @@ class Connection:
         """Reads one request and answers it. Raises `EOFError`, `TimeoutError` or `OSError` where
         the client goes away or doesn't take its answer in time."""
         method = 'GET'
-        answer: Answer | Stream | None = None
+        answer: Reply | Stream | None = None
         try:
             async with asyncio.timeout(REQUEST):
                 head = await read_head(self.source)
@@ -112,7 +112,7 @@ class Connection:
         self.target.transport.abort()
 
     @staticmethod
-    async def _answer(pages: Pages, head: Head, body: bytes) -> Answer | Stream:
+    async def _answer(pages: Pages, head: Head, body: bytes) -> Reply | Stream:
         """Returns what the pages answer. A fault of the board is logged and answered by 500, so
         that it ends this connection alone."""
         try:
@@ -133,7 +133,7 @@ class Connection:
         if not is_head:
             await stream.serve(self.source, self.target, pace.wait)
 
-    async def _write(self, answer: Answer, is_head: bool) -> None:
+    async def _write(self, answer: Reply, is_head: bool) -> None:
         lines = [f'Content-Type: {answer.kind}', f'Content-Length: {len(answer.data)}']
         lines += ['Allow: GET, HEAD, POST'] if answer.status == 405 else []
         self._write_head(answer.status, *lines)

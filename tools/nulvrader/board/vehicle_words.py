@@ -46,7 +46,7 @@ class Error:
 
 
 @dataclass(frozen=True)
-class Failed:
+class FailedAction:
     """An action that has failed: its id, and what the vehicle says of it."""
 
     action: str
@@ -67,7 +67,7 @@ class Words:
     map: str | None = None
     connection: str | None = None
     errors: tuple[Error, ...] | None = None
-    failed: tuple[Failed, ...] | None = None
+    failed: tuple[FailedAction, ...] | None = None
 
     def over(self, before: Words) -> Words:
         """These words, and what was said before of that of which they say nothing."""
@@ -141,12 +141,12 @@ def _errors(told: dict[str, Any]) -> tuple[Error, ...] | None:
     return tuple(sorted(found.values(), key=lambda one: one.level != 'FATAL')[:ERRORS])
 
 
-def _failed(told: dict[str, Any]) -> tuple[Failed, ...] | None:
+def _failed(told: dict[str, Any]) -> tuple[FailedAction, ...] | None:
     if not isinstance(told.get('actionStates'), list):
         return None
     failed = [one for one in _objects(told, 'actionStates') if one.get('actionStatus') == 'FAILED']
     return tuple(
-        Failed(
+        FailedAction(
             _text(one, 'actionId', WORD) or '?',
             _text(one, 'actionType', WORD) or '',
             _text(one, 'resultDescription', TEXT) or '',

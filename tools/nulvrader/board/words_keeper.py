@@ -10,7 +10,7 @@ from typing import Any
 from .events import BOARD, VEHICLE
 from .news import News
 from .record import moment_of
-from .vehicle_words import Error, Failed, Words
+from .vehicle_words import Error, FailedAction, Words
 
 KEEP = 10_000  # milliseconds from one writing of words that say nothing new to the next
 SPAN, MOST = 600_000, 60  # in so many milliseconds so many entries and rows of a vehicle at most
@@ -22,7 +22,7 @@ NOTHING = Words(mode='AUTOMATIC', stop='NONE', field=False, errors=(), failed=()
 
 
 @dataclass
-class Said:
+class KnownWords:
     """What is known of a vehicle's words: the last ones, their moment, since when things are so, by
     their names, when they were kept last, the battery of the last row, whether it is low, and how
     many entries and rows there were since a moment. `failures` are those of the failed actions that
@@ -49,7 +49,7 @@ class Keeper:
 
     def __init__(self, news: News):
         self.news = news
-        self.said: dict[str, Said] = {}
+        self.said: dict[str, KnownWords] = {}
         names = ('vehicle', 'at', *COLUMNS, 'x', 'y', 'errors', 'failed', 'since')
         for row in news.record.rows(f'SELECT {", ".join(names)} FROM vehicle_words'):
             self._restore(dict(zip(names, row)))
@@ -61,11 +61,11 @@ class Keeper:
         for name in ('field', 'charging'):
             values[name] = None if values[name] is None else bool(values[name])
         position = None if row['x'] is None or row['y'] is None else (row['x'], row['y'])
-        failed = tuple(Failed(**one) for one in json.loads(row['failed']))
+        failed = tuple(FailedAction(**one) for one in json.loads(row['failed']))
         words = Words(**values, position=position, errors=tuple(errors), failed=failed)
         at, since = moment_of(row['at']), json.loads(row['since'])
         is_low = words.battery is not None and words.battery < LOW
-        said = Said(words, at, since, at, words.battery, is_low)
+        said = KnownWords(words, at, since, at, words.battery, is_low)
         question = "SELECT 1 FROM alarms WHERE ended IS NULL AND kind = 'action' AND vehicle = ?"
         if self.news.record.rows(question, (row['vehicle'],)):
             said.failures = frozenset(one.action for one in failed)
@@ -83,7 +83,7 @@ class Keeper:
         self.news.at = before
 
     def _take(self, vehicle: str, told: Words) -> None:
-        said, at = self.said.setdefault(vehicle, Said()), self.news.at
+        said, at = self.said.setdefault(vehicle, KnownWords()), self.news.at
         before, words = said.words, told.over(said.words)
         changes = list(changes_of(before, words))
         for what, old, new, more in changes:
@@ -99,7 +99,12 @@ class Keeper:
             self._show(vehicle)
 
     def _tell(
-        self, vehicle: str, said: Said, what: str, values: tuple[Any, Any], more: Mapping[str, Any]
+        self,
+        vehicle: str,
+        said: KnownWords,
+        what: str,
+        values: tuple[Any, Any],
+        more: Mapping[str, Any],
     ) -> None:
         """An entry of a change, unless there were too many of this vehicle."""
         if what == 'action' and self._is_cancelled(more['id']):
@@ -135,7 +140,7 @@ class Keeper:
         end = self.news.ends.get(order)
         return order in self.news.cancelling or (end is not None and end.how != 'ended')
 
-    def _note_since(self, said: Said, words: Words) -> None:
+    def _note_since(self, said: KnownWords, words: Words) -> None:
         """Notes since when things are as they are."""
         now = {
             'mode': words.mode != said.words.mode,
@@ -151,7 +156,7 @@ class Keeper:
         for name in said.since.keys() - errors - now.keys():
             del said.since[name]
 
-    def _charge(self, vehicle: str, said: Said) -> None:
+    def _charge(self, vehicle: str, said: KnownWords) -> None:
         """Records the battery of a vehicle: a row where its charge has changed by `STEP` percent
         since the last row, and an entry where it becomes low (below `LOW`) or is low no more (at
         `ENOUGH`). Both count as rows of the vehicle's words, so a vehicle whose charge jumps to
@@ -215,7 +220,7 @@ def changes_of(before: Words, words: Words) -> Iterator[Change]:
             yield 'action', None, None, {'id': one.action, 'type': one.type, 'result': one.result}
 
 
-def row_of(said: Said) -> dict[str, Any]:
+def row_of(said: KnownWords) -> dict[str, Any]:
     """The values of `vehicle_words`."""
     words = said.words
     flags = {name: getattr(words, name) for name in ('field', 'charging')}

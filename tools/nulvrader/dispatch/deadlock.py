@@ -34,7 +34,7 @@ import random
 from collections.abc import Collection, Mapping, Sequence
 from dataclasses import dataclass
 
-from .floor import Floor, State
+from .search_space import SearchSpace, State
 from .lanes import Ground, Way
 from .plan import Moves
 
@@ -56,8 +56,8 @@ class Found:
     left: Mapping[str, int]
 
 
-def found_in(floor: Floor, state: State) -> Found:
-    lanes, names = floor.lanes, floor.names
+def found_in(space: SearchSpace, state: State) -> Found:
+    lanes, names = space.lanes, space.names
     moves = [(names[vehicle], lanes[vehicle].end - to) for vehicle, to in state.moves]
     left = {name: lane.end - at for name, lane, at in zip(names, lanes, state.at)}
     return Found(frozenset(name for name, nodes in left.items() if not nodes), moves, left)
@@ -73,12 +73,12 @@ def along(
 ) -> Found:
     """Who finishes by those of these moves that can be made, and behind them, if these are to be
     made, by moves that take nothing from anybody."""
-    floor = Floor(ways, walls, ground)
-    state = floor.start()
-    floor.follow(state, moves)
+    space = SearchSpace(ways, walls, ground)
+    state = space.start()
+    space.follow(state, moves)
     if settle:
-        floor.settle(state)
-    return found_in(floor, state)
+        space.settle(state)
+    return found_in(space, state)
 
 
 def look(
@@ -90,29 +90,29 @@ def look(
 ) -> Found:
     """An order of moves by which all of the wanted vehicles finish, or, where none are named, all
     that can. Where it is not found, the best that was."""
-    floor = Floor(ways, walls, ground)
-    first = floor.start()
-    floor.settle(first)
+    space = SearchSpace(ways, walls, ground)
+    first = space.start()
+    space.settle(first)
     if wanted is None:
-        goal = floor.goal(first)
+        goal = space.goal(first)
     else:
-        goal = frozenset(vehicle for vehicle, name in enumerate(floor.names) if name in wanted)
-        if not goal.isdisjoint(floor.lost(first)):
-            return found_in(floor, first)
+        goal = frozenset(vehicle for vehicle, name in enumerate(space.names) if name in wanted)
+        if not goal.isdisjoint(space.lost(first)):
+            return found_in(space, first)
     state = first
-    for group in floor.groups(first):
+    for group in space.groups(first):
         here = goal.intersection(group)
-        together = floor.together(state, here)
+        together = space.together(state, here)
         if wanted is not None and together != here:
             break
-        state = search(floor, state, group, together, budget)
-        if wanted is not None and not floor.has_all(state, here):
+        state = search(space, state, group, together, budget)
+        if wanted is not None and not space.has_all(state, here):
             break
-    return found_in(floor, state)
+    return found_in(space, state)
 
 
 def search(
-    floor: Floor, first: State, group: Sequence[int], goal: frozenset[int], budget: int
+    space: SearchSpace, first: State, group: Sequence[int], goal: frozenset[int], budget: int
 ) -> State:
     """A state behind this one, after moves of the group alone, in which those of the goal have
     finished; or, where none is found in so many, that in which the most have. It is tried again
@@ -122,40 +122,40 @@ def search(
     chance, order, best = random.Random(0), list(group), first
     for n in itertools.count(1):
         found, looked, is_all = tried(
-            floor, first, order, goal, min(max(TRY, len(order)) * (n & -n), budget)
+            space, first, order, goal, min(max(TRY, len(order)) * (n & -n), budget)
         )
-        if floor.count(found, group) > floor.count(best, group) or floor.has_all(found, goal):
+        if space.count(found, group) > space.count(best, group) or space.has_all(found, goal):
             best = found
         budget -= looked
-        if is_all or budget <= 0 or floor.has_all(best, goal):
+        if is_all or budget <= 0 or space.has_all(best, goal):
             break
         chance.shuffle(order)
     return best
 
 
 def tried(
-    floor: Floor, first: State, order: Sequence[int], goal: frozenset[int], most: int
+    space: SearchSpace, first: State, order: Sequence[int], goal: frozenset[int], most: int
 ) -> tuple[State, int, bool]:
     """The best state that is found in so many, with those vehicles first that come first here;
     how many were looked at; and whether there are no others."""
-    best, count, looked = first, floor.count(first, order), 0
-    seen, rows = {tuple(first.at)}, [floor.steps(first, order, goal)]
-    while not floor.has_all(best, goal) and rows and looked < most:
+    best, count, looked = first, space.count(first, order), 0
+    seen, rows = {tuple(first.at)}, [space.steps(first, order, goal)]
+    while not space.has_all(best, goal) and rows and looked < most:
         state = next(rows[-1], None)
         if state is None:
             rows.pop()
             continue
-        floor.settle(state, order)
+        space.settle(state, order)
         key = tuple(state.at)
         if key in seen:
             continue
         seen.add(key)
         looked += 1
-        over = floor.count(state, order)
-        if over > count or floor.has_all(state, goal):
+        over = space.count(state, order)
+        if over > count or space.has_all(state, goal):
             best, count = state, over
-        if goal.isdisjoint(floor.waiting_for_good(state)):
-            rows.append(floor.steps(state, order, goal))
+        if goal.isdisjoint(space.waiting_for_good(state)):
+            rows.append(space.steps(state, order, goal))
     return best, looked, not rows
 
 

@@ -21,7 +21,7 @@ class OtherRecord(Exception):
 
 
 @dataclass(frozen=True)
-class Asked:
+class EventQuery:
     """What is asked for: events behind a number, at most so many, of these kinds (None: of all).
     `record` is the one that the number is of, None where that isn't said."""
 
@@ -94,7 +94,7 @@ def kept_in(reading: Reading, last: int) -> Kept:
     return Kept(reading.meta('record') or '', first if first <= last else 0, last)
 
 
-def read_events(reading: Reading, asked: Asked, last: int) -> Batch:
+def read_events(reading: Reading, asked: EventQuery, last: int) -> Batch:
     """Returns the events that are asked for, up to the number `last`. `OtherRecord` where the
     number is of another record."""
     with reading.moment():
@@ -127,7 +127,7 @@ def within(events: tuple[Row, ...]) -> tuple[Row, ...]:
     return events
 
 
-def check(asked: Asked, kept: Kept) -> None:
+def check(asked: EventQuery, kept: Kept) -> None:
     """Checks that the number that is asked for is one of this record."""
     if asked.record not in (None, kept.record):
         raise OtherRecord(f'This is the record {kept.record}: begin with after=0.')

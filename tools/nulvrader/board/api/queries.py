@@ -3,7 +3,7 @@ from __future__ import annotations
 
 import re
 
-from .events import GREATEST, MOST, Asked
+from .events import GREATEST, MOST, EventQuery
 
 NUMBER = re.compile('[0-9]{1,16}')
 KINDS = re.compile('[a-z_]{1,32}(,[a-z_]{1,32}){0,31}')
@@ -42,7 +42,7 @@ def matched(text: str, name: str, form: re.Pattern[str], what: str) -> str:
     return text
 
 
-def asked_of(query: str, last_id: str | None) -> Asked:
+def asked_of(query: str, last_id: str | None) -> EventQuery:
     """Returns which events are asked for. `last_id` is what a reader says who connects again: it
     goes before `after`."""
     said = values_of(query, ('after', 'limit', 'kinds', 'record'))
@@ -56,4 +56,4 @@ def asked_of(query: str, last_id: str | None) -> Asked:
     record = said.get('record')
     if record is not None:
         matched(record, 'record', RECORD, 'no name of a record')
-    return Asked(after, most, None if kinds is None else frozenset(kinds.split(',')), record)
+    return EventQuery(after, most, None if kinds is None else frozenset(kinds.split(',')), record)

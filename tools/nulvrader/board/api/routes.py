@@ -11,12 +11,12 @@ from collections.abc import Callable
 from dataclasses import dataclass
 from typing import Any, TypeVar
 
-from ..answers import JSON, Answer, refused, told
+from ..answers import JSON, Reply, refused, told
 from ..record import Record
 from ..request import Head
 from ..workers import Workers
 from . import histories, queries
-from .events import Asked, Batch, OtherRecord, read_events
+from .events import EventQuery, Batch, OtherRecord, read_events
 from .feed import Feed
 from .queries import BadQuery
 from .reading import Reading
@@ -77,14 +77,14 @@ class Api:
         self.streams = Streams(self.feed, self._part)
         watch.streams = self.streams.count
         with open(DOCUMENT, 'rb') as file:
-            self.document = Answer(200, JSON, file.read())
+            self.document = Reply(200, JSON, file.read())
 
     @staticmethod
     def has(path: str) -> bool:
         """Whether a path is one of these."""
         return path.startswith(FRONT) or path in ('/metrics', '/health')
 
-    async def answer(self, head: Head) -> Answer | Stream:
+    async def answer(self, head: Head) -> Reply | Stream:
         """Returns what a request is answered."""
         path, _, query = head.target.partition('?')
         if head.method == 'POST':
@@ -98,7 +98,7 @@ class Api:
         except sqlite3.Error:
             return refused(503, NOT_READ)
 
-    async def _answer(self, path: str, query: str, head: Head) -> Answer | Stream:
+    async def _answer(self, path: str, query: str, head: Head) -> Reply | Stream:
         if path in (EVENTS, STREAM):
             return await self._events(path, query, head)
         queries.values_of(query, ())
@@ -106,7 +106,7 @@ class Api:
             return self.document
         if path == '/metrics':
             text = await self._run(functools.partial(self.watch.metrics, self.feed))
-            return Answer(200, METRICS, text.encode())
+            return Reply(200, METRICS, text.encode())
         if path == '/health':
             health = self.watch.health(self.feed)
             return told(health.told(), 200 if health.is_well else 503)
@@ -115,10 +115,10 @@ class Api:
                 return await self._found(route, list(found.groups()))
         return refused(404, f'There is nothing at {path[:80]}.')
 
-    async def _found(self, route: Route, names: list[str]) -> Answer:
+    async def _found(self, route: Route, names: list[str]) -> Reply:
         return await self._run(functools.partial(self._at_once, route, names))
 
-    def _at_once(self, route: Route, names: list[str]) -> Answer:
+    def _at_once(self, route: Route, names: list[str]) -> Reply:
         with self.reading.moment():
             found = route.ask(self.reading, names)
         if found is None:
@@ -129,19 +129,19 @@ class Api:
         """Has a thread do something, by its share of the processor."""
         return await self.workers.run(lambda: self.share.run(work))
 
-    async def _events(self, path: str, query: str, head: Head) -> Answer | Stream:
+    async def _events(self, path: str, query: str, head: Head) -> Reply | Stream:
         is_stream = path == STREAM
         last_id = head.headers.get('last-event-id') if is_stream else None
         asked = queries.asked_of(query, last_id)
         if not is_stream:
             return await self._run(lambda: told(self._batch(asked).told()))
-        asked = Asked(asked.after, BATCH, asked.kinds, asked.record)
+        asked = EventQuery(asked.after, BATCH, asked.kinds, asked.record)
         return Stream(self.streams, asked, await self._part(asked))
 
-    async def _part(self, asked: Asked) -> Part:
+    async def _part(self, asked: EventQuery) -> Part:
         return await self._run(lambda: part_of(self._batch(asked)))
 
-    def _batch(self, asked: Asked) -> Batch:
+    def _batch(self, asked: EventQuery) -> Batch:
         last = self.feed.last
         if last is None:
             raise sqlite3.OperationalError(NOT_READ)

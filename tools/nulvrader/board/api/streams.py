@@ -8,7 +8,7 @@ import dataclasses
 from collections.abc import Awaitable, Callable
 from dataclasses import dataclass
 
-from .events import Asked, Batch, text_of
+from .events import EventQuery, Batch, text_of
 from .feed import Feed
 
 MOST = 64  # streams at a time; one more ends the oldest
@@ -30,7 +30,7 @@ class Part:
     more: bool
 
 
-Read = Callable[[Asked], Awaitable[Part]]
+Read = Callable[[EventQuery], Awaitable[Part]]
 Pace = Callable[[int], Awaitable[None]]
 
 
@@ -50,7 +50,7 @@ class Stream:
     """What is answered to who wants events as they come: `asked` is where it begins."""
 
     streams: Streams
-    asked: Asked
+    asked: EventQuery
     first: Part
 
     kind = 'text/event-stream; charset=utf-8'

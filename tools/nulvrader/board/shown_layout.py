@@ -1,4 +1,4 @@
-"""The layout of the desk, as it is drawn. It is kept, so that it is there while no desk answers."""
+"""The layout as the page draws it, which is kept, so that it is there while no desk answers."""
 from __future__ import annotations
 
 from typing import Any
@@ -11,8 +11,8 @@ from .news import News
 NONE = Layout((), {}, {})
 
 
-class Floor:
-    """The layout, which has nothing in it until the desk has told one."""
+class ShownLayout:
+    """The layout on the page; it has nothing in it until the desk has told one."""
 
     def __init__(self, news: News):
         self.news = news

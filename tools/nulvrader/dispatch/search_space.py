@@ -1,5 +1,5 @@
-"""The floor of the search: vehicles on their ways, what moves they have, and who of them can still
-finish. It knows nodes, ways and walls as `deadlock.py` says it."""
+"""What the search for moves goes through: vehicles on their ways, what moves they have, and who of
+them can still finish. It knows nodes, ways and walls as `deadlock.py` says it."""
 from __future__ import annotations
 
 from collections.abc import Collection, Iterable, Iterator, Mapping
@@ -21,7 +21,7 @@ class State:
         return State(self.at.copy(), self.taken, self.moves.copy())
 
 
-class Floor:
+class SearchSpace:
     """Vehicles on their ways. Vehicles are numbers here; `names` has their names."""
 
     def __init__(
