@@ -16,6 +16,8 @@ from tests.support.programs import ROOT, module
 
 RELEASED = 'desk: proved in release 0.1.0, of these sources\n'
 PROGRAM = 'crates/agv_app/out/agv_app'
+KIT = '#!/bin/sh\nif [ "$1" = version ]; then echo "%s"; else echo "2 passed, 0 failed"; fi\n'
+"""A stand-in for `rt` that names itself and passes."""
 GATE = 'rt: all proved\n7 passed, 0 failed\n'
 DAMAGED = 'desk: release/ is damaged, so it is not run: '
 
@@ -48,11 +50,9 @@ class Released(Tree):
         )
         return done.returncode, done.stdout + done.stderr
 
-    def check(self) -> tuple[int, str]:
-        """Runs `./check` over an `rt` that passes: its status, and its last line."""
-        self.write(
-            os.path.join(self.kit, 'bin', 'rt'), '#!/bin/sh\necho "2 passed, 0 failed"\n', 0o755
-        )
+    def check(self, kit: str = 'a kit logic 1234') -> tuple[int, str]:
+        """Runs `./check` over an `rt` of this name that passes: its status, and its last line."""
+        self.write(os.path.join(self.kit, 'bin', 'rt'), KIT % kit, 0o755)
         line = [os.path.join(self.top, 'check')]
         done = subprocess.run(line, env={'PATH': self.bin}, capture_output=True, text=True)
         self.write(os.path.join(self.kit, 'bin', 'rt'), self.real_rt, 0o755)
@@ -193,6 +193,17 @@ class Released(Tree):
         self.assertEqual(self.check(), (1, '5 passed, 1 failed'))
         os.remove(os.path.join(self.top, PROGRAM))
         self.assertEqual(self.check(), (1, '5 passed, 1 failed'))
+
+    def test_another_kit(self) -> None:
+        """It may write other bytes. Then the two programs are compared by what they answer: one
+        that answers an example differently is found, and so is one if there are no examples."""
+        self.write(PROGRAM, ECHO + '# other bytes, the same answers\n', 0o755)
+        self.assertEqual(self.check('another kit'), (1, '5 passed, 1 failed'))
+        self.write('examples/one.http', 'GET / HTTP/1.1\n\n')
+        self.assertEqual(self.check('another kit'), (0, '5 passed, 0 failed'))
+        self.assertEqual(self.check(), (1, '5 passed, 1 failed'))
+        self.write(PROGRAM, ECHO.replace('exit 3', 'exit 4'), 0o755)
+        self.assertEqual(self.check('another kit'), (1, '5 passed, 1 failed'))
 
     def test_the_package_has_it(self) -> None:
         """`dev/make-deb` takes it if it is whole and of these sources, and nothing else."""
