@@ -286,21 +286,25 @@ class Drill:
 
     def stop_and_start(self) -> None:
         """Stops the desk as a person does, and starts it once another goes on."""
+        self.make_whole()
+        began = time.monotonic()
+        while self.stop_and_wait(self.desks[self.holder()[0].number]) is None:
+            if time.monotonic() > began + TAKEOVER:
+                raise NoMachines(f'no desk goes on within {TAKEOVER:g} s after a stop')
+            self.make_whole()
+
+    def make_whole(self) -> None:
+        """Starts the machines that their watchdogs have reset, and waits until all use all
+        copies."""
         for _ in until():
             self.boot()
             if all(self.volume.is_whole(one) for one in self.machines.all):
-                break
-        began = time.monotonic()
-        first = None
-        while first is None:
-            if time.monotonic() > began + TAKEOVER:
-                raise NoMachines(f'no desk goes on within {TAKEOVER:g} s after a stop')
-            old, _ = self.holder()
-            first = self.stop_and_wait(self.desks[old.number])
+                return
 
     def stop_and_wait(self, desk: Served) -> float | None:
         """Stops a desk, waits for the next one, and starts the first again. Returns the first
-        answer; None where none comes, as where another one had the desk already."""
+        answer; None where none comes, as where another one had the desk already, or a watchdog has
+        reset the machine that was to go on."""
         began = time.monotonic()
         desk.wait()
         found = None
@@ -308,6 +312,8 @@ class Drill:
             found = self.answering(began, 0)
             if found is not None:
                 self.figures.planned.append(found[1] - began)
+                break
+            if any(machine.was_reset for machine in self.machines.all):
                 break
         desk.start()
         return None if found is None else found[1]
