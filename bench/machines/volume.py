@@ -9,14 +9,18 @@ from nulvrader.standby import gluster
 from .namespaces import Machine, Machines, NoMachines, until
 
 NAME = 'desk'
-FLAGS = (  # as in examples/standby/srv-desk.mount
-    '--direct-io-mode=disable',
-    '--attribute-timeout=0',
-    '--entry-timeout=0',
-    '--auto-invalidation=on',
-)
+HERE = os.path.dirname(os.path.abspath(__file__))
+UNIT = os.path.join(HERE, '..', '..', 'examples', 'standby', 'desk-volume.service')
+NOT_ITS = ('--no-daemon', '--process-name', '--volfile-')  # which this program says itself
 NOT_YET = 'Peer in Cluster'  # a machine is connected, and not taken in yet
 DAEMONS = ('glusterd', 'glusterfs', 'gluster')
+
+
+def flags(path: str = UNIT) -> list[str]:
+    """Returns how the unit of the examples has the volume mounted."""
+    with open(path, encoding='utf-8') as file:
+        (line,) = [one for one in file if one.startswith('ExecStart=')]
+    return [word for word in line.split() if word[:2] == '--' and not word.startswith(NOT_ITS)]
 
 
 class Volume:
@@ -27,6 +31,7 @@ class Volume:
         self, machines: Machines, options: dict[str, str], *, has_arbiter: bool = False
     ) -> None:
         self.machines, self.options, self.has_arbiter = machines, options, has_arbiter
+        self.flags = flags()
 
     def gluster(self, machine: Machine, *words: str) -> str:
         """Runs a command of GlusterFS in a machine, which has to succeed, and returns what it
@@ -89,7 +94,8 @@ class Volume:
         order = [self.machines.all[(at + step) % count] for step in range(count)]
         servers = [f'--volfile-server={one.address}' for one in order]
         place = os.path.join(machine.folder, 'mount')
-        words = ['glusterfs', *servers, f'--volfile-id=/{NAME}', *FLAGS, '--process-name', 'fuse']
+        words = ['glusterfs', *servers, f'--volfile-id=/{NAME}', *self.flags]
+        words += ['--process-name', 'fuse']
         for _ in range(2):
             if f' {place} fuse.glusterfs ' not in machine.run('cat', '/proc/mounts').stdout:
                 machine.run(*words, place)

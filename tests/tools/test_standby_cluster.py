@@ -2,19 +2,26 @@
 does as Pacemaker asks."""
 from __future__ import annotations
 
+import importlib
 import os
 import re
 import shutil
 import signal
 import subprocess
+import sys
 import unittest
+from typing import Any
+from unittest import mock
 
 from nulvrader.desk.client import Desk, NoAnswer
 from nulvrader.standby import checks, cluster, gluster, lock, status
 from nulvrader.standby.gluster import Brick, Client, Unknown, Volume
 from tests.support.desks import DESK
-from tests.support.programs import PATIENCE, until
+from tests.support.programs import PATIENCE, ROOT, until
 from tests.support.standing_by import EXAMPLES, Folder, STANDBY
+
+with mock.patch.object(sys, 'path', [os.path.join(ROOT, 'bench'), *sys.path]):
+    volume: Any = importlib.import_module('machines.volume')
 
 QUORUM = """Quorum information
 ------------------
@@ -56,6 +63,7 @@ class Agent(Folder):
             'HA_RSCTMP': self.folder, 'OCF_RESKEY_program': DESK, 'OCF_RESKEY_tool': STANDBY,
             'OCF_RESKEY_db': self.db, 'OCF_RESKEY_socket': self.path('run/desk.sock'),
             'OCF_RESKEY_user': 'root', 'OCF_RESKEY_group': 'root', 'OCF_RESKEY_within': '120',
+            'OCF_RESKEY_mount': '/',
             'HA_logfile': self.path('log'), 'HA_LOGFACILITY': 'none', **more,
         }  # fmt: skip
         line = ['sh', os.path.join(EXAMPLES, 'desk'), action]
@@ -92,6 +100,13 @@ class Agent(Folder):
         more = {'OCF_RESKEY_db': self.path('none/warehouse.db'), 'OCF_RESKEY_patience': '1'}
         self.assertEqual(self.call('start', **more), status.FAILED)
         self.assertEqual(self.call('monitor', **more), status.STOPPED)
+
+    def test_a_volume_that_is_not_mounted(self) -> None:
+        """A start fails, and makes no file in the folder where the volume should be."""
+        self.addCleanup(self.call, 'stop')
+        more = {'OCF_RESKEY_mount': '', 'OCF_RESKEY_patience': '1'}
+        self.assertEqual(self.call('start', **more), status.FAILED)
+        self.assertEqual([name for name in os.listdir(self.folder) if 'warehouse' in name], [])
 
 
 class VolumeWords(unittest.TestCase):
@@ -134,9 +149,7 @@ class VolumeWords(unittest.TestCase):
     def test_flags_of_the_mount(self) -> None:
         """The mount of the example has the option without which files are read as they were, and a
         mount without it is told."""
-        with open(os.path.join(EXAMPLES, 'srv-desk.mount'), encoding='utf-8') as file:
-            (options,) = re.findall('^Options=(.*)$', file.read(), re.M)
-        self.assertIn('auto-invalidation=on', options.split(','))
+        self.assertIn('--auto-invalidation=on', volume.flags())
         self.assertEqual(checks.wrong_flags(['glusterfs', '--auto-invalidation=on', '/srv']), [])
         for flags in (
             ['glusterfs', '/srv'],
