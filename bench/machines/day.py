@@ -7,7 +7,7 @@ import os
 import socket as sockets
 import threading
 import time
-from collections.abc import Mapping, Sequence
+from collections.abc import Callable, Mapping, Sequence
 from typing import Any
 
 from nulvrader.desk.client import Answer, NoAnswer
@@ -26,18 +26,18 @@ from .rounds import Drill
 
 DAYS = ('cut', 'kill', 'freeze', 'hang', 'mute', 'deaf')  # the kinds after which another goes on
 FLOOR = 'small'
-VEHICLES, LOADS = 5, 25
+LOADS = 5  # for each vehicle
 PATIENCE = 10.0  # seconds for an answer: as long as a gateway waits
-JOBS_A_MINUTE = 3.4  # about so many end
+JOBS_A_MINUTE = 0.68  # about so many of a vehicle end
 
 
-def plan(minutes: float, seed: int, pace: float) -> Plan:
+def plan(minutes: float, vehicles: int, seed: int, pace: float) -> Plan:
     """Returns the plan of a plant that has about so many minutes of work. Its desk is left to the
     faults."""
     trouble = Trouble(desk=None)
-    jobs = int(minutes * JOBS_A_MINUTE)
+    jobs = int(minutes * JOBS_A_MINUTE * vehicles)
     limit = 4 * 60 * minutes
-    floor = Plan(FLOOR, VEHICLES, LOADS, jobs, seed, trouble)
+    floor = Plan(FLOOR, vehicles, LOADS * vehicles, jobs, seed, trouble)
     return dataclasses.replace(floor, pace=pace, limit=limit, stands=900.0)
 
 
@@ -106,6 +106,7 @@ class OverMachines(Served):
         self.wire = Road(drill.sockets, drill.records)
         self.fault: BaseException | None = None
         self.count = 0
+        self.now: Callable[[], float] = lambda: 0.0  # the seconds of the plant
         self.over = threading.Event()
         self.thread = threading.Thread(target=self.fail, daemon=True)
 
@@ -122,10 +123,13 @@ class OverMachines(Served):
         self.thread.start()
 
     def fail(self) -> None:
-        """Has one kind of fault after another happen."""
+        """Has one kind of fault after another happen, by the time of the plant."""
+        due = self.every
         try:
-            while not self.over.wait(self.every):
-                self.one(self.kinds[self.count % len(self.kinds)])
+            while not self.over.wait(1):
+                if self.now() >= due:
+                    due += self.every
+                    self.one(self.kinds[self.count % len(self.kinds)])
         except Exception as fault:  # the plant is told of it
             self.fault = fault
 
@@ -143,7 +147,8 @@ class OverMachines(Served):
         drill.stop_and_start()
         drill.note(kind, old, began, first - began)
         line = f'{kind}: {old.name} to {new.name} after {first - began:.1f} s'
-        print(f'{self.count}. {line}; {drill.judged()}', flush=True)
+        at = f'{self.now() / 60:.0f} minutes of the plant'
+        print(f'{self.count}. {line}; {at}; {drill.judged()}', flush=True)
 
     def supervise(self) -> None:
         if self.fault is not None:
@@ -179,10 +184,11 @@ class OverMachines(Served):
 def run(drill: Drill, folder: str, given: Any) -> bool:
     """Runs the plant. Whether all was right."""
     served = OverMachines(drill, folder, given.every, given.kinds or DAYS)
-    a_plan = plan(given.day, given.seed, given.pace)
+    a_plan = plan(given.day, given.vehicles, given.seed, given.pace)
     layout = FLOORS[a_plan.floor]().layout()
     plant = Plant(a_plan, served, maker('look', layout))
     plant.given = Messages(drill.records)
+    served.now = lambda: plant.clock.now
     try:
         day = plant.run()
     except Wrong as fault:

@@ -43,8 +43,8 @@ def words(text: str) -> argparse.ArgumentParser:
         'a simulated plant drives for about so many minutes, with faults of these kinds meanwhile'
     )
     add('--day', type=float, default=0.0, metavar='MINUTES', help=told)
-    told = 'seconds from one fault of a day to the next (default: 120)'
-    add('--every', type=float, default=120.0, metavar='SECONDS', help=told)
+    told = 'seconds of a day from one fault to the next (default: 600)'
+    add('--every', type=float, default=600.0, metavar='SECONDS', help=told)
     told = 'how many seconds of a day go by in a second at most (default: 1)'
     add('--pace', type=float, default=1.0, metavar='SECONDS', help=told)
     told = 'times calls and takeovers instead, with files of so many loads'
