@@ -199,6 +199,11 @@ class Machine:
         """Whether it runs."""
         return self.init is not None and self.init.poll() is None
 
+    def has_ended(self) -> bool:
+        """Whether it has ended by itself: a program in it has called reboot(2)."""
+        init = self.init
+        return init is not None and init.poll() is not None
+
     def cut(self) -> None:
         """Takes its cable out."""
         must('ip', '-n', self.switch, 'link', 'set', f'p{self.number}', 'down')

@@ -56,6 +56,9 @@ class Watchdog(threading.Thread):
     def look(self, machine: Machine) -> bool:
         """Takes what a machine has fed. Whether it is to be reset."""
         now, number = time.monotonic(), machine.number
+        if machine.has_ended():  # by sbd, which doesn't wait for the watchdog where it needn't
+            self.forget(number)
+            return True
         if not machine.is_up():
             self.forget(number)
             return False

@@ -94,14 +94,19 @@ class Machine:
     def __init__(self, folder: str) -> None:
         self.number, self.folder = 1, folder
         self.ended = threading.Event()
-        self.is_paused = self.was_reset = False
+        self.is_paused = self.was_reset = self.has_rebooted = False
 
     def is_up(self) -> bool:
         """Whether nobody has reset it."""
-        return not self.ended.is_set()
+        return not self.ended.is_set() and not self.has_rebooted
+
+    def has_ended(self) -> bool:
+        """Whether it has called reboot(2)."""
+        return self.has_rebooted
 
     def end(self) -> None:
         """Resets it."""
+        self.has_rebooted = False
         self.ended.set()
 
 
@@ -128,6 +133,13 @@ class Watchdogs(unittest.TestCase):
         os.write(self.pipe, b'x')
         self.assertTrue(self.machine.ended.wait(PATIENCE))
         until(lambda: self.machine.was_reset, 'it is said')
+
+    def test_rebooted(self) -> None:
+        """sbd has reset it itself."""
+        self.machine.has_rebooted = True
+        self.assertTrue(self.machine.ended.wait(PATIENCE))
+        until(lambda: self.machine.was_reset, 'it is said')
+        self.assertEqual(len(self.dog.resets), 1)
 
     def test_never_begun_paused_and_ended(self) -> None:
         """None of these is reset, however long it takes."""
