@@ -227,6 +227,32 @@ class Examples(unittest.TestCase):
             members = re.findall(r'^group \w+ (.*)$', file.read(), re.M)[0].split()
         self.assertEqual((members[0], members[-1]), ('desk', 'address'))
 
+    def test_drbd(self) -> None:
+        """What is configured besides for DRBD goes with cluster.crm: the file system is mounted in
+        the folder of the desk's file, and the group that it is for is that of the desk. Comments of
+        crm have no `--`."""
+        texts = {}
+        for name in ('cluster.crm', 'drbd.crm'):
+            with open(os.path.join(EXAMPLES, name), encoding='utf-8') as file:
+                texts[name] = file.read()
+            comments = [line for line in texts[name].splitlines() if line.startswith('#')]
+            self.assertEqual([line for line in comments if '--' in line], [])
+        (db,) = re.findall(r'\bdb=(\S+)', texts['cluster.crm'])
+        self.assertEqual(re.findall(r'\bdirectory=(\S+)', texts['drbd.crm']), [os.path.dirname(db)])
+        (group,) = re.findall(r'^group (\w+) ', texts['cluster.crm'], re.M)
+        self.assertIn(f'inf: {group} files', texts['drbd.crm'])
+
+    @unittest.skipIf(shutil.which('drbdadm') is None, 'drbd-utils is not installed')
+    def test_drbd_takes_its_file(self) -> None:
+        """drbdadm reads desk.res as it stands: what it prints of it has each option."""
+        path = os.path.join(EXAMPLES, 'desk.res')
+        line = ['drbdadm', '-c', path, 'dump']
+        done = subprocess.run(line, capture_output=True, text=True, check=False)
+        self.assertEqual(done.returncode, 0, done)
+        printed = {tuple(one.rstrip(';').split()) for one in done.stdout.splitlines()}
+        for wanted in (('quorum', 'majority'), ('protocol', 'C'), ('on-no-quorum', 'io-error')):
+            self.assertIn(wanted, printed)
+
     @unittest.skipIf(shutil.which('corosync') is None, 'corosync is not installed')
     def test_corosync(self) -> None:
         """Corosync takes the configuration."""

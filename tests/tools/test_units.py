@@ -45,6 +45,7 @@ OF_DEBIAN = {
     'nginx.service',
     'pacemaker.service',
     'nftables.service',
+    'sbd.service',
     'systemd-time-wait-sync.service',
 }
 
