@@ -82,19 +82,12 @@ class Messages(Given):
     def __init__(self, records: Records) -> None:
         super().__init__()
         self.records = records
-        self.updates: dict[tuple[str, str], tuple[int, str]] = {}  # by order, of the newest update
 
     def note(self, vehicle: str, message: Mapping[str, Any]) -> None:
         super().note(vehicle, message)
         data = json.dumps(message, sort_keys=True).encode()
         self.records.note_message(0, vehicle, 'order', message['headerId'], data)
-        update = int(message['orderUpdateId'])
-        content = json.dumps([message['nodes'], message['edges']], sort_keys=True)
-        of = vehicle, str(message['orderId'])
-        last, before = self.updates.get(of, (-1, ''))
-        if update < last or update == last and content != before:
-            self.records.back.append(f'{vehicle}: update {update} of {of[1]} after {last}')
-        self.updates[of] = update, content
+        self.records.note_order(vehicle, message)
 
 
 class OverMachines(Served):

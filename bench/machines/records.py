@@ -2,9 +2,10 @@
 stale."""
 from __future__ import annotations
 
+import json
 import threading
 import time
-from collections.abc import Iterable, Sequence
+from collections.abc import Iterable, Mapping, Sequence
 from dataclasses import dataclass, field
 from typing import Any
 
@@ -31,6 +32,7 @@ class Records:
     loads: list[str] = field(default_factory=list)  # whose registering was answered, in this order
     headers: dict[str, int] = field(default_factory=dict)  # by vehicle, of its last accepted state
     messages: dict[tuple[str, str], tuple[int, bytes]] = field(default_factory=dict)  # the newest
+    updates: dict[tuple[str, str], tuple[int, str]] = field(default_factory=dict)  # by order
     stale: list[str] = field(default_factory=list)
     lost: list[str] = field(default_factory=list)
     back: list[str] = field(default_factory=list)  # messages that went back, or changed
@@ -74,6 +76,18 @@ class Records:
                 self.back.append(f'm{machine}: {vehicle} {topic} {number} after {last}')
             elif number > last:
                 self.messages[vehicle, topic] = number, body
+
+    def note_order(self, vehicle: str, message: Mapping[str, Any]) -> None:
+        """Notes what a vehicle is given of an order: its updates never go back, and one that comes
+        again has the same nodes and edges."""
+        order, update = str(message['orderId']), int(message['orderUpdateId'])
+        content = json.dumps([message['nodes'], message['edges']], sort_keys=True)
+        with self.lock:
+            last, before = self.updates.get((vehicle, order), (-1, content))
+            if update < last or update == last and content != before:
+                self.back.append(f'{vehicle}: update {update} of {order} after {last}')
+            else:
+                self.updates[vehicle, order] = update, content
 
 
 def late(answers: Iterable[Answered], terms: Sequence[Term]) -> list[Answered]:

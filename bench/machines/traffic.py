@@ -125,6 +125,8 @@ class Broker:
         vehicle, _, kind = topic.removeprefix(FRONT + '/').rpartition('/')
         message = json.loads(data)
         self.plant.records.note_message(self.machine, vehicle, kind, message['headerId'], data)
+        if kind == 'order':
+            self.plant.records.note_order(vehicle, message)
         self.plant.mail[vehicle, kind] = data
         return True
 

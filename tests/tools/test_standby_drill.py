@@ -68,6 +68,24 @@ class Judged(unittest.TestCase):
             kept.note_message(1, 'KIT/0001', 'order', number, body)
         self.assertEqual(len(kept.back), 2)
 
+    def test_orders(self) -> None:
+        """An update that goes back, and one that comes again with other nodes, are told; a new
+        order begins anew."""
+        kept = records.Records()
+        rows = (
+            ('A', 0, 'N1'),
+            ('A', 1, 'N2'),
+            ('A', 1, 'N2'),
+            ('B', 0, 'N3'),
+            ('A', 1, 'N3'),
+            ('A', 0, 'N1'),
+        )
+        for order, update, node in rows:
+            message = {'orderId': order, 'orderUpdateId': update, 'nodes': [node], 'edges': []}
+            kept.note_order('KIT/0001', message)
+        self.assertEqual(len(kept.back), 2)
+        self.assertIn('update 0 of A after 1', kept.back[1])
+
 
 class FromTheExamples(unittest.TestCase):
     def test_the_cluster_is_that_of_the_examples(self) -> None:
