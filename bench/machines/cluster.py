@@ -29,6 +29,7 @@ PROGRAMS, PLACE = '/usr/lib/nulvrader/', '/srv/nulvrader/'
 NETWORKS = ('10.78.0', '10.0.0')  # the second one between the machines, and that of the plant
 ENV = ('env', '-i', 'PATH=/usr/sbin:/usr/bin:/sbin:/bin', 'HOME=/run/home', 'LANG=C.UTF-8')
 GROUP = 'warehouse'
+VOLUME = '/srv/desk'
 WITHOUT = 3  # the machine that has a copy and a vote, and no desk
 USER, CLIENTS = 59001, 59002
 # Folders of a machine in the place of those that the cluster writes to.
@@ -143,8 +144,7 @@ class Cluster:
         for path in OWN:
             owner = ('-o', 'hacluster', '-g', 'haclient', '-m', '770')
             machine.run('install', '-d', *owner, path)
-        machine.run('mount', '--bind', os.path.join(machine.folder, 'mount'), '/srv/desk')
-        machine.run('chown', 'desk:desk', '/srv/desk')
+        self.mount(machine)
         folder = Path(machine.folder, 'corosync')
         (folder / 'corosync.conf').write_text(example('corosync.conf'), encoding='utf-8')
         (folder / 'authkey').unlink(missing_ok=True)
@@ -156,6 +156,16 @@ class Cluster:
             if self.run(machine, 'corosync-quorumtool', '-s').stdout:
                 break
         self.launch(machine, 'pacemakerd')
+
+    def mount(self, machine: Machine) -> None:
+        """Has a machine see its volume where the configuration has it, as the service that mounts
+        it in a plant: it tries again for as long as it takes."""
+        for _ in until():
+            machine.run('mount', '--bind', os.path.join(machine.folder, 'mount'), VOLUME)
+            if f' {VOLUME} fuse.glusterfs ' in machine.run('cat', '/proc/mounts').stdout:
+                if not machine.run('chown', 'desk:desk', VOLUME).returncode:
+                    return
+        raise NoMachines(f'{machine.name} does not see the volume')
 
     def launch(self, machine: Machine, *words: str) -> None:
         """Starts a program in a machine, with the settings of sbd."""
