@@ -195,6 +195,8 @@ class ClusterWords(unittest.TestCase):
             ({'no-quorum-policy': 'ignore'}, 1),
             ({'stonith-watchdog-timeout': '15s'}, 1),
             ({'stonith-watchdog-timeout': '15s', 'have-watchdog': 'true'}, 0),
+            ({'stonith-watchdog-timeout': '10', 'have-watchdog': 'true'}, 1),
+            ({'maintenance-mode': 'true'}, 1),
         )
         for pairs, wrong in cases:
             text = ''.join(
@@ -204,6 +206,20 @@ class ClusterWords(unittest.TestCase):
             self.assertEqual(len(cluster.wrong_properties(found)), wrong, pairs)
         with self.assertRaises(Unknown):
             cluster.read_properties('')
+
+    def test_times(self) -> None:
+        """Times of the cluster, and of sbd: its own where nothing is said."""
+        for text, wanted in (('15', 15), ('15s', 15), ('900ms', 0.9), ('2min', 120), ('1h', 3600)):
+            self.assertEqual(cluster.seconds_of(text), wanted)
+        self.assertEqual(cluster.seconds_of('-1'), 0)
+        self.assertEqual(cluster.sbd_timeout(os.path.join(EXAMPLES, 'sbd')), 5)
+        self.assertEqual(cluster.sbd_timeout('/no/such/file'), cluster.SBD_TIMEOUT)
+        with open(os.path.join(EXAMPLES, 'cluster.crm'), encoding='utf-8') as file:
+            (wait,) = re.findall(r'\bstonith-watchdog-timeout=(\S+)', file.read())
+        wrong = cluster.wrong_properties(
+            {'stonith-watchdog-timeout': wait, 'have-watchdog': 'true'}
+        )
+        self.assertEqual(wrong, [])
 
 
 class Examples(unittest.TestCase):

@@ -182,7 +182,9 @@ def check_cluster(found: CheckResult) -> None:
         found.wrong.append(str(fault))
     try:
         text = cluster.output_of('cibadmin', '--query', '--scope', 'crm_config')
-        found.wrong += cluster.wrong_properties(cluster.read_properties(text))
+        found.wrong += cluster.wrong_properties(
+            cluster.read_properties(text), cluster.sbd_timeout()
+        )
     except Unknown as fault:
         found.wrong.append(str(fault))
     if not cluster.has_watchdog():

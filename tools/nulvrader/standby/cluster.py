@@ -8,11 +8,14 @@ import subprocess
 import xml.etree.ElementTree as ElementTree
 from dataclasses import dataclass
 
+from ..common.plain_files import NotPlain, opened
 from .gluster import LONGEST, SECONDS, Unknown
 
 WATCHDOG = '/dev/watchdog'
+SBD, SBD_TIMEOUT = '/etc/default/sbd', 5.0  # the settings of sbd, and its time where they say none
+UNITS = {'': 1.0, 's': 1.0, 'sec': 1.0, 'ms': 0.001, 'msec': 0.001, 'm': 60.0, 'min': 60.0}
+UNITS |= {'h': 3600.0, 'hr': 3600.0}
 TIME_ERROR = 5  # adjtimex(2): the clock is not synchronized
-FENCING = ('stonith-enabled', 'stonith-watchdog-timeout', 'no-quorum-policy')
 
 
 def output_of(*words: str) -> str:
@@ -55,9 +58,29 @@ def read_properties(text: str) -> dict[str, str]:
     return {one.get('name') or '': one.get('value') or '' for one in tree.iter('nvpair')}
 
 
-def wrong_properties(found: dict[str, str]) -> list[str]:
-    """Returns what is wrong with the properties of the cluster."""
+def seconds_of(text: str) -> float:
+    """Reads a time of the cluster, as `15s`, in seconds; 0 where it is none."""
+    match = re.fullmatch('([0-9]{1,9})([a-z]*)', text.strip().lower(), re.A)
+    return int(match[1]) * UNITS.get(match[2], 0.0) if match else 0.0
+
+
+def sbd_timeout(path: str = SBD) -> float:
+    """Returns after how many seconds without food the watchdog resets this machine."""
+    try:
+        with opened(path) as file:
+            text = file.read(LONGEST).decode(errors='replace')
+    except (OSError, NotPlain):
+        text = ''
+    found = re.findall('^SBD_WATCHDOG_TIMEOUT="?([0-9]{1,6})', text, re.M | re.A)
+    return float(found[-1]) if found else SBD_TIMEOUT
+
+
+def wrong_properties(found: dict[str, str], sbd: float = SBD_TIMEOUT) -> list[str]:
+    """Returns what is wrong with the properties of the cluster; `sbd` is the time after which the
+    watchdog resets a machine."""
     wrong = []
+    if found.get('maintenance-mode', 'false').lower() in ('true', 'yes', 'on', '1'):
+        wrong.append('the cluster is in maintenance: nothing moves the desk')
     if found.get('stonith-enabled', 'true').lower() not in ('true', 'yes', 'on', '1'):
         wrong.append(
             'fencing is off: a machine that hangs keeps the lock. Set stonith-enabled=true'
@@ -67,6 +90,12 @@ def wrong_properties(found: dict[str, str]) -> list[str]:
     watchdog = found.get('have-watchdog', 'false') == 'true'
     if found.get('stonith-watchdog-timeout', '0') not in ('0', '') and not watchdog:
         wrong.append('stonith-watchdog-timeout is set, and no sbd with a watchdog runs here')
+    wait = seconds_of(found.get('stonith-watchdog-timeout', '0'))
+    if 0 < wait <= 2 * sbd:
+        wrong.append(
+            f'stonith-watchdog-timeout is {wait:g} s, and has to be more than twice the '
+            f'{sbd:g} s of SBD_WATCHDOG_TIMEOUT: a machine is taken for reset before it is'
+        )
     return wrong
 
 
