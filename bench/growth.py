@@ -9,6 +9,7 @@ import threading
 import time
 
 DAY = 86_400
+MINUTE = 60.0
 
 
 def memory_of(number: int) -> float:
@@ -60,12 +61,16 @@ class Growth:
         part = max(1, len(self.seen) // 4)
         quarters = [self.seen[at : at + part] for at in range(0, 4 * part, part)]
         means = [statistics.mean(memory for _, memory, _ in one) for one in quarters if one]
-        span = max(self.seen[-1][0] - self.seen[0][0], 0.001)
+        begun = self.seen[0][0]
+        span = max(self.seen[-1][0] - begun, 0.001)
+        early = [memory for at, memory, _ in self.seen if at <= begun + MINUTE]
         grown = (self.seen[-1][2] - self.seen[0][2]) / span * DAY / 1e6
         after = rows_by_table(self.path)
         rows = {name: (after[name] - count) / span for name, count in self.before.items()}
         most = sorted(rows.items(), key=lambda pair: -pair[1])[:6]
         return [
+            ('its memory after a minute, MB', f'{early[-1]:.1f}'),
+            ('its memory at the end, MB', f'{self.seen[-1][1]:.1f}'),
             ('its memory in each quarter, MB', ', '.join(f'{one:.1f}' for one in means)),
             ('by how much board.db grows in a day, MB', f'{grown:,.0f}'),
             ('rows a second', ', '.join(f'{name} {count:.1f}' for name, count in most)),

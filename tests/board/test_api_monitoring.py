@@ -19,8 +19,9 @@ from tests.support.programs import ROOT
 
 from nulvrader.board.api.health import BACK, LOW, SLOW, STALE, Facts, reasons_of
 from nulvrader.board.api.meters import Histogram
-from nulvrader.board.api.watch import ALARMS, STATES, state_of
+from nulvrader.board.api.watch import ALARMS
 from nulvrader.board.messages import table
+from nulvrader.board.uses import STATES, state_of
 
 PROMETHEUS = os.path.join(ROOT, 'examples', 'prometheus')
 DASHBOARD = os.path.join(ROOT, 'examples', 'grafana', 'nulvrader.json')

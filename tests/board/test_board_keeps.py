@@ -1,6 +1,7 @@
 """What the board keeps over the real program: the record, its restarts, and what it removes."""
 from __future__ import annotations
 
+import json
 import os
 import re
 import signal
@@ -9,6 +10,7 @@ import time
 import unittest
 
 from tests.support.board_run import ONE, TOOLS, TWO, Watching, until
+from nulvrader.board.figures import HOUR
 from nulvrader.board.record_tables import OLD
 
 PICKED = ('O1.0', 'FINISHED')
@@ -68,13 +70,13 @@ class Keeps(Watching):
         )
 
     def test_the_questions_of_the_page(self) -> None:
-        """docs/BOARD_API.md has five, and board.db answers each: here after a job that was waited
-        for and done."""
+        """docs/BOARD_API.md has two, and board.db answers each, as the page of a day's figures
+        answers its own: here after a job that was waited for and done."""
         with open(os.path.join(TOOLS, '..', 'docs', 'BOARD_API.md')) as file:
             section = file.read().split('## Questions to board.db')[1]
         text = section.split('```sql')[1].split('```')[0]
         questions = re.findall(r'-- [^\n]*\n([^;]*);', text)
-        self.assertEqual(len(questions), 5)
+        self.assertEqual(len(questions), 2)
         begun = time.monotonic()
         self.plant.vehicle(TWO, 'N2')
         self.desk.add_job('J1', 'L1', 'B')
@@ -91,16 +93,22 @@ class Keeps(Watching):
         self.assertTrue(self.board.do('leave', load='L2')['done'])
         self.rows("SELECT phase FROM jobs WHERE job = 'J1'", [('done',)])
         self.rows("SELECT place FROM loads WHERE load = 'L1'", [('station B',)])
-        minutes = (time.monotonic() - begun) / 60
-        where, took, waited, idle, commands = [self.board.rows(question) for question in questions]
+        seconds = time.monotonic() - begun
+        where, commands = [self.board.rows(question) for question in questions]
         way = [('station A', 'vehicle KIT/0001'), ('vehicle KIT/0001', 'station B')]
         self.assertEqual([row[1:] for row in where], way)
-        self.assertEqual([row[1] for row in took], [1])
-        self.assertTrue(0 <= took[0][2] <= minutes + 0.1, (took, minutes))
-        self.assertEqual([row[:3] for row in waited], [('node', 'N2', 1)])
-        self.assertTrue(0 <= waited[0][3] <= 60 * minutes + 1, (waited, minutes))
-        self.assertEqual({row[0] for row in idle}, {'KIT/0001', 'KIT/0002'})
         self.assertEqual([row[1:3] for row in commands], [('', 'leave')])
+        now = round(1000 * time.time())
+        told = json.loads(self.board.ask('GET', f'/day?begin={now - HOUR}&end={now + HOUR}')[2])
+        self.assertEqual(told['hours'], [1, 0])
+        self.assertTrue(0 <= told['took'] <= seconds + 1, (told, seconds))
+        (place,) = told['places']
+        self.assertEqual((place['kind'], place['name'], place['count']), ('node', 'N2', 1))
+        self.assertTrue(0 <= place['seconds'] <= seconds + 1, (place, seconds))
+        self.assertEqual([cause['state'] for cause in told['causes']], ['free'])
+        free = {row['vehicle']: row['seconds']['free'] for row in told['vehicles']}
+        self.assertEqual(set(free), {'KIT/0001', 'KIT/0002'})
+        self.assertTrue(all(0 < one <= seconds + 60 for one in free.values()), free)
 
     def test_a_board_that_is_killed_at_many_moments(self) -> None:
         """Whenever it is killed its file is whole, and what it says of a load fits together: each

@@ -98,7 +98,8 @@ class Table(unittest.TestCase):
     def test_names_that_are_said(self) -> None:
         """Each name that a script, the page or the board says is a row of the table."""
         seen, rows = 0, table()
-        texts = {**scripts(), 'index.html': text_of(os.path.join(FOLDER, 'page', 'index.html'))}
+        pages = glob.glob(os.path.join(FOLDER, 'page', '*.html'))
+        texts = {**scripts(), **{os.path.basename(path): text_of(path) for path in pages}}
         for path in glob.glob(os.path.join(FOLDER, '*.py')):
             texts[os.path.basename(path)] = text_of(path)
         for file, text in texts.items():

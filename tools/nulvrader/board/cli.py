@@ -11,6 +11,7 @@ import threading
 from ..common import entry
 from ..desk import arguments
 from ..desk.client import Desk
+from ..drawing.floor_plan import BadPlan, FloorPlan, read_plan
 from .alarms import Alarms
 from .api.routes import Api
 from .api.watch import Watch
@@ -29,6 +30,7 @@ from .same_desk import Same
 from .server import Server, listening_at, listening_in
 from .page_state import Shown
 from .stock import Stores
+from .uses import Uses
 from .words_keeper import Keeper
 from .words_socket import Heard, hearing_in
 
@@ -58,6 +60,8 @@ def words(text: str) -> argparse.ArgumentParser:
     add('--silent', type=arguments.seconds, default=10.0, metavar='SECONDS', help=silent)
     late = 'a job that waits for longer is an alarm (default: 30)'
     add('--late', type=float, default=30.0, metavar='MINUTES', help=late)
+    positions = 'where nodes are, in metres, and a picture of the hall (docs/BOARD.md, The map)'
+    add('--positions', metavar='FILE', help=positions)
     add('--read-only', action='store_true', help='no commands')
     name = (
         'a host name that a proxy uses for it, as desk.example or desk.example:8443; may be'
@@ -91,6 +95,11 @@ def heard_of(said: argparse.Namespace) -> Heard | None:
         return Heard(hearing_in(said.words))
     except OSError as fault:
         raise Unready(f'{said.words}: {fault}') from None
+
+
+def plan_of(said: argparse.Namespace) -> FloorPlan | None:
+    """Where the nodes are; None where no file says so."""
+    return None if said.positions is None else read_plan(said.positions)
 
 
 def signalled() -> threading.Event:
@@ -132,17 +141,18 @@ def serve(said: argparse.Namespace) -> bool:
         desks = WatchedDesk(meter, **options), WatchedDesk(meter, **options)
         record = Record(said.db)
         news = News(Shown(), record)
-        drawn = ShownLayout(news)
+        plan = plan_of(said)
+        drawn = ShownLayout(news, plan)
         heard = heard_of(said)
         follow = functools.partial(followers_of, news, said.silent, said.late)
         asker = Asker(desks[0], news, drawn, follow, said.days, heard)
         commands = commands_of(said, desks[1], drawn, news, asker)
         api = Api(record, Watch(said.db, news.shown, asker, meter))
-    except (NoRecord, OSError, ValueError, sqlite3.Error) as fault:
+    except (NoRecord, BadPlan, OSError, ValueError, sqlite3.Error) as fault:
         raise Unready(str(fault)) from None
     port = int(listener.getsockname()[1]) if said.socket is None else None
     guard = Guard(port, said.name)
-    board = Board(news.shown, record, asker, guard, commands, said.user_header, api)
+    board = Board(news.shown, record, asker, guard, commands, said.user_header, api, plan)
     server = Server(listener, Pages(board))
     over = signalled()
     api.feed.begin()
@@ -167,8 +177,9 @@ def followers_of(news: News, silent: float, late: float) -> Followers:
     """Those that take the answers, by what the record has."""
     stores, fleet = Stores(news), Fleet(news, int(silent * 1000))
     keeper, alarms = Keeper(news), Alarms(news, int(late * 60_000))
+    uses = Uses(news)
     news.commit()
-    return Followers(stores, fleet, Same(news.record), keeper, alarms)
+    return Followers(stores, fleet, Same(news.record), keeper, alarms, uses)
 
 
 def run(line: list[str], text: str) -> int:

@@ -15,6 +15,7 @@ from .messages import Line, told, words_of
 from .news import News, OrderEnd
 from .progress import Thing, Way
 from .record import moment_of
+from .uses import last_look
 from .waits import Wait, circles_of, wait_of
 
 
@@ -58,7 +59,7 @@ class Fleet:
         )
         # the orders that were open when the board was stopped
         self.earlier = {str(vehicle): str(order) for vehicle, order in rows}
-        news.record.end_waits(news.at)
+        news.record.end_waits(last_look(news.record) or 0)
         self.placed: set[int | None] = set()  # the commands that have ended an order
         # whether vehicles were looked at, in this run or an earlier one
         known = news.record.rows('SELECT 1 FROM vehicles LIMIT 1')

@@ -11,7 +11,8 @@ from dataclasses import dataclass
 from typing import Any
 
 from ..common.text import shown
-from . import entries
+from ..drawing.floor_plan import FloorPlan
+from . import entries, figures
 from .answers import JSON, Reply, refused, told
 from .api.routes import Api
 from .api.streams import Stream
@@ -51,6 +52,7 @@ class Board:
     commands: Commands | None
     user_header: str | None
     api: Api
+    plan: FloorPlan | None = None
 
 
 class Pages:
@@ -64,6 +66,9 @@ class Pages:
         names = sorted(name for name in os.listdir(FOLDER) if os.path.splitext(name)[1] in TYPES)
         self.files = {f'/{name}': self._file(name) for name in names}
         page = self.files.pop('/index.html')
+        if board.plan is not None and board.plan.picture is not None:
+            picture = board.plan.picture
+            self.files['/picture'] = Reply(200, picture.kind, picture.data)
         tokens = {True: board.guard.token.encode(), False: b''}
         self.fronts = {
             may: Reply(200, page.kind, page.data.replace(b'{{token}}', token))
@@ -106,6 +111,8 @@ class Pages:
                 return self.fronts[self._may_command(head)]
             if path == '/history':
                 return await self.looks.run(functools.partial(self._history, asked.get('load', '')))
+            if path == '/day':
+                return await self.searches.run(functools.partial(self._day, asked))
             if path in ('/record', '/record.csv'):
                 return await self.searches.run(functools.partial(self._entries, path, asked))
             return self._page(path, asked)
@@ -142,6 +149,15 @@ class Pages:
                 return told(entries.page_of(self.board.record.path, asked))
             return Reply(200, CSV, entries.csv_of(self.board.record.path, asked))
         except entries.BadQuestion as wrong:
+            return refused(400, wrong.line)
+        except sqlite3.Error as fault:
+            return refused(503, Line('record.unread', {'fault': str(fault)}))
+
+    def _day(self, asked: dict[str, str]) -> Reply:
+        """The figures of a day."""
+        try:
+            return told(figures.figures_of(self.board.record.path, asked))
+        except (figures.BadDay, entries.BadQuestion) as wrong:
             return refused(400, wrong.line)
         except sqlite3.Error as fault:
             return refused(503, Line('record.unread', {'fault': str(fault)}))

@@ -27,6 +27,7 @@ from .messages import Line, told
 from .news import News
 from .same_desk import OtherDesk, Same
 from .stock import Stores
+from .uses import Uses
 from .progress import way_of
 from .words_keeper import Keeper
 from .words_socket import Heard
@@ -72,13 +73,15 @@ class TimedQuestion:
 @dataclass
 class Followers:
     """Those that take the answers, and what tells whether these are of the same desk; `keeper`
-    takes what vehicles say, where that is heard, and `alarms` looks for what needs a person."""
+    takes what vehicles say, where that is heard, `alarms` looks for what needs a person, and
+    `uses` keeps what vehicles do."""
 
     stores: Stores
     fleet: Fleet
     same: Same
     keeper: Keeper | None = None
     alarms: Alarms | None = None
+    uses: Uses | None = None
 
 
 class Ended(Exception):
@@ -127,6 +130,7 @@ class Asker(threading.Thread):
         followers = self.follow()
         self.stores, self.fleet, self.same = followers.stores, followers.fleet, followers.same
         self.keeper, self.alarms = followers.keeper, followers.alarms
+        self.uses = followers.uses
 
     def hurry(self) -> None:
         """A command was carried out: all that may have changed is asked for at once."""
@@ -174,8 +178,10 @@ class Asker(threading.Thread):
             self.news.commit()
 
     def look_for_alarms(self, alarms: Alarms) -> None:
-        """Looks for what needs a person, where that is due."""
+        """Looks for what needs a person and at what vehicles do, where that is due."""
         if alarms.turn(self.stores, self.fleet, self.keeper, self.drawn.layout):
+            if self.uses is not None:
+                self.uses.turn(now())
             self.news.commit()
 
     def _wait_for_the_record(self, fault: str) -> None:

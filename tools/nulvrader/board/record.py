@@ -50,6 +50,11 @@ def moment_of(text: str) -> int:
     return round(moment.timestamp() * 1000)
 
 
+def seconds_between(begin: str, end: str) -> float:
+    """How many seconds lie between two times of the record."""
+    return max(0, moment_of(end) - moment_of(begin)) / 1000
+
+
 def event_row(at: int, event: Event) -> list[Any]:
     """The values of an entry by `COLUMNS`."""
     event = event.cut()
@@ -266,7 +271,7 @@ class Record:
     def end_waits(self, at: int) -> None:
         """Marks each wait that is still open as ended at this moment, in the table `waits` alone.
         It is called at a start: whoever still waits then is seen again, and gets a new row."""
-        self._put('UPDATE waits SET ended = ? WHERE ended IS NULL', (text_of(at),))
+        self._put('UPDATE waits SET ended = max(began, ?) WHERE ended IS NULL', (text_of(at),))
 
     def wait(
         self, at: int, vehicle: str, thing: tuple[str, str] | None, holder: str | None
@@ -289,6 +294,10 @@ class Record:
     def desk(self, at: int, fault: str | None) -> None:
         """The desk answers from now on, or where there is a fault it doesn't."""
         self._row('desk_times', {'at': text_of(at), 'answers': int(fault is None), 'fault': fault})
+
+    def use(self, at: int, vehicle: str, state: str) -> None:
+        """What a vehicle does from now on."""
+        self._row('vehicle_uses', {'at': text_of(at), 'vehicle': vehicle, 'state': state})
 
     def event(self, at: int, event: Event) -> int:
         """Something happened. The number of its entry, which no other entry ever has."""

@@ -51,6 +51,8 @@ CREATE TABLE IF NOT EXISTS vehicle_words (vehicle TEXT NOT NULL PRIMARY KEY, at 
   connection TEXT, errors TEXT NOT NULL, failed TEXT NOT NULL, since TEXT NOT NULL) STRICT;
 CREATE TABLE IF NOT EXISTS vehicle_batteries (n INTEGER PRIMARY KEY, at TEXT NOT NULL,
   vehicle TEXT NOT NULL, charge REAL, charging INT) STRICT;
+CREATE TABLE IF NOT EXISTS vehicle_uses (n INTEGER PRIMARY KEY, at TEXT NOT NULL,
+  vehicle TEXT NOT NULL, state TEXT NOT NULL) STRICT;
 CREATE TABLE IF NOT EXISTS alarms (n INTEGER PRIMARY KEY AUTOINCREMENT, key TEXT NOT NULL,
   kind TEXT NOT NULL, level TEXT NOT NULL, vehicle TEXT, load TEXT, job TEXT, station TEXT,
   words TEXT NOT NULL, todo TEXT NOT NULL, more TEXT NOT NULL, began TEXT NOT NULL, ended TEXT,
@@ -68,9 +70,12 @@ CREATE INDEX IF NOT EXISTS events_load ON events (load, n);
 CREATE INDEX IF NOT EXISTS events_job ON events (job, n);
 CREATE INDEX IF NOT EXISTS vehicle_batteries_vehicle ON vehicle_batteries (vehicle, at);
 CREATE INDEX IF NOT EXISTS vehicle_batteries_at ON vehicle_batteries (at);
+CREATE INDEX IF NOT EXISTS vehicle_uses_vehicle ON vehicle_uses (vehicle, at);
+CREATE INDEX IF NOT EXISTS vehicle_uses_at ON vehicle_uses (at);
 CREATE INDEX IF NOT EXISTS alarms_ended ON alarms (ended);
 CREATE INDEX IF NOT EXISTS waits_began ON waits (began);
 CREATE INDEX IF NOT EXISTS jobs_ended ON jobs (ended);
+CREATE INDEX IF NOT EXISTS jobs_added ON jobs (added);
 """
 # By version what moves a file of the one before: to 2, as a command stood once it was answered;
 # to 3, as an entry had no cause, and a job no outcome.
@@ -111,6 +116,7 @@ OLD = {
     'commands': 'at < :before',
     'events': 'at < :before',
     'vehicle_batteries': 'at < :before',
+    'vehicle_uses': 'at < :before',
     'alarms': 'ended < :before',
     'jobs': 'ended < :before',
 }
@@ -124,6 +130,7 @@ MOST = {
     'commands': 1_000_000,
     'events': 3_000_000,  # of some 2 KB at most
     'vehicle_batteries': 1_000_000,
+    'vehicle_uses': 10_000_000,
     'alarms': 1_000_000,
 }
 PORTION = 2_000  # rows of a table that are removed at once, so that nobody waits for it

@@ -5,17 +5,21 @@ from typing import Any
 
 from ..common.layouts import Layout, read_layout
 from ..common.names import natural
+from ..drawing.floor_plan import FloorPlan
 from ..drawing.positions import Point, positions
+from .journal import log
+from .messages import Line
 from .news import News
 
 NONE = Layout((), {}, {})
 
 
 class ShownLayout:
-    """The layout on the page; it has nothing in it until the desk has told one."""
+    """The layout on the page, which has nothing in it until the desk has told one. `plan` says where its nodes
+    truly are, if that is known."""
 
-    def __init__(self, news: News):
-        self.news = news
+    def __init__(self, news: News, plan: FloorPlan | None = None):
+        self.news, self.plan = news, plan
         self.layout = NONE
 
     def show(self) -> None:
@@ -28,14 +32,42 @@ class ShownLayout:
         """Takes the layout that the desk has answered, None where it has none yet. A layout that
         differs from the one before is drawn anew, kept in the record and shown."""
         if layout is not None and layout != self.layout:
-            places = positions(layout)
+            places = {} if self._fitting(layout) else positions(layout)
             text = layout.csv().decode().removesuffix('\n')  # a file may be a byte shorter
             self.news.record.keep_layout(text, places)
             self._put(layout, places)
 
+    def _fitting(self, layout: Layout) -> FloorPlan | None:
+        """The plan, if it has a place for each node. Else the page says which it lacks."""
+        if self.plan is None:
+            return None
+        missing = self.plan.missing(layout)
+        if not missing:
+            self.news.shown.put('fault', 'plan', None)
+            return self.plan
+        line = Line('plan.lacks', {'path': self.plan.path, 'nodes': missing})
+        log(line.words())
+        told = {'words': line.words(), 'says': [line.told()]}
+        self.news.shown.put('fault', 'plan', told)
+        return None
+
     def _put(self, layout: Layout, places: dict[str, Point]) -> None:
+        """Shows a layout. `places` are those that the record has, where no plan has them."""
         self.layout = layout
-        self.news.shown.put('layout', '', drawn(layout, places))
+        plan = self._fitting(layout)
+        if plan is not None:
+            told = {**drawn(layout, plan.places(layout)), **drawn_plan(layout, plan)}
+        else:
+            is_whole = places.keys() >= set(layout.nodes)
+            told = drawn(layout, places if is_whole else positions(layout))
+        self.news.shown.put('layout', '', told)
+
+
+def drawn_plan(layout: Layout, plan: FloorPlan) -> dict[str, Any]:
+    """What the page draws of a plan: how long a metre is, and where the picture lies."""
+    box = plan.picture_box(layout)
+    picture = None if box is None else [round(number, 1) for number in box]
+    return {'metre': round(plan.unit(layout), 4), 'picture': picture}
 
 
 def drawn(layout: Layout, places: dict[str, Point]) -> dict[str, Any]:

@@ -9,8 +9,9 @@ from dataclasses import dataclass
 from typing import Generic, TypeVar
 from xml.sax.saxutils import escape, quoteattr
 
-from ..common.layouts import Edge
+from ..common.layouts import Edge, Layout
 from ..common.names import natural
+from .floor_plan import FloorPlan
 from .positions import LENGTH, Point, positions
 from ..common.text import shown
 from .warehouse import Warehouse
@@ -262,17 +263,33 @@ def frame(left: float, top: float, width: float, height: float) -> str:
     )
 
 
-def drawing(warehouse: Warehouse) -> str:
-    """Returns the picture of a warehouse, an SVG. The same warehouse gives the same picture."""
-    layout, at = warehouse.layout, positions(warehouse.layout)
+def hall_drawn(plan: FloorPlan | None, layout: Layout) -> tuple[list[Box], list[str]]:
+    """Returns the box of the picture of the hall and the picture itself, if the plan has one."""
+    box = None if plan is None else plan.picture_box(layout)
+    if plan is None or plan.picture is None or box is None:
+        return [], []
+    left, top, width, height = box
+    image = (
+        f'<image x="{left:.1f}" y="{top:.1f}" width="{width:.1f}" height="{height:.1f}" '
+        f'preserveAspectRatio="none" opacity="0.55" href="{plan.picture.link()}"/>'
+    )
+    return [(left, top, left + width, top + height)], [image]
+
+
+def drawing(warehouse: Warehouse, plan: FloorPlan | None = None) -> str:
+    """Returns the picture of a warehouse, an SVG: with a plan true to scale. The same warehouse
+    gives the same picture. Raises `BadPlan` where the plan has no place for a node."""
+    layout = warehouse.layout
+    at = positions(layout) if plan is None else plan.places(layout)
+    hall, images = hall_drawn(plan, layout)
     labels = labels_of(warehouse)
     boxes = boxes_of(labels, at, layout.edges.values())
-    left, top, right, bottom = bounds_of(boxes, at)
+    left, top, right, bottom = bounds_of([*boxes, *hall], at)
     places = warehouse.loads.items()
     checking = sorted((load for load, place in places if place == 'checking'), key=natural)
     foot = 'checking place: ' + (', '.join(checking) or 'no loads')
     right = max(right, left + 40 + len(foot) * LETTER)
-    out = [frame(left, top, right - left, bottom - top + LINE_HEIGHT + 12)]
+    out = [frame(left, top, right - left, bottom - top + LINE_HEIGHT + 12), *images]
     colours = {vehicle: colour_of(number) for number, vehicle in enumerate(warehouse.vehicles)}
     held = {thing: colours.get(vehicle) for thing, vehicle in warehouse.holds.items()}
     out += [edge_drawn(edge, at, held.get('edge ' + name)) for name, edge in layout.edges.items()]

@@ -11,7 +11,8 @@ from collections.abc import Callable
 from typing import Any, Protocol
 
 from ..page_state import Shown
-from ..record import moment_of
+from ..record import moment_of, seconds_between
+from ..uses import STATES, state_of
 from .feed import Feed
 from .health import Facts, Health, reasons_of
 from .meters import Counter, Family, Histogram, Labels, gauge, sample
@@ -25,7 +26,6 @@ ALARMS = (
     *('aboard', 'action', 'battery', 'circle', 'shut', 'blocked', 'late', 'full'),
 )
 TIMES = (5, 15, 30, 60, 120, 300, 600, 1200, 1800, 3600, 7200)
-STATES = ('free', 'busy', 'waiting', 'paused', 'not_ready', 'astray', 'silent')
 PAGE = 1000  # events that are read at once
 
 
@@ -33,26 +33,6 @@ class Asks(Protocol):
     """Who asks the desk: `asking` is since when it owes an answer."""
 
     asking: int | None
-
-
-def state_of(vehicle: dict[str, Any], waits: bool) -> str:
-    """Returns the one of `STATES` in which a vehicle is, the worst one."""
-    if vehicle['silent'] is not None:
-        return 'silent'
-    if vehicle['astray']:
-        return 'astray'
-    if not vehicle['ready']:
-        return 'not_ready'
-    if vehicle['paused']:
-        return 'paused'
-    if vehicle['order_name'] is None:
-        return 'free'
-    return 'waiting' if waits else 'busy'
-
-
-def seconds_between(begin: str, end: str) -> float:
-    """Returns how many seconds lie between two times of the record."""
-    return max(0, moment_of(end) - moment_of(begin)) / 1000
 
 
 class Watch:

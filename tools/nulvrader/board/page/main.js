@@ -219,7 +219,7 @@ function takeLayout(layout) {
     return;
   }
   view.layout = layout;
-  plan = new Plan(byId('plan'), layout, view.toggle);
+  plan = new Plan(byId('plan'), layout, view.toggle, byId('ruler'));
 }
 
 let askedOf = ''; // the run of the board that was asked whether commands may be given

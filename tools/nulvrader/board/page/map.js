@@ -4,18 +4,29 @@
 import { Camera } from './camera.js';
 import { keyed, set, svg, text } from './dom.js';
 import { colourOf, statesOf } from './looks.js';
-import { say } from './messages.js';
+import { number, say } from './messages.js';
 import { MOST_SLOTS, RADIUS, SLOT, areFew, boundsOf, edgesOf, growthOf, namesOf, stationsOf } from './places.js';
 import { shortName } from './words.js';
 
 const FAR = 0.6; // pixels a unit, below which nodes have no names, and stations no numbers
 const FARTHEST = 0.28; // below which stations have no names and no places, where they are many
+const LONGEST = 140; // pixels of the ruler
 const MANY = 30; // vehicles, beyond which none glides from node to node
 
+/** Shows how long a round number of metres is, of which each has so many pixels; nothing where that is not known. */
+function drawScale(ruler, pixels) {
+  ruler.hidden = !pixels;
+  if (!pixels) return;
+  const tens = 10 ** Math.floor(Math.log10(LONGEST / pixels));
+  const metres = [5, 2, 1].map((digit) => digit * tens).find((length) => length * pixels <= LONGEST);
+  ruler.firstElementChild.style.width = `${metres * pixels}px`;
+  text(ruler.lastElementChild, say('map.metres', { count: number(metres) }));
+}
+
 export class Plan {
-  /** `pick(kind, name)` is called for what is clicked. */
-  constructor(element, layout, pick) {
-    Object.assign(this, { element, layout, pick });
+  /** `pick(kind, name)` is called for what is clicked; `ruler` shows how long so many metres are. */
+  constructor(element, layout, pick, ruler) {
+    Object.assign(this, { element, layout, pick, ruler });
     this.at = new Map(layout.nodes.map(([name, x, y]) => [name, [x, y]]));
     this.ends = edgesOf(layout, this.at);
     this.boxes = stationsOf(layout, this.at);
@@ -28,6 +39,9 @@ export class Plan {
   }
 
   draw() {
+    const { picture } = this.layout;
+    const [x, y, width, height] = picture ?? [];
+    const hall = picture ? svg('image', { href: 'picture', x, y, width, height, class: 'hall', preserveAspectRatio: 'none' }) : null;
     const size = { refX: 6, refY: 4, markerWidth: 6, markerHeight: 6 };
     const head = svg('marker', { id: 'head', viewBox: '0 0 8 8', orient: 'auto', ...size },
       svg('path', { d: 'M0 0.5 L7 4 L0 7.5 z' }));
@@ -48,7 +62,7 @@ export class Plan {
     for (const [name, x, y] of this.layout.nodes) this.parts.nodes.append(this.drawnNode(name, x, y));
     this.stations = new Map();
     for (const station of this.layout.stations) this.parts.stations.append(this.drawnStation(station));
-    this.element.replaceChildren(svg('defs', {}, head), ...Object.values(this.parts));
+    this.element.replaceChildren(svg('defs', {}, head), ...(hall ? [hall] : []), ...Object.values(this.parts));
   }
 
   line(edge) {
@@ -97,6 +111,7 @@ export class Plan {
   scaled(scale) {
     this.element.classList.toggle('far', scale < FAR);
     this.element.classList.toggle('farthest', scale < this.farthest);
+    drawScale(this.ruler, scale * (this.layout.metre ?? 0));
     this.element.style.setProperty('--grow', Math.min(3.5, Math.max(1, FAR / scale)).toFixed(2));
   }
 

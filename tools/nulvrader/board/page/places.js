@@ -123,6 +123,10 @@ export function boundsOf(at, layout, stations) {
     [left, top] = [Math.min(left, x - 24), Math.min(top, y - 30)];
     [right, bottom] = [Math.max(right, x + 24), Math.max(bottom, y + 24)];
   }
+  if (layout.picture) {
+    const [x, y, width, height] = layout.picture;
+    [left, top, right, bottom] = [Math.min(left, x), Math.min(top, y), Math.max(right, x + width), Math.max(bottom, y + height)];
+  }
   for (const [name, node] of layout.stations) {
     const box = grown(stations.get(name), at.get(node), growthOf(layout.stations));
     [left, top] = [Math.min(left, box[0]), Math.min(top, box[1])];
