@@ -165,6 +165,7 @@ class Keeps(Watching):
             },
             'events': {'words': '', 'kind': 'load', 'what': 'load.moved', 'cause': '', 'at': ''},
             'vehicle_batteries': {'vehicle': '', 'at': ''},
+            'vehicle_uses': {'vehicle': '', 'state': 'free', 'at': ''},
             'alarms': {
                 'key': '',
                 'kind': 'disk',

@@ -274,7 +274,7 @@ class Alarms:
                 continue
             failed = [one for one in said.words.failed or () if one.action in said.failures]
             for one in failed[-1:]:  # the last one, for all of them
-                values = self._of_action(seen, one)
+                values = self._of_action(seen, one, said.words.result_of(one))
                 if len(failed) > 1:
                     values['action'] += f' (+{len(failed) - 1})'
                 yield Condition(f'action {name}', 'action', 'bad', values)
@@ -283,11 +283,13 @@ class Alarms:
                 values = {'vehicle': name, 'node': seen.row.node, 'battery': f'{charge:g}'}
                 yield Condition(f'battery {name}', 'battery', 'warn', values)
 
-    def _of_action(self, seen: KnownVehicle, failed: FailedAction) -> dict[str, Any]:
+    def _of_action(
+        self, seen: KnownVehicle, failed: FailedAction, result: str
+    ) -> dict[str, Any]:
         """What an alarm says of an action that has failed: what it was, where its order is known,
         and what the vehicle says of it."""
         values = {'vehicle': str(seen.row.key), 'action': failed.action, 'type': failed.type}
-        values |= {'result': failed.result, 'node': seen.row.node}
+        values |= {'result': result, 'node': seen.row.node}
         order, _, number = failed.action.rpartition('.')
         end = self.news.ends.get(order)
         acts = end.acts if end is not None else ()
@@ -300,8 +302,7 @@ class Alarms:
         ]
         if not says and failed.type:
             says = [Line('failed.words', {'words': failed.type})]
-        result = Line('failed.words', {'words': failed.result})
-        says.append(result if failed.result else Line('failed.unsaid'))
+        says.append(Line('failed.words', {'words': result}) if result else Line('failed.unsaid'))
         return {**values, 'what': words_of(says, ': '), 'says': told(says)}
 
     def _of_waits(self, fleet: Fleet, layout: Layout, at: int) -> Iterator[Condition]:

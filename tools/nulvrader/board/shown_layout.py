@@ -15,8 +15,8 @@ NONE = Layout((), {}, {})
 
 
 class ShownLayout:
-    """The layout on the page, which has nothing in it until the desk has told one. `plan` says where its nodes
-    truly are, if that is known."""
+    """The layout on the page, which has nothing in it until the desk has told one. `plan` says
+    where its nodes truly are, if that is known."""
 
     def __init__(self, news: News, plan: FloorPlan | None = None):
         self.news, self.plan = news, plan

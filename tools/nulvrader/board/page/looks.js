@@ -34,6 +34,7 @@ export function statesOf(name, vehicle, store) {
   else if (!vehicle.ready) add('bad', say('badge.unready'), '!');
   const loads = vehicle.order_name ? [] : vehicle.loads.filter((load) => !store.jobOf(load));
   if (loads.length) add('bad', say('badge.aboard', { loads }), '▣');
+  if (store.get('alarm', `action ${name}`)) add('bad', say('badge.failed'), '✕');
   if (vehicle.paused) add('warn', say('badge.paused'), '‖');
   if (vehicle.pending) add('warn', say(`told.${vehicle.pending}`), '…');
   const wait = store.get('wait', name);

@@ -126,8 +126,8 @@ export class Plan {
     const has = (...kinds) => all || kinds.some((kind) => changed.has(kind));
     if (has('hold')) this.updateHolds(store, colours);
     if (has('way', 'vehicle')) this.updateWays(store, names, colours, picked);
-    if (has('station')) this.updateStations(store, picked);
-    if (has('vehicle', 'wait', 'circles', 'job')) this.updateVehicles(store, names, colours, picked);
+    if (has('station', 'alarm')) this.updateStations(store, picked);
+    if (has('vehicle', 'wait', 'circles', 'job', 'alarm')) this.updateVehicles(store, names, colours, picked);
     this.element.classList.toggle('many', names.length > MANY);
     this.count = names.length;
   }
@@ -173,7 +173,9 @@ export class Plan {
       const { taken, reserved } = store.get('station', name) ?? { taken: 0, reserved: 0 };
       const full = taken + reserved >= station.capacity;
       const at = picked && picked.kind === 'station' && picked.name === name ? ' picked' : '';
-      set(station.group, 'class', `station${full ? ' full' : ''}${at}`);
+      const alarmed = store.alarmed();
+      const alarm = alarmed.has(`station ${name}`) || (alarmed.has('full') && taken >= station.capacity) ? ' alarm' : '';
+      set(station.group, 'class', `station${full ? ' full' : ''}${at}${alarm}`);
       text(station.number, `${taken}/${station.capacity}`);
       const room = { name, node: station.node, taken, capacity: station.capacity, reserved };
       text(station.title, say(reserved ? 'map.station.reserved' : 'map.station.taken', room));
@@ -194,7 +196,8 @@ export class Plan {
     const placed = rows.filter((row) => this.at.has(row.vehicle.node));
     keyed(this.parts.vehicles, placed, (row) => this.drawnVehicle(row), (group, row) => {
       const chosen = picked && picked.kind === 'vehicle' && picked.name === row.key ? ' picked' : '';
-      set(group, 'class', `vehicle ${row.colour} ${row.states[0].level}${chosen}`);
+      const alarm = store.alarmed().has(`vehicle ${row.key}`) ? ' alarm' : '';
+      set(group, 'class', `vehicle ${row.colour} ${row.states[0].level}${chosen}${alarm}`);
       this.changeVehicle(group, row);
     });
   }

@@ -120,6 +120,21 @@ export class Store {
     return undefined;
   }
 
+  /** The vehicles and the stations of alarms that nobody has taken on, each as `vehicle KIT/0001`. */
+  alarmed() {
+    return this.once('alarmed', () => {
+      const found = new Set();
+      for (const { kind, values, taken } of this.kind('alarm').values()) {
+        if (taken) continue;
+        const vehicles = values.vehicles ?? (values.vehicle ? [values.vehicle] : []);
+        for (const name of vehicles) found.add(`vehicle ${name}`);
+        if (values.station && !vehicles.length) found.add(`station ${values.station}`);
+        if (kind === 'full') found.add('full');
+      }
+      return found;
+    });
+  }
+
   /** The vehicles of which each waits for the next: those that stand. */
   inCircle(vehicle) {
     return (this.get('circles', '') ?? []).some((circle) => circle.includes(vehicle));
