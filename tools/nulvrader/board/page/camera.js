@@ -2,6 +2,7 @@
 
 const CLOSEST = 120; // units of the drawing that are seen across, at least
 const STEP = 1.3;
+const FRAME = 26; // pixels around all, for what is drawn larger from afar
 const EDGE = 8; // pixels from the edge of the map, within which a point is not seen well
 
 export class Camera {
@@ -31,7 +32,10 @@ export class Camera {
 
   /** Shows all. */
   all() {
-    this.box = [...this.bounds];
+    const { clientWidth: width, clientHeight: height } = this.element;
+    const [x, y, across, down] = this.bounds;
+    const more = width && height ? FRAME / Math.min(width / across, height / down) : 0;
+    this.box = [x - more, y - more, across + 2 * more, down + 2 * more];
     this.show();
   }
 
@@ -65,6 +69,16 @@ export class Camera {
   pan(right, down) {
     this.box[0] += right * this.box[2];
     this.box[1] += down * this.box[3];
+    this.show();
+  }
+
+  /** Shows points apart from one another. */
+  showAll(points) {
+    const [xs, ys] = [points.map(([x]) => x), points.map(([, y]) => y)];
+    const [left, top] = [Math.min(...xs), Math.min(...ys)];
+    const size = Math.max(Math.max(...xs) - left, Math.max(...ys) - top, CLOSEST) * 1.6;
+    const [x, y] = [(left + Math.max(...xs)) / 2, (top + Math.max(...ys)) / 2];
+    this.box = [x - size / 2, y - size / 2, size, size];
     this.show();
   }
 

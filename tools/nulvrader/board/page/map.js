@@ -2,6 +2,7 @@
 // and the way that its order still has.
 
 import { Camera } from './camera.js';
+import { boxesOf, gathered, isUnder } from './clusters.js';
 import { keyed, set, svg, text } from './dom.js';
 import { colourOf, statesOf } from './looks.js';
 import { number, say } from './messages.js';
@@ -11,7 +12,11 @@ import { shortName } from './words.js';
 const FAR = 0.6; // pixels a unit, below which nodes have no names, and stations no numbers
 const FARTHEST = 0.28; // below which stations have no names and no places, where they are many
 const LONGEST = 140; // pixels of the ruler
+const TEXT = 14; // pixels of the page's letters, at which labels have their own size
 const MANY = 30; // vehicles, beyond which none glides from node to node
+
+/** The width of a vehicle's label. */
+const widthOf = (label) => Math.max(34, label.length * 7.6 + 14);
 
 /** Shows how long a round number of metres is, of which each has so many pixels; nothing where that is not known. */
 function drawScale(ruler, pixels) {
@@ -50,6 +55,7 @@ export class Plan {
     this.parts.held = svg('g', { class: 'holds' });
     this.parts.nodes = svg('g', { class: 'nodes' });
     this.parts.stations = svg('g', { class: 'stations' });
+    this.parts.dots = svg('g', { class: 'dots' });
     this.parts.vehicles = svg('g', { class: 'vehicles' });
     this.edges = new Map();
     for (const [name] of this.layout.edges) {
@@ -99,6 +105,9 @@ export class Plan {
     const [x, y] = this.at.get(node);
     body.style.setProperty('--x', `${x - left}px`);
     body.style.setProperty('--y', `${y - top}px`);
+    // and it stands aside for a vehicle there, however large that is drawn
+    body.style.setProperty('--dx', left >= x ? 1 : right <= x ? -1 : 0);
+    body.style.setProperty('--dy', top >= y ? 1 : bottom <= y ? -1 : 0);
     const group = svg('g', { class: 'station', transform: `translate(${left} ${top})`, onclick }, title, body);
     this.stations.set(name, { group, number, title, slots: [...slots.children], capacity, node });
     return group;
@@ -109,10 +118,19 @@ export class Plan {
   }
 
   scaled(scale) {
+    const letters = Number.parseFloat(getComputedStyle(document.documentElement).fontSize) / TEXT;
+    const mark = Math.max(1, letters / scale);
+    const grow = Math.min(3.5, Math.max(1, (letters * FAR) / scale));
+    const body = Math.min(grow, growthOf(this.layout.stations));
+    Object.assign(this, { scale, mark, body });
+    this.aside = [20, 14].map((half) => Math.max(0, half * mark + 3 - 15 * body));
+    this.element.style.setProperty('--mark', mark.toFixed(3));
+    for (const [at, name] of ['--sx', '--sy'].entries()) this.element.style.setProperty(name, `${this.aside[at].toFixed(1)}px`);
+    this.gather();
     this.element.classList.toggle('far', scale < FAR);
     this.element.classList.toggle('farthest', scale < this.farthest);
     drawScale(this.ruler, scale * (this.layout.metre ?? 0));
-    this.element.style.setProperty('--grow', Math.min(3.5, Math.max(1, FAR / scale)).toFixed(2));
+    this.element.style.setProperty('--grow', grow.toFixed(2));
   }
 
   /**
@@ -191,15 +209,73 @@ export class Plan {
     const rows = names.map((name) => {
       const vehicle = store.get('vehicle', name);
       const states = statesOf(name, vehicle, store);
-      return { key: name, vehicle, states, label: shortName(name, names), colour: colours.get(name) };
+      const alarm = store.alarmed().has(`vehicle ${name}`);
+      return { key: name, vehicle, states, alarm, label: shortName(name, names), colour: colours.get(name) };
     });
     const placed = rows.filter((row) => this.at.has(row.vehicle.node));
     keyed(this.parts.vehicles, placed, (row) => this.drawnVehicle(row), (group, row) => {
       const chosen = picked && picked.kind === 'vehicle' && picked.name === row.key ? ' picked' : '';
-      const alarm = store.alarmed().has(`vehicle ${row.key}`) ? ' alarm' : '';
-      set(group, 'class', `vehicle ${row.colour} ${row.states[0].level}${chosen}${alarm}`);
+      set(group, 'class', `vehicle ${row.colour} ${row.states[0].level}${chosen}${row.alarm ? ' alarm' : ''}`);
       this.changeVehicle(group, row);
     });
+    const rank = ({ key, states, alarm }) => (picked?.name === key ? 0 : alarm ? 1 : states[0].level === 'bad' ? 2 : 3);
+    this.placed = placed.map((row) => [rank(row), row]).sort(([one], [other]) => one - other).map(([, row]) => row);
+    this.gather();
+  }
+
+  /** Has each label seen that does not lie on another one: of vehicles that stand close together the first has it. */
+  gather() {
+    if (!this.placed || !this.scale) return;
+    const { scale, mark } = this;
+    const rows = this.placed.map(({ key, label, vehicle }) => {
+      const [x, y] = this.at.get(vehicle.node);
+      return { key, x: x * scale, y: y * scale, half: widthOf(label) / 2 + 4 };
+    });
+    const leaders = gathered(rows, mark * scale);
+    const others = new Map();
+    for (const [key, leader] of leaders) if (leader !== key) others.set(leader, [...(others.get(leader) ?? []), key]);
+    for (const [key, group] of this.parts.vehicles.kept ?? []) {
+      set(group, 'data-in', leaders.get(key) === key ? null : leaders.get(key));
+      const count = others.get(key)?.length ?? 0;
+      text(group.querySelector('.more text'), count ? `+${count}` : '');
+      set(group.querySelector('.more'), 'class', count ? 'more' : 'more none');
+    }
+    this.others = others;
+    const dots = this.placed.filter(({ key }) => leaders.get(key) !== key);
+    keyed(this.parts.dots, dots, ({ key }) => svg('g', { onclick: () => this.click('vehicle', key) }, svg('title', {}, key), svg('circle', { r: 5 })),
+      (dot, { vehicle, colour }) => {
+        const [x, y] = this.at.get(vehicle.node);
+        set(dot, 'class', `dot ${colour}`);
+        set(dot, 'transform', `translate(${x} ${y})`);
+      });
+    this.giveWay(boxesOf(rows, leaders, mark * scale));
+  }
+
+  /** Has no name of a node and no words of a station seen that would lie under a vehicle. */
+  giveWay(taken) {
+    const { scale, body } = this;
+    const under = (box) => (isUnder(box.map((side) => side * scale), taken) ? '' : null);
+    for (const [name, group] of this.nodes) {
+      const [[x, y], below] = [this.at.get(name), this.below.get(name) ?? -RADIUS - 4];
+      const half = name.length * 3.3;
+      set(group, 'data-under', scale < FAR ? null : under([x - half, y + below - 10, x + half, y + below + 2]));
+    }
+    for (const [name, { group, node }] of this.stations) {
+      const [x, y] = this.at.get(node);
+      const [left, top, right, bottom] = this.boxes.get(name);
+      const [dx, dy] = [left >= x ? 1 : right <= x ? -1 : 0, top >= y ? 1 : bottom <= y ? -1 : 0];
+      const [across, down] = [dx * this.aside[0], dy * this.aside[1]];
+      const box = [x + (left - x) * body + across, y + (top - y) * body + down, x + (right - x) * body + across, y + (bottom - y) * body + down];
+      set(group, 'data-under', under(box));
+    }
+  }
+
+  /** Zooms in until the vehicles that are gathered in a label stand apart. */
+  open(key, event) {
+    event.stopPropagation();
+    if (this.camera.moved) return;
+    const nodes = this.placed.filter((row) => row.key === key || this.others.get(key)?.includes(row.key)).map((row) => this.at.get(row.vehicle.node));
+    this.camera.showAll(nodes);
   }
 
   changeVehicle(group, { key, vehicle, states }) {
@@ -216,7 +292,9 @@ export class Plan {
   }
 
   drawnVehicle(row) {
-    const width = Math.max(34, row.label.length * 7.6 + 14);
+    const width = widthOf(row.label);
+    const more = svg('g', { class: 'more none', transform: `translate(${width / 2 - 3} 12)`, onclick: (event) => this.open(row.key, event) },
+      svg('rect', { x: -13, y: -8, width: 26, height: 16, rx: 8 }), svg('text', { y: 4 }));
     return svg('g', { onclick: () => this.click('vehicle', row.key) },
       svg('title'),
       svg('g', { class: 'body' },
@@ -226,7 +304,7 @@ export class Plan {
         svg('g', { class: 'cargo', transform: `translate(${width / 2 - 1} -11)` },
           svg('rect', { x: -7, y: -7, width: 14, height: 14, rx: 2.5 }), svg('text', { y: 4 })),
         svg('g', { class: 'sign', transform: `translate(${-width / 2 + 1} -11)` },
-          svg('circle', { r: 8 }), svg('text', { y: 4 }))));
+          svg('circle', { r: 8 }), svg('text', { y: 4 })), more));
   }
 
   /** Has a thing seen. */
