@@ -283,9 +283,7 @@ class Alarms:
                 values = {'vehicle': name, 'node': seen.row.node, 'battery': f'{charge:g}'}
                 yield Condition(f'battery {name}', 'battery', 'warn', values)
 
-    def _of_action(
-        self, seen: KnownVehicle, failed: FailedAction, result: str
-    ) -> dict[str, Any]:
+    def _of_action(self, seen: KnownVehicle, failed: FailedAction, result: str) -> dict[str, Any]:
         """What an alarm says of an action that has failed: what it was, where its order is known,
         and what the vehicle says of it."""
         values = {'vehicle': str(seen.row.key), 'action': failed.action, 'type': failed.type}

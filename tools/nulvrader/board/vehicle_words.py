@@ -74,7 +74,7 @@ class Words:
         values = {name: value for name, value in vars(self).items() if value is not None}
         return replace(before, **values)
 
-    def result_of(self, failed: Failed) -> str:
+    def result_of(self, failed: FailedAction) -> str:
         """What is said of an action that has failed: with it, or by an error that refers to it."""
         named = f'actionId {failed.action}'
         about = (one.words() for one in self.errors or () if named in one.refers)
