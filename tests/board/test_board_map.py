@@ -93,6 +93,20 @@ class Labels(unittest.TestCase):
                     page.run('document.getElementById(arguments[0]).click()', button)
                 self.check(page)
 
+    def test_many_alarms_of_a_kind(self) -> None:
+        """The first are seen, so that they hide no other one; a click shows all."""
+        for number in range(9):
+            key = VehicleKey('KIT', f'{number:04d}')
+            self.plant.state(key, f'N{2 * number:02d}', operatingMode='MANUAL')
+        page = self.opened(1280, 800, False)
+        until(lambda: '5 more of this kind' in page.text('#alarms .fold'), 'they are folded')
+        self.assertEqual(page.text('#alarms .what').count('is not ready'), 4)
+        self.assertEqual(page.run('return document.title').split()[1], '9')
+        page.click('#alarms .fold')
+        until(lambda: page.text('#alarms .what').count('is not ready') == 9, 'all are seen')
+        page.click('#alarms .fold')
+        until(lambda: page.text('#alarms .what').count('is not ready') == 4, 'the first are seen')
+
     def test_one_is_opened(self) -> None:
         """A click on how many stand in a label shows them apart."""
         page = self.opened(390, 844, True)

@@ -3,6 +3,9 @@ board take the answers of a desk that is made up, and each entry names the thing
 call, old and new."""
 from __future__ import annotations
 
+import glob
+import os
+import re
 import unittest
 from dataclasses import replace
 from typing import Any
@@ -11,6 +14,7 @@ from unittest import mock
 from tests.support.board_follow import BEGUN, ORDER, UNSEEN, VEHICLE, Followed, vehicle
 from nulvrader.board import record as record_module
 from nulvrader.board import record_tables
+from nulvrader.board.messages import table
 from nulvrader.board.news import GAP
 from nulvrader.board.record import Record
 from nulvrader.desk.client import Job
@@ -220,6 +224,16 @@ class Jobs(Followed):
             ('vehicle.placed', placed, ('client', 'place')),
         )
 
+    def test_a_cancel_or_a_place(self) -> None:
+        """Which of the two another client has called is not seen, where a state came as well."""
+        self.begin_order()
+        self.row, self.jobs = vehicle(node='N2', header=5), {}
+        self.look()
+        stopped = 'Job J1 is stopped, as order O1 of KIT/0001 was cancelled: L1 to B'
+        over = 'Order O1 of KIT/0001 was cancelled, or ended as it was placed'
+        cause = 'client', 'cancel or place'
+        self.told(('job.cancelled', stopped, cause), ('order.broken', over, cause))
+
     def test_a_place_ends_one_order(self) -> None:
         """An order that begins and ends soon after it has ended by itself."""
         self.begin_order()
@@ -295,6 +309,15 @@ class Vehicles(Followed):
         words = 'KIT/0001 has not done what it was told: to go on'
         self.changed(('vehicle.disobeyed', words, VEHICLE), pending=None, header=3)
 
+    def test_a_place_before_it_has_done_it(self) -> None:
+        self.person('pause', vehicle='KIT/0001')
+        told = ('vehicle.told', 'KIT/0001 is told to pause', ('person', 'pause'))
+        self.changed(told, pending='startPause')
+        placed = 'KIT/0001 was placed at node N4, it was at N1'
+        freed = 'KIT/0001 was told to pause, and was placed before it had'
+        wanted = ('vehicle.placed', placed, ('client', 'place')), ('vehicle.freed', freed, VEHICLE)
+        self.changed(*wanted, pending=None, node='N4')
+
     def test_calls(self) -> None:
         placed = 'KIT/0001 was placed at node N4, it was at N1'
         self.changed(('vehicle.placed', placed, ('client', 'place')), node='N4')
@@ -336,6 +359,21 @@ class OldRows(Followed):
             self.assertTrue(self.record.remove_old(BEGUN))
             self.assertFalse(self.record.remove_old(BEGUN))
         self.assertEqual(self.numbers(), [6, 7])
+
+
+class Sentences(unittest.TestCase):
+    def test_each_is_compared(self) -> None:
+        """Each kind of entry has its sentence in a test; those of commands, whose names are made,
+        are compared as a whole by the tests of refusals."""
+        text = ''
+        for path in glob.glob(os.path.join(os.path.dirname(__file__), '*.py')):
+            with open(path, encoding='utf-8') as file:
+                text += file.read()
+        for name, row in table().items():
+            if name.startswith('event.') and not name.startswith('event.command.'):
+                fixed = max(re.split(r'\{[^}]*\}', row['en']), key=len).strip(' :,.')
+                with self.subTest(name):
+                    self.assertTrue(fixed in text or name.removeprefix('event.') in text, fixed)
 
 
 if __name__ == '__main__':

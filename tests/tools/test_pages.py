@@ -20,8 +20,8 @@ MOST = {
     'DECISIONS.md': 4300,
     'MODEL.md': 5000,
     'OPERATE.md': 7700,
-    'BOARD.md': 850,
-    'BOARD_API.md': 1450,
+    'BOARD.md': 880,
+    'BOARD_API.md': 1420,
     'SECURITY.md': 900,
     'TWO_MACHINES.md': 1500,
 }

@@ -6,6 +6,8 @@ import { clock, day, span } from './words.js';
 
 const NAME = 'board.name'; // what is kept of who looks here, where no proxy names them
 const SOUND = 'board.sound';
+const MANY = 6; // alarms of a kind, beyond which only the first are seen
+const FIRST = 4;
 const TITLE = say('page.title');
 
 /** What the browser keeps of this page, or nothing where it keeps none. */
@@ -42,6 +44,7 @@ export class Alarms {
     root.after(this.spoken);
     this.known = null; // the alarms of the last time, until the first time
     this.sound = null;
+    this.open = new Set(); // the kinds of which all are seen, however many there are
   }
 
   /** The button that switches the sound on and off. */
@@ -82,7 +85,7 @@ export class Alarms {
     const rank = (row) => (row.level === 'bad' ? 0 : 1) + (row.taken ? 0.5 : 0);
     const rows = [...own, ...[...store.kind('alarm')].map(([key, alarm]) => ({ key, ...alarm }))];
     rows.sort((one, other) => rank(one) - rank(other) || one.since - other.since);
-    keyed(this.list, rows, (row) => this.made(row), (item, row) => this.change(item, row, store));
+    keyed(this.list, this.folded(rows), (row) => this.made(row), (item, row) => this.change(item, row, store));
     const bad = rows.filter((row) => row.level === 'bad');
     const title = bad.length ? `▲ ${bad.length} · ${TITLE}` : TITLE;
     if (document.title !== title) document.title = title;
@@ -94,7 +97,32 @@ export class Alarms {
     this.known = keys;
   }
 
+  /** The rows that are seen: of many alarms of one kind the first ones, and behind them how many more there are. */
+  folded(rows) {
+    const kinds = new Map();
+    for (const { n, kind, level } of rows) if (n) kinds.set(`${kind} ${level}`, (kinds.get(`${kind} ${level}`) ?? 0) + 1);
+    const seen = new Map();
+    return rows.flatMap((row) => {
+      const name = `${row.kind} ${row.level}`;
+      const count = (seen.get(name) ?? 0) + 1;
+      seen.set(name, count);
+      const all = kinds.get(name) ?? 0;
+      if (!row.n || all <= MANY) return [row];
+      const isOpen = this.open.has(name);
+      const fold = { key: `fold ${name}`, fold: name, level: row.level, isOpen, count: all - FIRST };
+      const isLast = count === (isOpen ? all : FIRST);
+      return [...(isOpen || count <= FIRST ? [row] : []), ...(isLast ? [fold] : [])];
+    });
+  }
+
+  /** Shows all alarms of a kind, or the first ones. */
+  toggle(name) {
+    if (!this.open.delete(name)) this.open.add(name);
+    this.view.redraw();
+  }
+
   made(row) {
+    if (row.fold) return el('li', {}, button('', () => this.toggle(row.fold), { class: 'plain fold' }));
     const take = () => this.take(this.rows.get(row.key));
     return el('li', {},
       button('', () => this.pick(this.rows.get(row.key)), { class: 'plain what' }),
@@ -103,6 +131,12 @@ export class Alarms {
   }
 
   change(item, row, store) {
+    if (row.fold) {
+      set(item, 'class', row.level);
+      text(item.firstChild, say(row.isOpen ? 'alarms.fewer' : 'alarms.more', row));
+      set(item.firstChild, 'aria-expanded', String(row.isOpen));
+      return;
+    }
     (this.rows ??= new Map()).set(row.key, row);
     set(item, 'class', `${row.level}${row.taken ? ' taken' : ''}`);
     const [what, since, todo, taken, take] = item.children;
