@@ -137,7 +137,7 @@ class Counts(Kept):
 
     def test_what_is_no_day(self) -> None:
         begin = str(DAY)
-        for asked in (
+        no_days: tuple[dict[str, str], ...] = (
             *({}, {'begin': begin}, {'begin': begin, 'end': begin}),
             {'begin': begin, 'end': str(at(26) + 1)},
             {'begin': str(at(1)), 'end': begin},
@@ -145,7 +145,8 @@ class Counts(Kept):
             {'begin': '٣', 'end': '9'},
             {'begin': '4102444800000', 'end': '4102444800001'},
             {'begin': f'{begin} ', 'end': str(at(1))},
-        ):
+        )
+        for asked in no_days:
             with self.subTest(asked), self.assertRaises(BadDay):
                 figures_of(self.path, asked)
 

@@ -13,12 +13,15 @@ from typing import Any
 
 from .entries import reading
 from .messages import Line
-from .record import moment_of, seconds_between, text_of
+from .record import moment_of, text_of
 from .uses import UNSEEN
 
 HOUR = 3_600_000
 LONGEST = 26 * HOUR  # of a day, on which clocks are set back
 PLACES, WAYS = 10, 10  # rows
+MANY = 1000  # ways, of which the longest are kept
+# A time of the record in milliseconds since 1970, as SQLite computes it.
+MOMENTS = 'CAST(round((julianday({}) - 2440587.5) * 86400000) AS INTEGER)'
 OUTCOMES = ('done', 'stopped', 'cancelled', 'placed', 'failed', 'unseen')
 MOMENT = re.compile('[0-9]{1,15}')
 LAST = 4_102_444_800_000
@@ -102,32 +105,39 @@ def middle(seconds: list[float]) -> float | None:
 def jobs_of(base: sqlite3.Connection, day: Day) -> Jobs:
     """Returns what is counted of the jobs that have ended in a day."""
     found = Jobs([0] * -(-(day.end - day.begin) // HOUR))
+    times = ', '.join(f'{MOMENTS.format(name)} AS {name}' for name in ('added', 'began', 'ended'))
     question = (
-        'SELECT job, load, origin, target, vehicle, outcome, added, began, ended FROM jobs'
-        ' WHERE ended >= :begin AND ended < :end AND outcome IS NOT NULL'
+        f'SELECT job, load, origin, target, vehicle, outcome, {times} FROM jobs'
+        ' WHERE jobs.ended >= :begin AND jobs.ended < :end AND outcome IS NOT NULL'
     )
-    rides = []
+    rides: list[dict[str, Any]] = []
     for row in base.execute(question, day.values):
         found.outcomes[row['outcome']] += 1
-        if row['added'] is not None and row['began'] is not None:
-            found.waited.append(seconds_between(row['added'], row['began']))
+        added, began, ended = row['added'], row['began'], row['ended']
+        if added is not None and began is not None:
+            found.waited.append(max(0, began - added) / 1000)
         if row['outcome'] != 'done':
             continue
-        found.hours[(moment_of(row['ended']) - day.begin) // HOUR] += 1
-        if row['began'] is not None:
-            seconds = seconds_between(row['began'], row['ended'])
-            found.took.append(seconds)
+        found.hours[(ended - day.begin) // HOUR] += 1
+        if began is not None:
+            rides.append(way_of(row, max(0, ended - began) / 1000))
+            found.took.append(rides[-1]['seconds'])
             found.by_vehicle[row['vehicle'] or ''] += 1
-            rides.append((seconds, row))
-    rides.sort(key=lambda ride: (-ride[0], ride[1]['job']))
-    found.ways = [way_told(seconds, row) for seconds, row in rides[:WAYS]]
+        if len(rides) > MANY:
+            rides = longest(rides)
+    found.ways = longest(rides)
     return found
 
 
-def way_told(seconds: float, row: sqlite3.Row) -> dict[str, Any]:
+def way_of(row: sqlite3.Row, seconds: float) -> dict[str, Any]:
     """Returns a way as the page has it."""
     names = ('job', 'load', 'origin', 'target', 'vehicle')
     return {**{name: row[name] for name in names}, 'seconds': seconds}
+
+
+def longest(ways: list[dict[str, Any]]) -> list[dict[str, Any]]:
+    """Returns those that took longest, the longest first."""
+    return sorted(ways, key=lambda way: (-way['seconds'], way['job']))[:WAYS]
 
 
 # The waits of vehicles that lie in a day, at least in part, each with its seconds in it. None that
@@ -177,12 +187,12 @@ def uses_of(base: sqlite3.Connection, day: Day) -> dict[str, dict[str, float]]:
     now = {row['vehicle']: (day.begin, row['state']) for row in base.execute(before, day.values)}
     found: dict[str, defaultdict[str, float]] = {name: defaultdict(float) for name in sorted(now)}
     question = (
-        'SELECT at, vehicle, state FROM vehicle_uses WHERE at >= :begin AND at < :end'
-        ' ORDER BY at, n'
+        f'SELECT {MOMENTS.format("at")} AS moment, vehicle, state FROM vehicle_uses'
+        ' WHERE at >= :begin AND at < :end ORDER BY at, n'
     )
     for row in base.execute(question, day.values):
         since, state = now.get(row['vehicle'], (day.begin, None))
-        at = moment_of(row['at'])
+        at = row['moment']
         found.setdefault(row['vehicle'], defaultdict(float))[state or UNSEEN] += (at - since) / 1000
         now[row['vehicle']] = at, row['state']
     for name, (since, state) in now.items():

@@ -50,11 +50,6 @@ def moment_of(text: str) -> int:
     return round(moment.timestamp() * 1000)
 
 
-def seconds_between(begin: str, end: str) -> float:
-    """How many seconds lie between two times of the record."""
-    return max(0, moment_of(end) - moment_of(begin)) / 1000
-
-
 def event_row(at: int, event: Event) -> list[Any]:
     """The values of an entry by `COLUMNS`."""
     event = event.cut()

@@ -22,7 +22,9 @@ NEAR = 36  # units between nodes that are close to one another, at least
 NAMED = 5  # nodes that a sentence names
 # How the bytes of a picture begin, and how it is called on the web.
 KINDS = {b'\x89PNG\r\n\x1a\n': 'image/png', b'\xff\xd8\xff': 'image/jpeg'}
-SVG = re.compile(rb'\s*(<\?xml[^>]*>\s*)?(<!--.*?-->\s*)*(<!DOCTYPE[^>]*>\s*)?<svg[\s/>]', re.S)
+SVG = re.compile(
+    rb'\s*(<\?xml[^>]*>\s*)?(<!--(?:(?!-->).)*-->\s*)*(<!DOCTYPE[^>]*>\s*)?<svg[\s/>]', re.S
+)
 
 Box = tuple[float, float, float, float]  # left, top, width, height
 

@@ -11,7 +11,7 @@ from collections.abc import Callable
 from typing import Any, Protocol
 
 from ..page_state import Shown
-from ..record import moment_of, seconds_between
+from ..record import moment_of
 from ..uses import STATES, state_of
 from .feed import Feed
 from .health import Facts, Health, reasons_of
@@ -33,6 +33,11 @@ class Asks(Protocol):
     """Who asks the desk: `asking` is since when it owes an answer."""
 
     asking: int | None
+
+
+def seconds_between(begin: str, end: str) -> float:
+    """Returns how many seconds lie between two times of the record."""
+    return max(0, moment_of(end) - moment_of(begin)) / 1000
 
 
 class Watch:
