@@ -24,7 +24,7 @@ from nulvrader.desk.client import Job
 class OfVehicles(Alarmed):
     def test_not_ready(self) -> None:
         """In its own words, where they are known."""
-        words = 'KIT/0001 is not ready, at N1; it does not say here why'
+        words = 'KIT/0001 is not ready, at N1; no reason was told here yet'
         self.raised(
             lambda: self.is_so(ready=False),
             'unready.unknown',
@@ -261,7 +261,7 @@ class Taken(Watching):
             == 'anna',
             'who has taken it on',
         )
-        about = 'KIT/0001 is not ready, at N1; it does not say here why'
+        about = 'KIT/0001 is not ready, at N1; no reason was told here yet'
         self.said(f'anna has taken on: {about}')
         self.board.stop(9)
         self.board = self.plant.board(*self.words)
