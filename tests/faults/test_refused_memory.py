@@ -10,45 +10,25 @@ import unittest
 from typing import Any
 
 from tests.support import tracing
-from tests.support.heap import Heap, slots_of
+from tests.support.heap import Heap
 from tests.support.fault_files import ALL, remove, sample, without_clock
 from tests.support.faults import MEMORY, Move, asks, check_kept, moves, port_of, scripts
 from tests.support.records import rows_of
-from tests.support.desks import AT, DESK, over_sockets, run, without_moments
+from tests.support.desks import DESK, over_sockets, run, without_moments
+from tests.support.refused_memory import NO_HEAP, how_it_ended, serve
 from tests.support.script_calls import bytes_of, load
-from tests.support.fault_test import FULL, LACKS, FaultTest
+from tests.support.fault_test import FULL, FaultTest
 
 
-def lacks_heap() -> Any:
-    if LACKS:
-        return LACKS
-    try:
-        slots = set(slots_of(DESK)[1].values())
-    except (OSError, ValueError) as error:
-        return f'the calls of the heap can not be found: {error}'
-    return (
-        None
-        if 'malloc' in slots
-        else 'the program asks no C library that is loaded beside it for memory'
-    )
-
-
-NO_HEAP = lacks_heap()
-
-
-@unittest.skipIf(NO_HEAP, NO_HEAP)
+@unittest.skipIf(NO_HEAP, NO_HEAP or '')
 class RefusedMemory(FaultTest):
-    def serve(self, given: Any, db: str, first: int | None = None, times: int = 1) -> Any:
-        words = [DESK, 'replay', '--db', db, '--at', AT]
-        return tracing.run(words, stdin=given, heap=Heap(DESK, first, times))
-
     def calls(self, name: str, script: Any, db: Any) -> Any:
         """Which calls of the heap are tried: those of the opening of a new file, which are the same
         for these scripts, with one of them alone."""
         script.start(self.db)
-        opening = self.serve(b'', db).asked
+        opening = serve(b'', db).asked
         script.start(self.db)
-        ended = self.serve(script.input, db)
+        ended = serve(script.input, db)
         self.assertEqual(
             (ended.status, ended.out, ended.said, ended.refused), (0, script.out, b'', 0)
         )
@@ -66,23 +46,9 @@ class RefusedMemory(FaultTest):
             for k in sample(calls if times else calls[::7], most):
                 with self.subTest(name, k=k, of=calls[-1], times=times):
                     script.start(self.db)
-                    ended = self.serve(script.input, db, k, times)
-                    self.assertGreaterEqual(ended.refused, 1)
-                    answered = len(script.requests)
-                    if ended.status == 0:
-                        self.assertEqual((ended.out, ended.said), (script.out, b''))
-                        met['served'] += 1
-                    elif not ended.out:
-                        self.assertEqual((ended.status, ended.said), (1, b'fault: Memory\n'))
-                        answered = 0
-                        met['not opened'] += 1
-                    else:
-                        self.assertEqual((ended.status, ended.said), (1, b'fault: Memory\n'))
-                        self.assertTrue(ended.out.endswith(MEMORY), ended.out[-200:])
-                        front = ended.out[: -len(MEMORY)]
-                        answered = script.whole(front)
-                        self.assertEqual(front, b''.join(script.answers[:answered]))
-                        met['refused'] += 1
+                    ended = serve(script.input, db, k, times)
+                    how, answered = how_it_ended(self, script, ended)
+                    met[how] += 1
                     if db != 'memory':
                         check_kept(self, script, self.db, answered, more=False)
             if ALL:
@@ -162,7 +128,7 @@ class RefusedMemory(FaultTest):
             print(f'a report, {len(tried)} calls of the heap behind its opening')
 
 
-@unittest.skipIf(NO_HEAP, NO_HEAP)
+@unittest.skipIf(NO_HEAP, NO_HEAP or '')
 @over_sockets
 class RefusedConnections(FaultTest):
     def serve(self, requests: Any, first: int | None = None) -> tuple[Any, Any, Any]:
