@@ -9,6 +9,7 @@ import time
 from collections.abc import Callable
 from typing import TYPE_CHECKING
 
+from .desks import DB
 from .namespaces import NETWORK, Machine
 
 if TYPE_CHECKING:
@@ -16,6 +17,7 @@ if TYPE_CHECKING:
 
 Mend = Callable[[], None]
 BRICK = 'glusterfsd'  # the program that serves a copy
+LOG = f'{DB}-wal'  # what was changed last is in it
 WATCHDOG = 5.0  # seconds after which a machine that doesn't feed its watchdog is reset
 
 
@@ -118,14 +120,20 @@ def tear(drill: Drill, machine: Machine) -> Mend:
 
 
 def bounce(drill: Drill, machine: Machine) -> Mend:
-    """The copy of another machine was away and is stale when the power of the machine fails."""
-    other = random.choice(drill.others(machine))
+    """The copy of another machine was away and is stale when the power of the machine fails. The
+    third machine has to know that."""
+    other, third = random.sample(drill.others(machine), 2)
     for pid in drill.programs_of(other, BRICK):
         os.kill(pid, signal.SIGKILL)
-    time.sleep(1)
+    time.sleep(0.5)
+    away = time.monotonic()
+    time.sleep(0.5)
     drill.volume.gluster(machine, 'volume', 'start', 'desk', 'force')
     time.sleep(random.uniform(0.5, 3))
     machine.kill()
+    was_changed = any(one.changes and one.sent > away for one in drill.answers_since(away))
+    if was_changed and drill.volume.unmarked(third, other, LOG):
+        drill.records.lost.append(f'{third.name} takes the copy in {other.name} for whole')
     return lambda: drill.boot(machine)
 
 

@@ -12,6 +12,7 @@ NAME = 'desk'
 HERE = os.path.dirname(os.path.abspath(__file__))
 UNIT = os.path.join(HERE, '..', '..', 'examples', 'standby', 'desk-volume.service')
 NOT_ITS = ('--no-daemon', '--process-name', '--volfile-')  # which this program says itself
+DATA = 4  # bytes of a mark that are about what is in a file
 NOT_YET = 'Peer in Cluster'  # a machine is connected, and not taken in yet
 DAEMONS = ('glusterd', 'glusterfs', 'gluster')
 
@@ -119,6 +120,20 @@ class Volume:
                     found.append(f'{machine.name} reads a file as it was: {read}, and not {text}')
             other.run('rm', '-f', name[1])
         return found
+
+    def unmarked(self, machine: Machine, other: Machine, name: str) -> bool:
+        """Whether a file's copy in another machine differs from that in a machine, where nothing
+        says so: then the other one would be read, and what it lacks would be lost."""
+        paths = [os.path.join(one.folder, 'brick', NAME, name) for one in (machine, other)]
+        contents = []
+        for path in paths:
+            with open(path, 'rb') as file:
+                contents.append(file.read())
+        try:
+            mark = os.getxattr(paths[0], f'trusted.afr.{NAME}-client-{other.number - 1}')
+        except OSError:  # it has never lacked anything
+            mark = b''
+        return contents[0] != contents[1] and not any(mark[:DATA])
 
     def is_whole(self, machine: Machine) -> bool:
         """Whether all copies are in use, and the mount of a machine is connected to each of
