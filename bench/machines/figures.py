@@ -151,7 +151,13 @@ class Figures:
         print(f'the power fails: {middle(failed)}; a planned stop: {middle(planned)}', flush=True)
 
     def death_of_a_copy(self) -> None:
-        """Kills the copy of another machine while loads are registered."""
+        """Kills the copy of another machine while loads are registered. The desk has begun with
+        all copies: it doesn't use one that was away then."""
+        number, _ = self.first(0)
+        for machine in self.drill.machines.all:
+            self.drill.wait_until_whole(machine)
+        self.drill.desks[number].wait()
+        self.drill.desks[number].start()
         number, _ = self.first(0)
         old = self.drill.machines.all[number - 1]
         other = self.drill.others(old)[0]
