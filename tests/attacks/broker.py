@@ -132,6 +132,21 @@ class BrokerConnections(Configured):
         self.assertEqual((vehicle.granted, vehicle.is_open), (0, False))
         self.connected('KIT/0002')
 
+    def test_short_messages(self) -> None:
+        """A vehicle sends a message whose topic is an alias of MQTT 5, which would have 8 bytes
+        instead of 27; it must not be passed on."""
+        reader = self.reader('gateway', 'uagv/v2/+/+/state')
+        plain = socket.create_connection(('127.0.0.1', self.port), timeout=PATIENCE)
+        with self.context.wrap_socket(plain, server_hostname='localhost') as line:
+            words = b''.join(map(mqtt.text, ('', 'KIT/0001', USERS['KIT/0001'])))
+            line.sendall(mqtt.packet(0x10, mqtt.text('MQTT') + b'\5\xc2\0\x3c\0' + words))
+            self.assertEqual(line.recv(65536)[0], mqtt.CONNACK)
+            topic, alias = mqtt.text('uagv/v2/KIT/0001/state'), b'\3\x23\0\1'
+            line.sendall(mqtt.packet(mqtt.PUBLISH, topic + alias + b'x'))
+            line.sendall(mqtt.packet(mqtt.PUBLISH, mqtt.text('') + alias + b'x'))
+            self.pass_on(reader)
+        self.assertEqual([data for _, data in reader.came if data == b'x'], [])
+
 
 class BrokerOfAllAddresses(Configured):
     address = ''

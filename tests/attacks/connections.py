@@ -58,19 +58,59 @@ for _ in range(int(count)):
         pass
 print(made, time.monotonic() - begun, flush=True)
 """
+# Reads what comes to a port, and says how many bytes that is for each connection that has ended.
+READS = """
+import socket, sys, threading
+
+def read(line):
+    count = 0
+    try:
+        while data := line.recv(1048576):
+            count += len(data)
+    except OSError:
+        pass
+    print(count, flush=True)
+
+listener = socket.create_server(('0.0.0.0', int(sys.argv[1])), backlog=500)
+print('begun', flush=True)
+while True:
+    threading.Thread(target=read, args=listener.accept()[:1], daemon=True).start()
+"""
+
+# Sends so many bytes, or for so many seconds, from an address to an address and a port, and says
+# the seconds that it has taken.
+SENDS = """
+import socket, struct, sys, time
+
+count, seconds, source, target, port = sys.argv[1:]
+begun, left = time.monotonic(), int(count)
+line = socket.create_connection((target, int(port)), 60, (source, 0))
+line.settimeout(1)
+while left > 0 and time.monotonic() < begun + float(seconds):
+    try:
+        left -= line.send(bytes(min(left, 100_000)))
+    except TimeoutError:
+        pass
+if left > 0:
+    line.setsockopt(socket.SOL_SOCKET, socket.SO_LINGER, struct.pack('ii', 1, 0))
+line.close()
+print(time.monotonic() - begun, flush=True)
+"""
 ONE_ADDRESS, OTHER_ADDRESS, SERVER = '10.77.0.2', '10.77.0.3', '10.77.0.1'
 ONE_ADDRESS_6, OTHER_ADDRESS_6, SERVER_6 = 'fd77::2', 'fd77::3', 'fd77::1'
 MOST, AT_FIRST, A_SECOND = 128, 200, 5  # examples/nftables/connections.nft
+BYTES_AT_ONCE, BYTES_A_SECOND = 4 * 2**20, 128 * 2**10
 
 
 @unittest.skipIf(without_networks('nft', 'ip'), without_networks('nft', 'ip'))
-class ConnectionsOfAnAddress(unittest.TestCase):
-    """Who has no password keeps so many connections open that nginx or the broker has none left,
-    on a machine with examples/nftables/connections.nft."""
+class FromAnotherMachine(unittest.TestCase):
+    """A machine with examples/nftables/connections.nft, on which a program listens, and another
+    machine with two addresses."""
+
+    listens: tuple[str, ...]  # the program, and its ports
 
     def setUp(self) -> None:
-        script = (sys.executable, '-c', KEEPS, '443', '882', '8883')
-        self.server = self.start('unshare', '--net', *script)
+        self.server = self.start('unshare', '--net', sys.executable, '-c', *self.listens)
         self.other = self.start('unshare', '--net', 'sh', '-c', 'echo begun; exec sleep 1000')
         for process in (self.server, self.other):
             self.assertEqual(self.line(process), 'begun')
@@ -121,6 +161,12 @@ class ConnectionsOfAnAddress(unittest.TestCase):
             self.skipTest('the kernel has no nftables')
         self.assertEqual((done.returncode, done.stderr), (0, ''), line)
 
+
+class ConnectionsOfAnAddress(FromAnotherMachine):
+    """Who has no password keeps so many connections open that nginx or the broker has none left."""
+
+    listens = (KEEPS, '443', '882', '8883')
+
     def opened(self, count: int, source: str, port: int) -> tuple[int, subprocess.Popen[bytes]]:
         """How many connections of an address are made to a port, and who keeps them."""
         server = SERVER_6 if ':' in source else SERVER
@@ -167,3 +213,26 @@ class ConnectionsOfAnAddress(unittest.TestCase):
             words = (f'{count}', '127.0.0.1', '127.0.0.1', '882')
             line = [*self.inside(self.server), *who, sys.executable, '-c', OPENS, *words]
             self.assertEqual(int(self.line(self.start(*line))), wanted, user)
+
+
+class BytesOfAnAddress(FromAnotherMachine):
+    """A vehicle sends messages without a pause, so that the gateway has no time for others."""
+
+    listens = (READS, '8883')
+
+    def send(self, count: int, seconds: float, source: str) -> subprocess.Popen[bytes]:
+        """Sends so many bytes to the broker, or for so many seconds."""
+        words = (f'{count}', f'{seconds}', source, SERVER, '8883')
+        return self.start(*self.inside(self.other), sys.executable, '-c', SENDS, *words)
+
+    def test_without_a_pause(self) -> None:
+        """It sends as much as it can for ten seconds; 4 MB of it must come at once, and then 128 KB
+        in a second, and all that another address sends."""
+        flood = self.send(10**12, 10, ONE_ADDRESS)
+        vehicle = self.send(1_000_000, 60, OTHER_ADDRESS)
+        seconds = float(self.line(flood))
+        self.line(vehicle)
+        first, second = sorted(int(self.line(self.server)) for _ in range(2))
+        self.assertEqual(first, 1_000_000)
+        self.assertLessEqual(second, BYTES_AT_ONCE + BYTES_A_SECOND * (seconds + 1))
+        self.assertGreater(second, 1_000_000)
