@@ -8,6 +8,7 @@ import os
 import socket
 import ssl
 import statistics
+import struct
 import subprocess
 import sys
 import threading
@@ -156,9 +157,9 @@ class PagesOfReaders(unittest.TestCase):
         self.addCleanup(self.proxy.close)
         self.asked = 0
 
-    def status(self, user: str) -> int | None:
-        """Asks for a page from an address that changes; what is answered, or None once it waits at
-        the board."""
+    def status(self, user: str, target: str = '', leaves: bool = False) -> int | None:
+        """Asks for a page, or for a target, from an address that changes; what is answered, or None
+        once it waits at the board. Who leaves resets the connection then."""
         self.asked += 1
         before = len(self.board.waiting)
         plain = socket.socket()
@@ -167,7 +168,7 @@ class PagesOfReaders(unittest.TestCase):
         context = ssl.create_default_context(cafile=self.proxy.path('server.pem'))
         line = context.wrap_socket(plain, server_hostname='127.0.0.1')
         self.addCleanup(line.close)
-        target = ('/board/data?run=&since=0', '/board/commands')[self.asked % 2]
+        target = target or ('/board/data?run=&since=0', '/board/commands')[self.asked % 2]
         head = [f'GET {target} HTTP/1.1', f'Host: {self.proxy.host(True)}']
         head += [proxies.basic(user, f'{user}!'), 'Connection: close', '', '']
         line.sendall('\r\n'.join(head).encode())
@@ -180,6 +181,9 @@ class PagesOfReaders(unittest.TestCase):
             return bool(found) or len(self.board.waiting) > before
 
         until(is_over, 'the request is answered, or waits at the board')
+        if leaves:
+            line.setsockopt(socket.SOL_SOCKET, socket.SO_LINGER, struct.pack('ii', 1, 0))
+            line.close()
         return found[0] if found else None
 
     def test_from_many_addresses(self) -> None:
@@ -192,6 +196,27 @@ class PagesOfReaders(unittest.TestCase):
         self.assertEqual(self.status('reader'), 502)
         self.assertEqual(self.status('anna'), 200)
         self.assertEqual(len(self.board.waiting), 64)
+
+    def test_without_waiting(self) -> None:
+        """A reader asks for pages, searches and histories, and resets each connection before the
+        answer; 32 of these must be at the board, 2 of them searches, and another reader be
+        served."""
+        asked = [self.status('otto', '/board/record?text=x', leaves=True) for _ in range(10)]
+        asked += [self.status('otto', '/board/history?load=L1', leaves=True) for _ in range(10)]
+        asked += [self.status('otto', leaves=True) for _ in range(30)]
+        self.assertEqual(asked[:3] + asked[-3:], [None, None, 429, 429, 429, 429])
+        self.assertEqual(len(self.board.waiting), 32)
+        self.assertIsNone(self.status('ANNA'))
+
+    def test_streams_without_waiting(self) -> None:
+        """A reader opens streams of events and resets each; their connections to the board must
+        end, and its next one be served."""
+        for _ in range(8):
+            self.assertIsNone(self.status('otto', '/board/api/events/stream', leaves=True))
+        for line in self.board.waiting:
+            line.settimeout(60)
+            self.assertEqual(line.recv(1), b'')
+        self.assertIsNone(self.status('otto', '/board/api/events/stream'))
 
 
 class SilentConnections(ThroughNginx):
