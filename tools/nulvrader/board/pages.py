@@ -37,7 +37,7 @@ TYPES = {
 }
 MOVES = 50  # of a load, that a page is told
 USER = 64  # characters of the name of a user
-LOOKS, COMMANDS, SEARCHES = 2, 8, 2  # threads
+LOOKS, COMMANDS, HISTORIES, SEARCHES = 2, 8, 1, 2  # threads
 
 
 @dataclass(frozen=True)
@@ -62,7 +62,8 @@ class Pages:
     def __init__(self, board: Board):
         self.board = board
         self.looks, self.commands = Workers(LOOKS), Workers(COMMANDS)
-        self.searches = Workers(SEARCHES)  # which may last, and keep no look waiting
+        # What readers ask for may last, and keeps no look waiting.
+        self.histories, self.searches = Workers(HISTORIES), Workers(SEARCHES)
         names = sorted(name for name in os.listdir(FOLDER) if os.path.splitext(name)[1] in TYPES)
         self.files = {f'/{name}': self._file(name) for name in names}
         page = self.files.pop('/index.html')
@@ -110,7 +111,8 @@ class Pages:
             if path == '/':
                 return self.fronts[self._may_command(head)]
             if path == '/history':
-                return await self.looks.run(functools.partial(self._history, asked.get('load', '')))
+                history = functools.partial(self._history, asked.get('load', ''))
+                return await self.histories.run(history)
             if path == '/day':
                 return await self.searches.run(functools.partial(self._day, asked))
             if path in ('/record', '/record.csv'):

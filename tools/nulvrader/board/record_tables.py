@@ -74,8 +74,11 @@ CREATE INDEX IF NOT EXISTS vehicle_uses_vehicle ON vehicle_uses (vehicle, at);
 CREATE INDEX IF NOT EXISTS vehicle_uses_at ON vehicle_uses (at);
 CREATE INDEX IF NOT EXISTS alarms_ended ON alarms (ended);
 CREATE INDEX IF NOT EXISTS waits_began ON waits (began);
+CREATE INDEX IF NOT EXISTS waits_vehicle ON waits (vehicle, ended);
 CREATE INDEX IF NOT EXISTS jobs_ended ON jobs (ended);
 CREATE INDEX IF NOT EXISTS jobs_added ON jobs (added);
+CREATE INDEX IF NOT EXISTS jobs_load ON jobs (load);
+CREATE INDEX IF NOT EXISTS loads_place ON loads (place);
 """
 # By version what moves a file of the one before: to 2, as a command stood once it was answered;
 # to 3, as an entry had no cause, and a job no outcome.

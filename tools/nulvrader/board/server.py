@@ -8,12 +8,14 @@ import contextlib
 import http
 import socket
 import threading
+from collections.abc import Coroutine
+from typing import Any
 
 from .guard import HEADERS
 from .journal import log
 from .messages import Line
 from .answers import Reply, refused
-from .api.streams import Stream
+from .api.streams import Stream, until_gone
 from .pages import Pages
 from .private_sockets import bound_to
 from .request import HEAD, BadRequest, Head, read_head
@@ -95,7 +97,8 @@ class Connection:
             answer = refused(408, Line('page.late', {'seconds': f'{REQUEST:g}'}))
         if answer is None:
             self.may_end = method != 'POST'
-            answer = await self._answer(pages, head, body)
+            work = self._answer(pages, head, body)
+            answer = await (self._while_there(work) if self.may_end else work)
             self.may_end = True
         if isinstance(answer, Stream):
             await self._stream(answer, method == 'HEAD', pace)
@@ -120,6 +123,21 @@ class Connection:
         except Exception as fault:  # of the board itself: the others are still answered
             log(f'a request failed: {fault!r}')
             return refused(500, Line('page.failed'))
+
+    async def _while_there(self, work: Coroutine[Any, Any, Reply | Stream]) -> Reply | Stream:
+        """Returns what comes of work. Where the client goes away before, the work is left, and
+        `EOFError` is raised."""
+        answer = asyncio.ensure_future(work)
+        gone = asyncio.ensure_future(until_gone(self.source))
+        try:
+            await asyncio.wait({answer, gone}, return_when=asyncio.FIRST_COMPLETED)
+            if not answer.done():
+                raise EOFError
+            return answer.result()
+        finally:
+            for one in (answer, gone):
+                one.cancel()
+            await asyncio.gather(answer, gone, return_exceptions=True)
 
     def _write_head(self, status: int, *lines: str) -> None:
         head = [f'HTTP/1.1 {status} {NAMES[status]}', 'Connection: close']

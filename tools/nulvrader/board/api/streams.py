@@ -87,7 +87,7 @@ class Streams:
             del self._open[oldest]
             oldest.cancel()
         task = asyncio.ensure_future(self._send(stream, target, pace))
-        gone = asyncio.ensure_future(_until_gone(source))
+        gone = asyncio.ensure_future(until_gone(source))
         self._open[task] = None
         try:
             await asyncio.wait({task, gone}, timeout=LIFE, return_when=asyncio.FIRST_COMPLETED)
@@ -129,7 +129,7 @@ async def _put(target: asyncio.StreamWriter, data: bytes) -> None:
         await target.drain()
 
 
-async def _until_gone(source: asyncio.StreamReader) -> None:
-    """Waits until the reader closes the connection. What it sends is thrown away."""
+async def until_gone(source: asyncio.StreamReader) -> None:
+    """Waits until the other end closes the connection. What it sends is thrown away."""
     while await source.read(65536):
         pass
