@@ -31,11 +31,12 @@ from tests.attacks.gateway_servers import AnotherBroker
 from tests.attacks.broker import BrokerCertificates, BrokerRights
 
 # Connections that are kept lock others out of nginx and the broker.
-from tests.attacks.connections import ConnectionsOfAnAddress
+from tests.attacks.connections import BytesOfAnAddress, ConnectionsOfAnAddress
 from tests.attacks.crowds import SilentConnections
 from tests.attacks.broker import BrokerConnections, BrokerOfAllAddresses
 
-# A reader keeps the others from the desk; passwords are tried, and names found out.
+# A reader keeps the others from the desk or the board; passwords are tried, and names found out.
+from tests.attacks.board_readers import GoneReaders, Histories, Questions
 from tests.attacks.crowds import PagesOfReaders, Starvation, UnreadReports
 from tests.attacks.reports import KeptReports, ReportsOfReaders
 from tests.attacks.way_in import NamesOfUsers, Passwords
@@ -89,6 +90,7 @@ __all__ = [
     'BrokerConnections',
     'BrokerOfAllAddresses',
     'BrokerRights',
+    'BytesOfAnAddress',
     'BytesThatDrip',
     'CommandOfAGateway',
     'CommandOfAReader',
@@ -101,6 +103,8 @@ __all__ = [
     'FormOfAForeignPage',
     'FullDisk',
     'Fuzz',
+    'GoneReaders',
+    'Histories',
     'HostileMessages',
     'HostileStandby',
     'HostileWords',
@@ -120,6 +124,7 @@ __all__ = [
     'OverAUnixSocket',
     'PagesOfReaders',
     'Passwords',
+    'Questions',
     'Record',
     'RefusedReader',
     'ReportsOfReaders',
