@@ -138,7 +138,9 @@ class Counts(Kept):
     def test_what_is_no_day(self) -> None:
         begin = str(DAY)
         no_days: tuple[dict[str, str], ...] = (
-            *({}, {'begin': begin}, {'begin': begin, 'end': begin}),
+            {},
+            {'begin': begin},
+            {'begin': begin, 'end': begin},
             {'begin': begin, 'end': str(at(26) + 1)},
             {'begin': str(at(1)), 'end': begin},
             {'begin': '-1', 'end': '5'},

@@ -6,7 +6,7 @@ import { many, span, thingOf } from './words.js';
 
 const HOUR = 3_600_000;
 const OUTCOMES = ['done', 'stopped', 'cancelled', 'placed', 'failed', 'unseen'];
-const STATES = ['busy', 'waiting', 'free', 'paused', 'not_ready', 'astray', 'silent', 'unseen'];
+const STATES = ['busy', 'waiting', 'free', 'paused', 'not_ready', 'astray', 'silent']; // of what was seen
 const BETTER = { done: 1, registered: 0, waited: -1, took: -1, waits: -1 }; // else fewer are better
 
 const byId = (id) => document.getElementById(id);
@@ -99,16 +99,15 @@ const share = (part, whole) => (whole ? `${number(Math.round((100 * part) / whol
 
 function vehicles(now, before) {
   const earlier = new Map(before.vehicles.map((row) => [row.vehicle, row]));
-  const seen = (row) => STATES.reduce((whole, state) => whole + (row?.seconds[state] ?? 0), 0) - (row?.seconds.unseen ?? 0);
+  const seen = (row) => STATES.reduce((whole, state) => whole + (row.seconds[state] ?? 0), 0);
   const rows = now.vehicles.map((row) => {
     const past = earlier.get(row.vehicle);
-    const whole = STATES.reduce((all, state) => all + (row.seconds[state] ?? 0), 0);
     const parts = STATES.filter((state) => row.seconds[state]).map((state) => {
       const part = el('i', { class: `u-${state}` });
-      part.style.width = `${(100 * row.seconds[state]) / whole}%`;
+      part.style.width = `${(100 * row.seconds[state]) / seen(row)}%`;
       return part;
     });
-    const words = STATES.filter((state) => row.seconds[state]).map((state) => `${say(`use.${state}`)} ${span(1000 * row.seconds[state])}`).join(', ');
+    const words = [...STATES, 'unseen'].filter((state) => row.seconds[state]).map((state) => `${say(`use.${state}`)} ${span(1000 * row.seconds[state])}`).join(', ');
     return [
       row.vehicle, el('td', {}, el('div', { class: 'share', role: 'img', 'aria-label': words, title: words }, ...parts)),
       share(row.seconds.busy ?? 0, seen(row)), past ? share(past.seconds.busy ?? 0, seen(past)) : '–',
