@@ -47,7 +47,7 @@ class Trouble:
     begin: Callable[[Night], None]
     end: Callable[[Night], None]
     after: float = 0.0
-    within: float = 10.0
+    within: float = 5.0
 
 
 # In the small plant: a node of the ring, a station behind it, and the bay of KIT/0004.

@@ -103,6 +103,21 @@ class OfVehicles(Alarmed):
             lambda: self.says(Words(failed=())),
         )
 
+    def test_an_error_of_a_failed_action(self) -> None:
+        """Where the action itself has no result, the error that refers to it says why; one of
+        another action does not."""
+        other = Error('actionFailed', 'WARNING', 'too heavy', refers=('actionId O1.1',))
+        own = Error('actionFailed', 'WARNING', 'no grip', refers=('nodeId N1', 'actionId O1.0'))
+        why = 'WARNING actionFailed: no grip'
+        self.raised(
+            lambda: self.says(
+                Words(failed=(FailedAction('O1.0', 'pick', ''),), errors=(other, own))
+            ),
+            'action',
+            f'KIT/0001 says that its action O1.0 has failed, at N1: pick: {why}',
+            lambda: self.says(Words(failed=(), errors=())),
+        )
+
     def test_a_low_battery(self) -> None:
         words = 'The battery of KIT/0001 is low, 12 %, at N1, and does not charge'
         self.raised(
