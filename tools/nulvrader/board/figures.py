@@ -2,12 +2,13 @@
 longest ways. They are read beside whoever writes the record."""
 from __future__ import annotations
 
+import contextlib
 import re
 import sqlite3
 import statistics
 import time
 from collections import Counter, defaultdict
-from collections.abc import Mapping
+from collections.abc import Callable, Iterator, Mapping
 from dataclasses import dataclass, field
 from typing import Any
 
@@ -73,28 +74,38 @@ def day_of(asked: Mapping[str, str]) -> Day:
 
 
 def figures_of(path: str, asked: Mapping[str, str]) -> dict[str, Any]:
-    """Returns the figures of a day."""
+    """Returns the figures of a day, read by several questions, each of which has its time."""
     day = day_of(asked)
-    with reading(path) as base:
-        base.row_factory = sqlite3.Row
+    with asking(path) as base:
         jobs = jobs_of(base, day)
         question = 'SELECT count(*) FROM jobs WHERE added >= :begin AND added < :end'
         registered = base.execute(question, day.values).fetchone()[0]
+    with asking(path) as base:
         uses = uses_of(base, day)
-        return {
-            'registered': registered,
-            'outcomes': {name: jobs.outcomes[name] for name in OUTCOMES},
-            'hours': jobs.hours,
-            'waited': middle(jobs.waited),
-            'took': middle(jobs.took),
-            'places': places_of(base, day),
-            'causes': causes_of(base, day),
-            'vehicles': [
-                {'vehicle': name, 'seconds': seconds, 'jobs': jobs.by_vehicle[name]}
-                for name, seconds in uses.items()
-            ],
-            'ways': jobs.ways,
-        }
+    with asking(path) as base:
+        waits = waits_of(base, day)
+    return {
+        'registered': registered,
+        'outcomes': {name: jobs.outcomes[name] for name in OUTCOMES},
+        'hours': jobs.hours,
+        'waited': middle(jobs.waited),
+        'took': middle(jobs.took),
+        'places': waits.places(),
+        'causes': waits.causes(),
+        'vehicles': [
+            {'vehicle': name, 'seconds': seconds, 'jobs': jobs.by_vehicle[name]}
+            for name, seconds in uses.items()
+        ],
+        'ways': jobs.ways,
+    }
+
+
+@contextlib.contextmanager
+def asking(path: str) -> Iterator[sqlite3.Connection]:
+    """A connection that only reads, whose rows have names."""
+    with reading(path) as base:
+        base.row_factory = sqlite3.Row
+        yield base
 
 
 def middle(seconds: list[float]) -> float | None:
@@ -140,41 +151,53 @@ def longest(ways: list[dict[str, Any]]) -> list[dict[str, Any]]:
     return sorted(ways, key=lambda way: (-way['seconds'], way['job']))[:WAYS]
 
 
-# The waits of vehicles that lie in a day, at least in part, each with its seconds in it. None that
-# lasts has begun more than a day before.
-WAITS = """
-  SELECT kind, name, holder, began,
-    86400 * (julianday(min(coalesce(ended, :end), :end)) - julianday(max(began, :begin))) AS seconds
-  FROM waits WHERE began < :end AND began >= :before AND coalesce(ended, :end) > :begin
-"""
+@dataclass
+class Waits:
+    """How often and for how many seconds vehicles waited, by place and by what the one did that
+    held it."""
+
+    rows: dict[tuple[str, str, str], tuple[int, float]]
+
+    def places(self) -> list[dict[str, Any]]:
+        """The nodes and edges for which was waited longest."""
+        found = self._by(lambda kind, name, _: (kind, name))
+        rows = [{'kind': kind, 'name': name, **row} for (kind, name), row in found.items()]
+        return sorted(rows, key=lambda row: (-row['seconds'], row['kind'], row['name']))[:PLACES]
+
+    def causes(self) -> list[dict[str, Any]]:
+        """What the others did when waits for them began, the longest waits first."""
+        found = self._by(lambda _, __, state: (state,))
+        rows = [{'state': state, **row} for (state,), row in found.items()]
+        return sorted(rows, key=lambda row: (-row['seconds'], row['state']))
+
+    def _by(self, key: Callable[[str, str, str], tuple[str, ...]]) -> dict[Any, dict[str, Any]]:
+        """The sums by a part of the names."""
+        found: dict[tuple[str, ...], tuple[int, float]] = {}
+        for names, (count, seconds) in self.rows.items():
+            before = found.get(key(*names), (0, 0.0))
+            found[key(*names)] = before[0] + count, before[1] + seconds
+        return {
+            name: {'count': count, 'seconds': round(seconds, 1)}
+            for name, (count, seconds) in found.items()
+        }
 
 
-def waits_values(day: Day) -> dict[str, str]:
-    """Returns the values of `WAITS`."""
-    return {**day.values, 'before': text_of(max(0, day.begin - LONGEST))}
-
-
-def places_of(base: sqlite3.Connection, day: Day) -> list[dict[str, Any]]:
-    """Returns the nodes and edges for which was waited longest."""
-    question = (
-        'SELECT kind, name, count(*) AS count, round(sum(seconds), 1) AS seconds'
-        f' FROM ({WAITS}) GROUP BY kind, name ORDER BY seconds DESC, kind, name LIMIT {PLACES}'
-    )
-    return [dict(row) for row in base.execute(question, waits_values(day))]
-
-
-def causes_of(base: sqlite3.Connection, day: Day) -> list[dict[str, Any]]:
-    """Returns for how long vehicles waited by what the one did that held the track, when the wait
-    began."""
+def waits_of(base: sqlite3.Connection, day: Day) -> Waits:
+    """Returns the waits that lie in a day, at least in part, each with its seconds in it. None that
+    lasts has begun more than a day before."""
     state = (
         'SELECT state FROM vehicle_uses WHERE vehicle = holder AND at <= began'
         ' ORDER BY at DESC, n DESC LIMIT 1'
     )
+    seconds = 'julianday(min(coalesce(ended, :end), :end)) - julianday(max(began, :begin))'
     question = (
-        f"SELECT coalesce(({state}), '{UNSEEN}') AS state, count(*) AS count,"
-        f' round(sum(seconds), 1) AS seconds FROM ({WAITS}) GROUP BY 1 ORDER BY 3 DESC, 1'
+        f"SELECT kind, name, coalesce(({state}), '{UNSEEN}') AS state, count(*) AS count,"
+        f' 86400 * sum({seconds}) AS seconds FROM waits WHERE began < :end AND began >= :before'
+        ' AND coalesce(ended, :end) > :begin GROUP BY 1, 2, 3'
     )
-    return [dict(row) for row in base.execute(question, waits_values(day))]
+    values = {**day.values, 'before': text_of(max(0, day.begin - LONGEST))}
+    found = base.execute(question, values)
+    return Waits({(row[0], row[1], row[2]): (row['count'], row['seconds']) for row in found})
 
 
 def uses_of(base: sqlite3.Connection, day: Day) -> dict[str, dict[str, float]]:

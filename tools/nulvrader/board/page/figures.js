@@ -151,6 +151,7 @@ async function show() {
   asked += 1;
   const mine = asked;
   location.replace(`#${day}`);
+  byId('told').replaceChildren(el('p', { class: 'day' }, say('figures.asking')));
   const [begin, end] = [beginning(day), beginning(day, 1)];
   const now = await figuresOf(begin, end);
   const before = now.fault ? now : await figuresOf(beginning(day, -1), begin);
