@@ -82,6 +82,7 @@ class Plant(Troubled):
     def hear(self, line: str) -> None:
         """A line of the dispatcher."""
         self.day.counts['times that a vehicle is silent'] += ': has sent no state for ' in line
+        self.day.counts['drives'] += ': drives to ' in line
         about = re.match(r'(\S+/\S+?):? (.*)', line)
         if about:
             self.heard[about.group(1)] = about.group(2)
