@@ -87,7 +87,7 @@ def charge(part: float) -> Callable[[Night], None]:
 
     def do(night: Night) -> None:
         one = vehicle(night, 3)
-        one.left = part * one.nature.battery
+        one.battery.left = part * one.nature.battery
         night.do(one.tell)
 
     return do

@@ -11,13 +11,14 @@ STREET, SIDING, TRACK = 8.0, 4.0, 10.0
 @dataclass
 class Floor:
     """A layout under construction. `bays` are the nodes with a station at the end of a siding of
-    their own, where a vehicle stands in nobody's way."""
+    their own, where a vehicle stands in nobody's way, and `chargers` such nodes without one."""
 
     nodes: list[str] = field(default_factory=list)
     edges: list[Edge] = field(default_factory=list)
     stations: list[Station] = field(default_factory=list)
     metres: dict[str, float] = field(default_factory=dict)
     bays: list[str] = field(default_factory=list)
+    chargers: list[str] = field(default_factory=list)
 
     def layout(self) -> Layout:
         return of_parts(self.nodes, self.edges, self.stations)
@@ -56,6 +57,22 @@ class Floor:
             if n:
                 self.stations.append(Station(node + 's', node, room))
             before = node
+
+    def charger(self, at: str) -> None:
+        """A siding with a charger at its end."""
+        node = at + 'c'
+        self.nodes.append(node)
+        self.two_way(at, node, SIDING)
+        self.chargers.append(node)
+
+    def with_chargers(self, count: int) -> Floor:
+        """The floor with so many chargers, where streets have no bay, all over it."""
+        with_bay = {bay[:-1] for bay in self.bays}
+        free = [node for node in self.nodes if node[1:].isdigit() and int(node[1:]) % 2]
+        free = [node for node in free if node not in with_bay and f'{node}x0' not in self.nodes]
+        for n in range(count):
+            self.charger(free[n * len(free) // count])
+        return self
 
     def single_track(self, front: str, a: str, b: str, length: int) -> None:
         """A track between two nodes that is passed both ways, with a passing place in its middle:

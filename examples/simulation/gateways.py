@@ -47,6 +47,7 @@ class Gateway:
         ] = {}  # when a message was last handed to the vehicle
         self.posted = 0
         self.words: TelemetrySender | None = None  # what tells a board what the vehicle says
+        self.batteries: dict[str, float] = {}  # what the dispatcher is told of batteries
 
     def serve(self, vehicle: Vehicle) -> None:
         """Begins to serve this vehicle."""
@@ -84,6 +85,7 @@ class Gateway:
         """Posts a state that the vehicle has made in this life of its own."""
         assert self.vehicle is not None
         self.posted += 1
+        self.batteries[self.vehicle.name] = state['batteryState']['batteryCharge']
         if self.words is not None:
             self.words.state(self.vehicle.name, json.dumps(state).encode())
         try:

@@ -51,12 +51,14 @@ class Grounds:
         | None,
         say: Callable[[str], None] = lambda line: None,
         words: TelemetrySender | None = None,
+        batteries: dict[str, float] | None = None,
     ) -> None:
         self.plan, self.served, self.make, self.words = plan, served, dispatcher, words
         self.chance = random.Random(plan.seed)
         self.clock = Clock(plan.pace)
         self._say = say
-        self.floor = FLOORS[plan.floor]()
+        self.batteries = {} if batteries is None else batteries  # as gateways have told them
+        self.floor = FLOORS[plan.floor]().with_chargers(plan.chargers)
         self.layout = self.floor.layout()
         # where others ask too, each call has a connection
         self.desk = (
@@ -126,7 +128,7 @@ class Grounds:
     def add_vehicle(self, key: VehicleKey, node: str) -> None:
         chance = random.Random(self.chance.random())
         gateway = Gateway(self.desk, self.clock, self.given, self.plan.line, chance, self.refused)
-        gateway.words = self.words
+        gateway.words, gateway.batteries = self.words, self.batteries
         vehicle = Vehicle(
             key,
             node,

@@ -9,7 +9,8 @@ from dataclasses import dataclass, replace
 class Nature:
     """How vehicles are: metres a second, how long an action takes (seconds, from .. to), how many
     of a thousand picks and drops fail, and how many metres a battery lasts, behind which the
-    vehicle is out of service for `service` seconds until it has another one.
+    vehicle is out of service for `service` seconds until it has another one. At a charger it gets
+    `charge` metres a second.
     """
 
     speed: float = 1.6
@@ -17,6 +18,7 @@ class Nature:
     failing: int = 10
     battery: float = 6000.0
     service: float = 90.0
+    charge: float = 8.0
 
 
 @dataclass(frozen=True)
@@ -72,7 +74,8 @@ CALM = Trouble(None, None, None, False, None)
 
 @dataclass(frozen=True)
 class Plan:
-    """What a plant is: its floor, how many vehicles, loads and jobs, and what goes wrong in it."""
+    """What a plant is: its floor, how many vehicles, loads, jobs and chargers, and what goes wrong
+    in it."""
 
     floor: str = 'large'
     vehicles: int = 20
@@ -94,6 +97,7 @@ class Plan:
     circle: float = 120.0  # where vehicles have waited for each other for longer, it is wrong
     limit: float = 200_000.0  # seconds until the plant is given up
     pace: float | None = None
+    chargers: int = 0
 
     def calm(self) -> Plan:
         """The same plant, in which nothing fails and nothing is killed."""

@@ -13,6 +13,8 @@ from .day import TIME_OVER, Day
 from .reasons import Killed, Mortal
 from .troubles import Troubled
 
+CHARGING = 5.0  # seconds between two looks at who stands at a charger
+
 
 class Plant(Troubled):
     """A plant over a desk's program and a file that is not there yet. `dispatcher` makes a
@@ -51,6 +53,8 @@ class Plant(Troubled):
         clock.every(2.0, self.served.supervise)
         if self.words is not None:
             clock.every(1.0, self.words.turn)
+        if self.plan.chargers:
+            clock.every(CHARGING, self.charge)
         if self.make is not None:
             clock.every(self.plan.every, self.dispatch, 8.0)
         troubles = (
@@ -78,6 +82,15 @@ class Plant(Troubled):
             self.day.counts['turns of the dispatcher'] += 1
         except Killed:
             self.dispatcher = None
+
+    def charge(self) -> None:
+        """Vehicles at chargers are charged."""
+        for name, vehicle in self.vehicles.items():
+            is_there = self.track.at.get(name) in self.floor.chargers
+            vehicle.stand_at_charger(CHARGING, is_there)
+            self.day.counts['seconds at chargers'] += (
+                int(CHARGING) if vehicle.battery.charging else 0
+            )
 
     def hear(self, line: str) -> None:
         """A line of the dispatcher."""

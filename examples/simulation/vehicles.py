@@ -8,6 +8,7 @@ from typing import Any
 
 from nulvrader.common.names import VehicleKey
 
+from .batteries import Battery
 from .clock import Clock
 from .plan import Nature
 from .truth import Given, Goods, Track, Wrong
@@ -53,7 +54,7 @@ class Vehicle:
         self.by_hand = False
         self.stopped = False  # whether its emergency stop is pressed
         self.faults: list[dict[str, Any]] = []  # errors that it has besides
-        self.left = nature.battery * chance.uniform(0.3, 1.0)  # metres
+        self.battery = Battery(nature.battery, nature.charge, chance.uniform(0.3, 1.0))
         self.turn = 0  # what was to happen before the last call of `stop` does not happen
         self.driven = 0.0
         self.last_moved = 0.0
@@ -203,7 +204,7 @@ class Vehicle:
             if status == 'WAITING':
                 self.act(action)
                 return
-        if self.left <= 0:
+        if self.battery.left <= 0:
             self.begin_service()
             return
         if self.is_released(self.sequence + 2):
@@ -222,7 +223,7 @@ class Vehicle:
 
     def arrive(self) -> None:
         self.driven += self.metres[self.track.on[self.name]]
-        self.left -= self.metres[self.track.on[self.name]]
+        self.battery.left -= self.metres[self.track.on[self.name]]
         self.node = self.track.arrive(self.name)
         self.sequence += 2
         self.last_moved = self.clock.now
@@ -280,10 +281,15 @@ class Vehicle:
         self.clock.after(self.nature.service, self.end_service)
 
     def end_service(self) -> None:
-        self.in_service, self.left = False, self.nature.battery
+        self.in_service, self.battery.left = False, self.nature.battery
         self.last_moved = self.clock.now
         self.tell()
         self.go_on()
+
+    def stand_at_charger(self, seconds: float, is_there: bool) -> None:
+        """So many seconds go by, in which its battery is charged if it stands at a charger."""
+        if self.battery.stand(seconds, is_there and self.is_done() and self.goes_on()):
+            self.tell()
 
     def press_stop(self, seconds: float) -> None:
         """Somebody presses its emergency stop, while it stands, and acknowledges it later."""
@@ -374,10 +380,7 @@ class Vehicle:
             ],
             'edgeStates': [],
             'actionStates': actions,
-            'batteryState': {
-                'batteryCharge': max(0, int(100 * self.left / self.nature.battery)),
-                'charging': False,
-            },
+            'batteryState': self.battery.state(),
             'operatingMode': self.mode(),
             'errors': self.errors(),
             'safetyState': {'eStop': 'MANUAL' if self.stopped else 'NONE', 'fieldViolation': False},

@@ -6,17 +6,16 @@ import os
 import signal
 import tempfile
 from collections import Counter
-from collections.abc import Callable
+from collections.abc import Callable, Mapping
 
 from nulvrader.desk.client import Desk
 from nulvrader.dispatch.dispatcher import Dispatcher
 from nulvrader.dispatch.shared import Settings
 from nulvrader.dispatch.judge import Judge
-from nulvrader.common.layouts import Layout
 
 from .day import Day
 from .desks import Served
-from .floors import FLOORS
+from .floors import FLOORS, Floor
 from .grounds import Dispatching
 from .others import FirstCome, NoLook
 from .plan import Plan
@@ -32,14 +31,24 @@ SILENT = 60.0
 Maker = Callable[[Desk, Callable[[str], None], Callable[[], float]], Dispatching]
 
 
-def maker(kind: str, layout: Layout) -> Maker:
-    """Makes dispatchers of a kind."""
+def maker(kind: str, floor: Floor, batteries: Mapping[str, float]) -> Maker:
+    """Makes dispatchers of a kind, who know the chargers of the floor and are told of batteries."""
+    layout, chargers = floor.layout(), {node: frozenset[str]() for node in floor.chargers}
 
     def make(desk: Desk, say: Callable[[str], None], clock: Callable[[], float]) -> Dispatching:
         if kind == 'whole':
             return FirstCome(desk, layout, say=say, clock=clock)
         judge = NoLook() if kind == 'free' else Judge()
-        return Dispatcher(desk, layout, Settings(silent=SILENT), judge=judge, say=say, clock=clock)
+        return Dispatcher(
+            desk,
+            layout,
+            Settings(silent=SILENT),
+            judge=judge,
+            chargers=chargers,
+            batteries=lambda known: {name: batteries[name] for name in known if name in batteries},
+            say=say,
+            clock=clock,
+        )
 
     return make
 
@@ -53,7 +62,10 @@ def run(program: str, plan: Plan, kind: str, say: Callable[[str], None] = lambda
     """A run over the program and a new file, which is removed at its end."""
     with tempfile.TemporaryDirectory(dir=folder()) as place:
         served = Served(program, os.path.join(place, 'plant.db'))
-        return Plant(plan, served, maker(kind, FLOORS[plan.floor]().layout()), say).run()
+        batteries: dict[str, float] = {}
+        floor = FLOORS[plan.floor]().with_chargers(plan.chargers)
+        make = maker(kind, floor, batteries)
+        return Plant(plan, served, make, say, batteries=batteries).run()
 
 
 def end_by_signal() -> None:

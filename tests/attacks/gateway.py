@@ -189,7 +189,7 @@ class StuckBoards(WithADesk):
     def test_what_is_no_board(self) -> None:
         """A path where there is nothing: it is said once."""
         self.serve(self.path('nothing'))
-        self.assertTrue(self.has_said('gateway', 'the board is not told'))
+        self.assertTrue(self.has_said('gateway', 'what vehicles say is not told'))
 
 
 @with_mosquitto

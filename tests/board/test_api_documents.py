@@ -14,6 +14,7 @@ from tests.support import board_document, proxies
 from tests.support.programs import ROOT
 
 from nulvrader.board.api.routes import FIXED, ROUTES
+from nulvrader.board.pages import DO, TOKEN
 
 DESK = os.path.join(ROOT, 'docs', 'openapi.json')
 METHODS = ('get', 'put', 'post', 'delete')
@@ -113,7 +114,8 @@ class OfTheBoard(Document):
 
     def test_the_paths_are_those_that_are_answered(self) -> None:
         paths = set(self.document['paths'])
-        found = {board_document.path_of(path, self.document) for path in FIXED}
+        fixed = (*FIXED, TOKEN, DO)
+        found = {board_document.path_of(path, self.document) for path in fixed}
         for route in ROUTES:
             one = [path for path in paths if route.path.fullmatch(re.sub(r'\{\w+\}', 'X.1', path))]
             self.assertEqual(len(one), 1, route)

@@ -5,7 +5,7 @@ import unittest
 
 from nulvrader.common.layouts import Edge, of_parts
 from nulvrader.dispatch.closures import Closures
-from nulvrader.dispatch.instructions import Instructions
+from nulvrader.common.instructions import Instructions
 from nulvrader.dispatch.judge import Judge
 from nulvrader.dispatch.parking import Parking
 from nulvrader.dispatch.routes import Ways

@@ -42,13 +42,17 @@ def can_all_finish(ways: Mapping[str, Way], walls: Collection[str]) -> bool:
     return False
 
 
+SMALL = 20_000
+"""So many small cases are looked at, or LOOKS of the environment, such as 100,000."""
+
+
 class AgainstAllStates(unittest.TestCase):
     def test_small_layouts(self) -> None:
         """With states enough the look says what the search of all states says. With few it never
         says yes where the search says no."""
         chance = random.Random(66)
-        counts = collections.Counter[str]()
-        for case in range(CASES):
+        counts, most = collections.Counter[str](), max(CASES, SMALL)
+        for case in range(most):
             ways, walls = random_case(chance)
             true = can_all_finish(ways, walls)
             counts['cases'] += 1
@@ -59,8 +63,8 @@ class AgainstAllStates(unittest.TestCase):
                 self.assertFalse(says and not true, (case, budget, ways, walls))
                 counts[f'refused, with {budget} states'] += true and not says
         print('look: ' + ', '.join('%s: %d' % one for one in counts.items()))
-        self.assertGreater(counts['all can finish'], CASES * 0.3)
-        self.assertGreater(CASES - counts['all can finish'], CASES * 0.1)
+        self.assertGreater(counts['all can finish'], most * 0.3)
+        self.assertGreater(most - counts['all can finish'], most * 0.1)
         self.assertLess(counts['refused, with 300 states'], counts['all can finish'] * 0.01)
 
     def test_who_finishes_can(self) -> None:

@@ -187,7 +187,7 @@ class Lines(OverADesk):
         self.told(ONE, 'b', 4, 'f')
         self.turn()
         lines = self.turn(15)
-        self.assertIn('KIT/0002 has not confirmed its order', lines)
+        self.assertIn('KIT/0002 has not confirmed its order, until a state of it does', lines)
         self.assertIn(
             'KIT/0001 waits at b, since on b-c it would block others, or be blocked', lines
         )

@@ -6,6 +6,7 @@ import shlex
 import signal
 import subprocess
 import sys
+import tempfile
 import unittest
 from typing import Any
 from unittest import mock
@@ -165,7 +166,11 @@ class Unit(unittest.TestCase):
     def test_its_line(self) -> None:
         """It is taken, and waits for a desk where none listens. Where it ends, the unit starts it
         again."""
+        folder = self.enterContext(tempfile.TemporaryDirectory())
         here = {'--desk': '127.0.0.1:1'}
+        for name in ('--words', '--waits'):
+            self.assertEqual(os.path.dirname(self.options[name]), '/run/desk-dispatch')
+            here[name] = os.path.join(folder, os.path.basename(self.options[name]))
         self.assertEqual(here.keys(), self.options.keys())
         words = [word for option in self.options for word in (option, here[option])]
         self.assertEqual(self.said('Restart'), 'always')

@@ -11,8 +11,8 @@ from tests.support.dispatching import OverADesk
 from tests.support.programs import ran
 
 from nulvrader.dispatch import instruct
-from nulvrader.dispatch.instructions import Instructions, Urgency, moment_of
-from nulvrader.dispatch.instructions_file import read_file
+from nulvrader.common.instructions import Instructions, Urgency, moment_of
+from nulvrader.common.instructions_file import read_file
 
 DUE = 1_798_122_600  # 2026-12-24T14:30:00Z
 

@@ -15,13 +15,20 @@ from unittest import mock
 
 from tests.support.programs import TOOLS, until
 
-from nulvrader.dispatch import instructions_file
-from nulvrader.dispatch.instructions import HEADER, Instructions, NoInstructions, Urgency, read
-from nulvrader.dispatch.instructions_file import Followed, changing, read_file
+from nulvrader.common import instructions_file
+from nulvrader.common.instructions import (
+    HEADER,
+    OLD_HEADER,
+    Instructions,
+    NoInstructions,
+    Urgency,
+    read,
+)
+from nulvrader.common.instructions_file import Followed, changing, read_file
 
 DUE = 1_798_122_600  # 2026-12-24T14:30:00Z
 FULL = Instructions(
-    {'J1': Urgency(DUE, 2), 'J2': Urgency(None, 9), 'J3': Urgency(0)},
+    {'J1': Urgency(DUE, 2), 'J2': Urgency(None, 9, 'T7', 3), 'J3': Urgency(0)},
     frozenset({'N7'}),
     frozenset({'N1-N2'}),
 )
@@ -31,8 +38,8 @@ class Text(unittest.TestCase):
     def test_what_it_is(self) -> None:
         self.assertEqual(
             FULL.text(),
-            f'{HEADER}\njob,J1,2026-12-24T14:30:00Z,2\njob,J2,,9\njob,J3,1970-01-01T00:00:00Z,\n'
-            'node,N7,,\nedge,N1-N2,,\n',
+            f'{HEADER}\njob,J1,2026-12-24T14:30:00Z,2,,\njob,J2,,9,T7,3\n'
+            'job,J3,1970-01-01T00:00:00Z,,,\nnode,N7,,,,\nedge,N1-N2,,,,\n',
         )
         self.assertEqual(read(FULL.text()), FULL)
         self.assertEqual(read(HEADER), Instructions())
@@ -56,9 +63,11 @@ class Text(unittest.TestCase):
             ('job,J1,2026-12-24T14:30:00+,', 'is no moment'),
             ('job,J0,,', 'is no job, node or edge'),
         ):
-            text = f'{HEADER}\njob,J0,,1\n{line}\n'
-            with self.subTest(line), self.assertRaisesRegex(NoInstructions, f'^line 3: .*({told})'):
-                read(text)
+            for header, more in ((HEADER, ',,'), (OLD_HEADER, '')):
+                text = f'{header}\njob,J0,,1{more}\n{line}{more}\n'
+                wrong = self.assertRaisesRegex(NoInstructions, f'^line 3: .*({told})')
+                with self.subTest(line, header=header), wrong:
+                    read(text)
         for text in ('', 'job,J1,,1\n', f'\ufeff{HEADER}\n'):
             with self.subTest(text), self.assertRaisesRegex(NoInstructions, '^line 1: the header'):
                 read(text)
@@ -155,8 +164,8 @@ class File(InAFolder):
         program = (
             'import resource, signal, sys\n'
             f'sys.path.insert(0, {TOOLS!r})\n'
-            'from nulvrader.dispatch.instructions import Instructions\n'
-            'from nulvrader.dispatch.instructions_file import changing\n'
+            'from nulvrader.common.instructions import Instructions\n'
+            'from nulvrader.common.instructions_file import changing\n'
             'signal.signal(signal.SIGXFSZ, signal.SIG_IGN)\n'
             'resource.setrlimit(resource.RLIMIT_FSIZE, (1000, 1000))\n'
             f'with changing({self.path!r}) as (before, write):\n'
@@ -174,8 +183,8 @@ class File(InAFolder):
         program = (
             'import sys\n'
             f'sys.path.insert(0, {TOOLS!r})\n'
-            'from nulvrader.dispatch.instructions import read\n'
-            'from nulvrader.dispatch.instructions_file import changing\n'
+            'from nulvrader.common.instructions import read\n'
+            'from nulvrader.common.instructions_file import changing\n'
             'texts = [read(text) for text in sys.argv[1:]]\n'
             'print("begun", flush=True)\n'
             'while True:\n'

@@ -6,7 +6,7 @@ import unittest
 
 from nulvrader.desk.client import Job
 from nulvrader.dispatch.choose import Chooser
-from nulvrader.dispatch.instructions import MOST_PRIORITY, Instructions, NoInstructions, Urgency
+from nulvrader.common.instructions import MOST_PRIORITY, Instructions, NoInstructions, Urgency
 from nulvrader.dispatch.job_book import LEAD, JobBook, Waiting
 from nulvrader.dispatch.judge import Judge
 from nulvrader.dispatch.routes import MOST_EDGES, Ways

@@ -10,7 +10,7 @@ from tests.support.desks import Serving
 
 from nulvrader.desk.client import Desk
 from nulvrader.dispatch.dispatcher import Dispatcher
-from nulvrader.dispatch.instructions import Instructions
+from nulvrader.common.instructions import Instructions
 from nulvrader.dispatch.shared import Settings
 from nulvrader.dispatch.snapshot import take
 from nulvrader.common.layouts import read_layout

@@ -72,13 +72,13 @@ class Programs(unittest.TestCase):
 
     def test_the_help_of_the_scripts(self) -> None:
         """It has the comment at the head of the script, and in it an example; a port that is none
-        is told."""
+        is told, and so is an address."""
         paths = [
             os.path.join(EXAMPLES, name)
             for name in sorted(os.listdir(EXAMPLES))
             if name.endswith('.sh')
         ]
-        self.assertEqual(len(paths), 1)
+        self.assertEqual(len(paths), 2)
         for path in paths:
             head = matched(r'\A#!/bin/sh\n((?:#.*\n)+)', text_of(path))[1]
             for word in ('--help', '-h'):
@@ -89,9 +89,9 @@ class Programs(unittest.TestCase):
             for word in ('port', '80x', '-1'):
                 done = subprocess.run([path, word], capture_output=True, text=True, timeout=600)
                 self.assertEqual((done.returncode, done.stdout), (2, ''))
-                self.assertIn(
-                    f'{word} is no port: write {os.path.relpath(path, ROOT)}', done.stderr
-                )
+                what = 'port' if 'transport' in path else 'address'
+                told = f'{word} is no {what}: write {os.path.relpath(path, ROOT)}'
+                self.assertIn(told, done.stderr)
 
     @over_sockets
     def test_a_free_port(self) -> None:

@@ -16,7 +16,7 @@ DEFAULTS = {
     'NULVRADER_NAME': 'desk.example',
     'NULVRADER_UNITS': 'board dispatch',
     'NULVRADER_BACKUPS': '/var/backups/nulvrader',
-    'NULVRADER_INSTRUCTIONS': '/var/lib/nulvrader/dispatch/instructions.csv',
+    'NULVRADER_INSTRUCTIONS': '/var/lib/nulvrader/instructions/instructions.csv',
 }
 LINE = re.compile(r'(NULVRADER_[A-Z_]+)=(.*)')
 

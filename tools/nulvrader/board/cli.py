@@ -16,12 +16,14 @@ from .alarms import Alarms
 from .api.routes import Api
 from .api.watch import Watch
 from .api.watched_desk import DeskMeter, WatchedDesk
-from .poller import Asker, Followers
+from .poller import Asker, Followers, ShownFile
 from .commands import Commands
+from .dispatcher_words import DispatcherWords
 from .fleet import Fleet
 from .shown_layout import ShownLayout
 from .command_log import CommandLog
 from .guard import Guard
+from .instructed import Instructed
 from .journal import log
 from .news import News
 from .pages import Board, Pages
@@ -55,6 +57,10 @@ def words(text: str) -> argparse.ArgumentParser:
     add('--socket', metavar='FILE', help=socket_text)
     words_text = 'a socket on which gateways tell it what vehicles say (gateway --board)'
     add('--words', metavar='FILE', help=words_text)
+    waits_text = 'a file in which a dispatcher writes why vehicles and jobs wait (dispatch --waits)'
+    add('--waits', metavar='FILE', help=waits_text)
+    told_text = 'what people say to the dispatcher, in its file, which this board shows and changes'
+    add('--instructions', metavar='FILE', help=told_text)
     add('--days', type=int, default=30, help='how many days it keeps changes (default: 30)')
     silent = 'a vehicle of which no state has come for so long is shown as silent (default: 10)'
     add('--silent', type=arguments.seconds, default=10.0, metavar='SECONDS', help=silent)
@@ -125,7 +131,9 @@ def commands_of(
     is told."""
     if said.read_only:
         return None
-    commands = Commands(desk, drawn, news, CommandLog(said.db, news.shown.event), asker)
+    commands = Commands(
+        desk, drawn, news, CommandLog(said.db, news.shown.event), asker, said.instructions
+    )
     try:
         commands.tell_left()
     except NoRecord as fault:
@@ -144,7 +152,7 @@ def serve(said: argparse.Namespace) -> bool:
         plan = plan_of(said)
         drawn = ShownLayout(news, plan)
         heard = heard_of(said)
-        follow = functools.partial(followers_of, news, said.silent, said.late)
+        follow = functools.partial(followers_of, news, said)
         asker = Asker(desks[0], news, drawn, follow, said.days, heard)
         commands = commands_of(said, desks[1], drawn, news, asker)
         api = Api(record, Watch(said.db, news.shown, asker, meter))
@@ -173,13 +181,18 @@ def serve(said: argparse.Namespace) -> bool:
     return told
 
 
-def followers_of(news: News, silent: float, late: float) -> Followers:
+def followers_of(news: News, said: argparse.Namespace) -> Followers:
     """Those that take the answers, by what the record has."""
-    stores, fleet = Stores(news), Fleet(news, int(silent * 1000))
-    keeper, alarms = Keeper(news), Alarms(news, int(late * 60_000))
+    stores, fleet = Stores(news), Fleet(news, int(said.silent * 1000))
+    keeper, alarms = Keeper(news), Alarms(news, int(said.late * 60_000))
     uses = Uses(news)
+    files: list[ShownFile] = []
+    if said.waits is not None:
+        files.append(DispatcherWords(news.shown, said.waits))
+    if said.instructions is not None:
+        files.append(Instructed(news.shown, said.instructions))
     news.commit()
-    return Followers(stores, fleet, Same(news.record), keeper, alarms, uses)
+    return Followers(stores, fleet, Same(news.record), keeper, alarms, uses, files)
 
 
 def run(line: list[str], text: str) -> int:

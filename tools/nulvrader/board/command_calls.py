@@ -31,6 +31,11 @@ def done(name: str, **values: object) -> Done:
     return [Line(f'done.{name}', values)]
 
 
+def nothing(desk: Desk, said: Values) -> Done:
+    """Asks the desk for nothing, of a command that is for the dispatcher."""
+    return []
+
+
 def register(desk: Desk, said: Values) -> Done:
     desk.register_load(said['load'], said.get('station') or None)
     return done('register', load=said['load'])

@@ -7,7 +7,7 @@ from dataclasses import dataclass
 
 from ..desk.client import Desk
 from . import command_calls as calls
-from . import order_previews, previews
+from . import instructed, order_previews, previews
 from .messages import Line, say
 from .previews import Look
 from .scene import Scene
@@ -19,7 +19,8 @@ Values = Mapping[str, str]
 @dataclass(frozen=True)
 class Field:
     """What a command needs: `kind` is what the page offers for it: `name`, `load`, `station`,
-    `job`, `vehicle`, `vehicles`, `node`, `release`, `update`, `stops` or `file`. `given` makes a
+    `job`, `vehicle`, `vehicles`, `node`, `thing` (a node or an edge), `release`, `update`,
+    `moment`, `priority`, `place`, `stops` or `file`. `given` makes a
     value to begin with."""
 
     name: str
@@ -41,12 +42,14 @@ class Field:
 @dataclass(frozen=True)
 class Kind:
     """A kind of command: what it needs, the look at what it will do, and how it is done, with what
-    to say then. `adds` is what it needs besides, which the look adds."""
+    to say then. `adds` is what it needs besides, which the look adds. One that has `tell` is not
+    for the desk: it changes the file at a path, by which the dispatcher is told."""
 
     fields: tuple[Field, ...]
     look: Callable[[Scene, Values], Look]
     do: Callable[[Desk, Values], list[Line]]
     adds: tuple[Field, ...] = ()
+    tell: Callable[[str, Desk, Values], list[Line]] | None = None
 
 
 def new_name(front: str) -> Callable[[], str]:
@@ -58,6 +61,7 @@ VEHICLE, NODE, LOAD = Field('vehicle', 'vehicle'), Field('node', 'node'), Field(
 VEHICLES, REFERENCE = Field('vehicles', 'vehicles'), Field('ref', 'name')
 STATION = Field('station', 'station', optional=True)  # without a name it is the checking place
 RELEASE = Field('edges', 'release', given=lambda: order_previews.FREE)
+THING = Field('thing', 'thing')
 OPEN_ORDER = Field('order', 'name'), Field('update', 'update')
 COMMANDS: dict[str, Kind] = {
     'order': Kind(
@@ -87,5 +91,19 @@ COMMANDS: dict[str, Kind] = {
         calls.add_job,
     ),
     'stop': Kind((Field('job', 'job'),), previews.stop_job, calls.stop_job),
+    'urgency': Kind(
+        (
+            Field('job', 'job'),
+            Field('due', 'moment', optional=True),
+            Field('priority', 'priority', optional=True),
+            Field('truck', 'name', optional=True),
+            Field('place', 'place', optional=True),
+        ),
+        previews.urge,
+        calls.nothing,
+        tell=instructed.urge,
+    ),
+    'close': Kind((THING,), previews.close, calls.nothing, tell=instructed.close),
+    'open': Kind((THING,), previews.reopen, calls.nothing, tell=instructed.reopen),
     'stocktake': Kind((Field('file', 'file'),), stocktake, calls.stocktake, (REFERENCE,)),
 }

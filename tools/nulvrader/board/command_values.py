@@ -6,6 +6,7 @@ from collections.abc import Mapping
 from dataclasses import dataclass
 from typing import Any
 
+from ..common.instructions import MOST_PLACE, MOST_PRIORITY, due_time
 from ..common.layouts import Layout
 from ..common.names import BadName, VehicleKey, is_name, quoted
 from ..common.tables import BODY
@@ -17,7 +18,12 @@ from .messages import Line
 NAME = 80  # characters of a name that is told
 CUT = 40  # and of another value
 EDGES, UPDATES = 999, 4_294_967_295  # the largest numbers
-MOST = {'release': EDGES, 'update': UPDATES}
+MOST = {
+    'release': EDGES,
+    'update': UPDATES,
+    'priority': MOST_PRIORITY,
+    'place': MOST_PLACE,
+}
 
 
 class NoCommand(ValueError):
@@ -77,6 +83,10 @@ def check(field: Field, text: str, layout: Layout) -> None:
         raise wrong('station', station=printable(text, NAME))
     if field.kind == 'node' and text not in layout.nodes:
         raise wrong('node', node=printable(text, NAME))
+    if field.kind == 'thing':
+        check_thing(text, layout)
+    if field.kind == 'moment':
+        check_moment(text)
     if field.kind == 'file':
         check_file(text)
 
@@ -107,6 +117,20 @@ def check_stops(text: str) -> None:
     for stop in stops:
         if not is_name(stop.job):
             raise wrong('name', text=quoted(stop.job), what='job')
+
+
+def check_thing(text: str, layout: Layout) -> None:
+    kind, _, name = text.partition(' ')
+    known = {'node': layout.nodes, 'edge': layout.edges}.get(kind, ())
+    if name not in known:
+        raise wrong('thing', thing=printable(text, NAME))
+
+
+def check_moment(text: str) -> None:
+    try:
+        due_time(text)
+    except ValueError:
+        raise wrong('moment', text=f'{text[:CUT]!a}') from None
 
 
 def check_file(text: str) -> None:

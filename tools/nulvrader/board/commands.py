@@ -7,6 +7,7 @@ from collections.abc import Mapping
 from dataclasses import dataclass, replace
 from typing import Any, Protocol
 
+from ..common.instructions import NoInstructions
 from ..common.names import BadValue
 from ..common.text import shown as printable
 from ..desk.client import Desk, NoAnswer, Refused
@@ -17,6 +18,7 @@ from .command_log import Command, CommandLog, Outcome
 from .command_values import NAME, AskedCommand, read_command, wrong
 from .desk_faults import advice_of, fault_of, refusal_of
 from .events import ABOUT, Cause, Event
+from .instructed import NotSaid
 from .shown_layout import ShownLayout
 from .messages import Line, has, say, told, words_of
 from .news import News
@@ -25,7 +27,9 @@ from .record import NoRecord
 from .scene import Scene
 
 TEXT = 20_000  # characters of what is wrong with a value
-MORE = ('order', 'stops', 'edges', 'update', 'ref', 'vehicles')  # values that an entry says besides
+INSTRUCTED = ('due', 'priority', 'truck', 'place', 'thing')
+# values that an entry says besides
+MORE = ('order', 'stops', 'edges', 'update', 'ref', 'vehicles', *INSTRUCTED)
 
 
 class NotSent(Exception):
@@ -98,11 +102,20 @@ def event_of(given: Command, cause: Cause, answered: Answered) -> Event:
 
 class Commands:
     """Looks at commands and carries them out, each over a connection of its own. Threads may call
-    it at a time."""
+    it at a time. `instructions` is the path of the file by which the dispatcher is told; without
+    one there are no commands for that."""
 
-    def __init__(self, desk: Desk, drawn: ShownLayout, news: News, log: CommandLog, asker: Hurried):
+    def __init__(
+        self,
+        desk: Desk,
+        drawn: ShownLayout,
+        news: News,
+        log: CommandLog,
+        asker: Hurried,
+        instructions: str | None = None,
+    ):
         self.desk, self.drawn, self.shown, self.calls = desk, drawn, news.shown, news.calls
-        self.log, self.asker = log, asker
+        self.log, self.asker, self.instructions = log, asker, instructions
 
     def listed(self) -> list[dict[str, Any]]:
         """The commands, as the page makes its forms of them."""
@@ -122,11 +135,23 @@ class Commands:
                 ],
             }
             for name, command in COMMANDS.items()
+            if self.has(name)
         ]
+
+    def has(self, name: str) -> bool:
+        """Whether there is such a command here."""
+        return COMMANDS[name].tell is None or self.instructions is not None
+
+    def _read(self, said: Mapping[str, Any], *, is_whole: bool) -> AskedCommand:
+        """The command that was said. `NoCommand` where it is none."""
+        asked = read_command(said, self.drawn.layout, is_whole)
+        if not self.has(asked.name):
+            raise wrong('command')
+        return asked
 
     def look(self, said: Mapping[str, Any]) -> dict[str, Any]:
         """What a command will do, with the values for `do`."""
-        asked = read_command(said, self.drawn.layout, is_whole=False)
+        asked = self._read(said, is_whole=False)
         look = COMMANDS[asked.name].look(Scene(self.drawn.layout, self.shown), asked.values)
         desk = self.shown.get('desk', '')
         down = [Line('look.down')]
@@ -142,7 +167,7 @@ class Commands:
     def do(self, said: Mapping[str, Any], who: str) -> dict[str, Any]:
         """Carries a command out. What is told says whether it was done, what is to be said of it,
         and what to do. `NotSent` where it can't be recorded, or another desk answers."""
-        asked = read_command(said, self.drawn.layout, is_whole=True)
+        asked = self._read(said, is_whole=True)
         if asked.values.get('edges') in order_previews.WAYS:
             raise wrong('edges')
         desk = self.shown.get('desk', '')
@@ -165,9 +190,14 @@ class Commands:
         return answered.told()
 
     def _sent(self, asked: AskedCommand) -> Answered:
-        """Sends a command to the desk. What came of it."""
+        """Sends a command to the desk, or tells the dispatcher. What came of it."""
+        kind = COMMANDS[asked.name]
         try:
-            return Answered(True, COMMANDS[asked.name].do(self.desk, asked.values), [])
+            if kind.tell is not None and self.instructions is not None:
+                return Answered(True, kind.tell(self.instructions, self.desk, asked.values), [])
+            return Answered(True, kind.do(self.desk, asked.values), [])
+        except NotSaid as fault:
+            return Answered(False, [fault.line], [])
         except Refused as refusal:
             line = refusal_of(refusal)
             says = [Line('refused', {'words': line.words(), 'says': [line.told()]})]
@@ -176,6 +206,10 @@ class Commands:
             return unanswered(asked, fault)
         except BadValue as fault:
             why = Line('wrong.other', {'why': printable(str(fault), TEXT)})
+            return Answered(False, [why], [Line('advice.unsent')])
+        except (NoInstructions, OSError) as fault:
+            words = str(fault) if isinstance(fault, NoInstructions) else str(fault.strerror)
+            why = Line('wrong.instructions', {'fault': printable(words, TEXT)})
             return Answered(False, [why], [Line('advice.unsent')])
 
     def _end(self, given: Command, answered: Answered, done: bool | None) -> None:

@@ -27,6 +27,7 @@ from .page_state import Shown
 from .workers import Busy, Workers
 
 FOLDER = os.path.join(os.path.dirname(__file__), 'page')
+TOKEN, DO = '/api/token', '/do'  # paths for programs that give commands
 CSV = 'text/csv; charset=utf-8'
 TYPES = {
     '.html': 'text/html; charset=utf-8',
@@ -103,6 +104,8 @@ class Pages:
         """What a request is answered, which was not refused."""
         path, _, query = head.target.partition('?')
         try:
+            if path == TOKEN and head.method != 'POST':
+                return self._token(head)
             if self.board.api.has(path):
                 return await self.board.api.answer(head)
             if head.method == 'POST':
@@ -120,6 +123,12 @@ class Pages:
             return self._page(path, asked)
         except Busy:
             return refused(503, Line('page.busy'))
+
+    def _token(self, head: Head) -> Reply:
+        """The token that a program needs for its commands, where it may give any."""
+        if not self._may_command(head):
+            return refused(403, Line('page.nobody'))
+        return told({'token': self.board.guard.token})
 
     def _page(self, path: str, asked: dict[str, str]) -> Reply:
         if path == '/data':
@@ -173,7 +182,7 @@ class Pages:
             return refused(400, 'A command is a JSON object.')
         try:
             if path == '/may':
-                return told({})
+                return told({'instructs': commands.instructions is not None})
             if path == '/look':
                 return told(await self.looks.run(functools.partial(commands.look, said)))
             do = commands.take if path == '/take' else commands.do

@@ -8,9 +8,9 @@ import functools
 import sqlite3
 import threading
 import time
-from collections.abc import Callable, Mapping
+from collections.abc import Callable, Mapping, Sequence
 from dataclasses import dataclass
-from typing import Any, TypeVar
+from typing import Any, Protocol, TypeVar
 
 from ..desk.client import Desk, NoAnswer, NotADesk, Refused
 from ..common.names import VehicleKey
@@ -70,11 +70,18 @@ class TimedQuestion:
         self.due = max(begun + self.every, ended + SHARE * (ended - begun))
 
 
+class ShownFile(Protocol):
+    """A file that is shown."""
+
+    def turn(self) -> None:
+        """Looks at it, where that is due."""
+
+
 @dataclass
 class Followers:
     """Those that take the answers, and what tells whether these are of the same desk; `keeper`
     takes what vehicles say, where that is heard, `alarms` looks for what needs a person, and
-    `uses` keeps what vehicles do."""
+    `uses` keeps what vehicles do. `files` are those of the dispatcher."""
 
     stores: Stores
     fleet: Fleet
@@ -82,6 +89,7 @@ class Followers:
     keeper: Keeper | None = None
     alarms: Alarms | None = None
     uses: Uses | None = None
+    files: Sequence[ShownFile] = ()
 
 
 class Ended(Exception):
@@ -131,6 +139,7 @@ class Asker(threading.Thread):
         self.stores, self.fleet, self.same = followers.stores, followers.fleet, followers.same
         self.keeper, self.alarms = followers.keeper, followers.alarms
         self.uses = followers.uses
+        self.files = followers.files
 
     def hurry(self) -> None:
         """A command was carried out: all that may have changed is asked for at once."""
@@ -155,6 +164,8 @@ class Asker(threading.Thread):
     def _ask_on(self) -> None:
         while not self.over.is_set():
             self.hear()
+            for file in self.files:
+                file.turn()
             if self.alarms is not None:
                 self.look_for_alarms(self.alarms)
             begun = time.monotonic()

@@ -224,3 +224,30 @@ def _check_no_job(scene: Scene, look: Look, load: str) -> None:
 def _check_not_pending(look: Look, vehicle: Mapping[str, object] | None) -> None:
     pending = str(vehicle['pending']) if vehicle and vehicle['pending'] else None
     look.warn(pending is not None, 'pending', action=pending)
+
+
+def urge(scene: Scene, said: Mapping[str, str]) -> Look:
+    """What it is to say how urgent a job is."""
+    look, job = Look(dict(said)), said['job']
+    look.say('urgency', job=job)
+    look.say('urgency.none')
+    known = scene.job(job)
+    look.warn(known is None, 'nojob', job=job)
+    look.warn(known is not None and known['phase'] != 'waiting', 'urgency.late', job=job)
+    return look
+
+
+def close(scene: Scene, said: Mapping[str, str]) -> Look:
+    """What it is to close a node or an edge."""
+    look = Look(dict(said))
+    look.say('close', thing=said['thing'])
+    look.warn(scene.shown.get('closed', said['thing']) is not None, 'close.is')
+    return look
+
+
+def reopen(scene: Scene, said: Mapping[str, str]) -> Look:
+    """What it is to open a node or an edge."""
+    look = Look(dict(said))
+    look.say('open', thing=said['thing'])
+    look.warn(scene.shown.get('closed', said['thing']) is None, 'open.is')
+    return look

@@ -75,7 +75,8 @@ class Chooser:
     ) -> Proposal | None:
         """The first order that may be started: for a vehicle that is in the way of others, else for
         a job and a vehicle that is near, where it counts how urgent the job is."""
-        first, others = waiting[:JOBS], waiting[JOBS:]
+        free = [one for one in waiting if not one.behind]
+        first, others = free[:JOBS], free[JOBS:]
         jobs = [
             *first,
             *(others[(self._turn * JOBS + n) % len(others)] for n in range(min(JOBS, len(others)))),
@@ -154,7 +155,12 @@ class Chooser:
         ]
         found = first
         while len(found.jobs) < seen.free():
-            others = [other for other in waiting[:MORE] if other not in found.jobs]
+            names = {job.job for job in found.jobs}
+            others = [
+                other
+                for other in waiting[:MORE]
+                if other.job not in names and other.behind <= names
+            ]
             longer = self._longer(seen, stops, others, found, traffic)
             if longer is None:
                 break
@@ -190,7 +196,8 @@ class Chooser:
         self, start: str, stops: list[At], other: Waiting, way: Sequence[str]
     ) -> tuple[int, list[At]] | None:
         """The stops with those of another job among them where the way is shortest, and how many
-        edges more it is than the two ways apart, a number below 0. None where it is too long."""
+        edges more it is than the two ways apart, a number below 0. None where it is too long. It is
+        put down behind those of its truck that come before it."""
         pick, drop = (
             At(stop, self.ways.node_of(name))
             for stop, name in zip(_stops(other), (other.origin, other.target))
@@ -200,8 +207,10 @@ class Chooser:
             return None
         most = min(len(way) + self.detour, len(way) + alone - 1)
         best: tuple[int, list[At]] | None = None
+        before = (n for n, at in enumerate(stops, 1) if at.stop.job in other.behind)
+        least = max(before, default=0)  # behind the drops of those that come before it
         for i in range(len(stops) + 1):
-            for j in range(i, len(stops) + 1):
+            for j in range(max(i, least), len(stops) + 1):
                 tried = [*stops[:i], pick, *stops[i:j], drop, *stops[j:]]
                 legs = [
                     self.ways.hops(a, b)

@@ -11,10 +11,13 @@ from collections.abc import Callable, Mapping, Sequence
 
 from ..common.layouts import Layout
 from ..desk.client import Desk, NoAnswer, NotADesk, Refused
+from .batteries import Batteries, untold
+from .chargers import Chargers, Marks
+from .charging import Charging
 from .choose import Chooser
 from .closures import Closures
 from .drives import Drives
-from .instructions import Instructions, NoInstructions
+from ..common.instructions import Instructions, NoInstructions
 from .job_book import Waiting
 from .judge import Judge
 from .lines import Lines
@@ -30,12 +33,16 @@ from .standstill import Standstill, told_of
 from .traffic import Still, Traffic
 from .waits import Waits
 
+NO_CHARGERS: Chargers = {}
+
 
 class Dispatcher:
     """A dispatcher over a desk and its layout. `say` takes its lines, `alarm` those which say that
     what answers is no desk, or one with another layout, and `clock` tells seconds that only grow.
     `parking` has the nodes where vehicles without an order are to stand, if these are given.
-    `instructions` returns what people say besides, and `wall` the time that their clocks have."""
+    `chargers` are those of the layout, with the marks of a battery, and `batteries` returns what
+    vehicles tell of theirs. `instructions` returns what people say besides, and `wall` the time
+    that their clocks have."""
 
     def __init__(
         self,
@@ -45,6 +52,9 @@ class Dispatcher:
         *,
         judge: Judge | None = None,
         parking: Sequence[str] | None = None,
+        chargers: Chargers = NO_CHARGERS,
+        marks: Marks = Marks(),
+        batteries: Batteries = untold,
         instructions: Callable[[], Instructions] = Instructions,
         say: Callable[[str], None] = print,
         alarm: Callable[[str], None] | None = None,
@@ -64,9 +74,12 @@ class Dispatcher:
         self.chooser = Chooser(ways, self.judge, settings.detour)
         self._releases = Releases(self.shared)
         self._orders = Orders(self.shared, self.chooser, self._releases)
-        self._drives = Drives(self.shared, Parking(ways, self.judge, parking), self._releases)
+        self._charging = Charging(ways, self.judge, chargers, marks)
+        self._batteries = batteries
+        places = Parking(ways, self.judge, parking, chargers)
+        self._drives = Drives(self.shared, places, self._charging, self._releases)
         self._standstill = Standstill(self.shared)
-        self._told = Waits(self.shared, self._out_of_use)
+        self._told = Waits(self.shared, self._takes_no_job)
         self._read = instructions
         self._instructions: Instructions | None = None  # the last ones that could be read
         self._plans: Sequence[Plan] = ()
@@ -92,6 +105,11 @@ class Dispatcher:
         J1`."""
         return self._told.reasons
 
+    def reasons(self) -> Mapping[str, str]:
+        """The same, for people: also why a vehicle without an order takes no job, and of each job
+        what ends its wait."""
+        return self._told.all
+
     def shut_in(self) -> Mapping[str, tuple[float, str]]:
         """The vehicles that others shut in, as of the last turn: since when, and why."""
         return self._standstill.shut_in.told()
@@ -114,18 +132,34 @@ class Dispatcher:
         self.judge.begin_turn()
         self._standstill.shut_in.begin_turn(turn.traffic)
         self.chooser.begin_turn(now)
+        batteries = self._batteries(seen.vehicles.keys())
+        self._charging.begin_turn(seen.vehicles, batteries, bool(self.book.waiting), now)
         released = self._releases.release(turn)
-        idle = {
-            name: one
-            for name, one in seen.vehicles.items()
-            if one.order is None and self._out_of_use(one, now) is None
-        }
-        started = self._orders.start(turn, idle)
-        driven = self._drives.park(turn, idle)
-        self._standstill.look_deeper(turn, bool(released or started or driven))
+        moved, able = self._set_going(turn)
+        self._standstill.look_deeper(turn, bool(released or moved))
         self._standstill.untangle(turn)
         self._plans = self.judge.plans(turn.traffic)
-        self._told.tell(turn, idle)
+        self._told.tell(turn, able)
+
+    def _set_going(self, turn: Turn) -> tuple[bool, dict[str, Seen]]:
+        """Gives vehicles without an order one: a job, or a drive. Whether any has got one, and
+        those to which a job could still be given."""
+        idle = {
+            name: one
+            for name, one in turn.seen.vehicles.items()
+            if one.order is None and self._out_of_use(one, turn.now) is None
+        }
+        self._drives.begin_turn(turn, idle)
+        charged = self._drives.charge(turn, idle)
+        able = {name: one for name, one in idle.items() if self._charging.rests(name) is None}
+        taken = set(able)
+        started = self._orders.start(turn, able)
+        for name in taken - able.keys():
+            del idle[name]
+        driven = self._drives.charge_idle(turn, idle) or self._drives.park(turn, idle)
+        return bool(charged or started or driven), {
+            name: one for name, one in able.items() if name in idle
+        }
 
     def _look(self) -> Snapshot:
         """What the desk tells now."""
@@ -197,6 +231,10 @@ class Dispatcher:
         if why is not None:
             return re.split('[:;]', why)[0]
         return None if seen.free() > 0 else f'carries {" ".join(seen.loads)} in no job'
+
+    def _takes_no_job(self, seen: Seen, now: float) -> str | None:
+        """Why a vehicle without an order gets no job, in short, or None."""
+        return self._out_of_use(seen, now) or self._charging.rests(seen.name)
 
     def _traffic(self, seen: Snapshot, now: float, instructions: Instructions) -> Traffic:
         ways, still, parked = {}, {}, {}

@@ -2,9 +2,8 @@
 from __future__ import annotations
 
 import argparse
-import datetime
+import functools
 import os
-import re
 import sys
 from collections.abc import Callable, Collection, Mapping, Sequence
 from dataclasses import replace
@@ -14,13 +13,20 @@ from ..common.names import BadName, checked, natural
 from ..common.text import shown
 from ..desk import arguments
 from ..desk.client import Desk, NoAnswer, Refused
-from .instructions import MOST_PRIORITY, Instructions, NoInstructions, Urgency, moment_of
-from .instructions_file import changing, read_file
+from ..common.instructions import (
+    MOST_PLACE,
+    MOST_PRIORITY,
+    Instructions,
+    NoInstructions,
+    Urgency,
+    due_time,
+    moment_of,
+)
+from ..common.instructions_file import changing, read_file
 
 PLACE = 'NULVRADER_INSTRUCTIONS'  # the variable with the path of the file
 DONE, UNKNOWN, WRONG, NO_ANSWER = range(4)
 LINE = 500  # the most characters of a line about what is wrong
-DAY = datetime.timedelta(days=1)
 
 
 class Unknown(Exception):
@@ -46,49 +52,40 @@ def named(text: str) -> str:
 
 
 def due(text: str) -> int | None:
-    """A moment in seconds since 1970: `14:30` is the nearest one, before or after now."""
-    if text == 'none':
-        return None
-    now = datetime.datetime.now()
+    """A moment in seconds since 1970, or None for `none`."""
     try:
-        if re.fullmatch('[0-9]{1,2}:[0-9]{2}', text):
-            hour, _, minute = text.partition(':')
-            today = now.replace(hour=int(hour), minute=int(minute), second=0, microsecond=0)
-            found = min((today - DAY, today, today + DAY), key=lambda one: abs(one - now))
-        elif re.fullmatch(r'[0-9]{4}-[0-9]{2}-[0-9]{2}[ T][0-9:]{5,8}(Z|[+-][0-9:]{4,5})?', text):
-            found = datetime.datetime.fromisoformat(text)
-        else:
-            raise ValueError
-        seconds = int(found.timestamp())
-        if seconds < 0:
-            raise ValueError
-        return seconds
-    except (ValueError, OverflowError, OSError):
-        raise argparse.ArgumentTypeError(
-            f'{shown(text, 40)} is no time such as 14:30 or 2026-12-24T08:00, nor none'
-        ) from None
+        return None if text == 'none' else due_time(text)
+    except ValueError as fault:
+        raise argparse.ArgumentTypeError(f'{fault} or 2026-12-24T08:00, nor none') from None
+
+
+def truck(text: str) -> str | None:
+    """The name of a truck, or None for `none`."""
+    return None if text == 'none' else named(text)
+
+
+SAID = ('due', 'priority', 'truck', 'place')
+"""What may be said of a job."""
 
 
 def run_job(words: Sequence[str], text: str) -> int:
     """The command `job`."""
     parser = entry.parser(text)
     parser.add_argument('job', nargs='?', type=named, metavar='JOB')
-    parser.add_argument(
-        '--due', type=due, default=argparse.SUPPRESS, metavar='TIME', help='or none'
-    )
-    parser.add_argument(
-        '--priority',
-        type=int,
-        choices=range(MOST_PRIORITY + 1),
-        default=argparse.SUPPRESS,
-        metavar='NUMBER',
-        help=f'0, as without it, to {MOST_PRIORITY}, which comes first',
-    )
+    add = functools.partial(parser.add_argument, default=argparse.SUPPRESS)
+    add('--due', type=due, metavar='TIME', help='or none')
+    priorities = range(MOST_PRIORITY + 1)
+    help_text = f'0, as without it, to {MOST_PRIORITY}, which comes first'
+    add('--priority', type=int, choices=priorities, metavar='NUMBER', help=help_text)
+    add('--truck', type=truck, metavar='NAME', help='the truck that it is for, or none')
+    places = range(1, MOST_PLACE + 1)
+    help_text = 'its place there, from 1: it comes behind all with smaller ones'
+    add('--place', type=int, choices=places, metavar='NUMBER', help=help_text)
     add_file(parser)
     arguments.add_desk(parser)
     said = parser.parse_args(words)
-    if said.job is None and (hasattr(said, 'due') or hasattr(said, 'priority')):
-        parser.error('--due and --priority are of a job: name it')
+    if said.job is None and any(hasattr(said, name) for name in SAID):
+        parser.error('--due, --priority, --truck and --place are of a job: name it')
     desk = _desk_of(parser, said)
     return _done(parser, said, lambda: _job(said, desk))
 
@@ -102,7 +99,7 @@ def _desk_of(parser: argparse.ArgumentParser, said: argparse.Namespace) -> Desk:
 
 
 def _job(said: argparse.Namespace, desk: Desk) -> None:
-    if not hasattr(said, 'due') and not hasattr(said, 'priority'):
+    if not any(hasattr(said, name) for name in SAID):
         jobs = read_file(said.instructions).jobs
         for job, one in sorted(jobs.items(), key=lambda row: natural(row[0])):
             if said.job in (None, job):
@@ -113,20 +110,31 @@ def _job(said: argparse.Namespace, desk: Desk) -> None:
         live = desk.jobs()
         if said.job not in live:
             raise Unknown(f'the desk has no live job {said.job}')
-        jobs = {job: one for job, one in before.jobs.items() if job in live}
-        one = jobs.pop(said.job, Urgency())
-        one = Urgency(getattr(said, 'due', one.due), getattr(said, 'priority', one.priority))
-        if one != Urgency():
-            jobs[said.job] = one
-        write(replace(before, jobs=jobs))
+        one = _said_of(said, before.jobs.get(said.job, Urgency()))
+        write(before.with_job(said.job, one, live))
     print(_told_urgency(said.job, one))
+
+
+def _said_of(said: argparse.Namespace, before: Urgency) -> Urgency:
+    """How urgent a job is, as the options say; what they do not name stays."""
+    values = {name: getattr(said, name, getattr(before, name)) for name in SAID}
+    if values['truck'] is None:
+        if getattr(said, 'place', None):
+            raise NoInstructions(f'{said.job} is of no truck: name it by --truck')
+        values['place'] = 0
+    elif not values['place']:
+        raise NoInstructions(
+            f'{said.job} has no place in truck {values["truck"]}: say it by --place'
+        )
+    return Urgency(**values)
 
 
 def _told_urgency(job: str, one: Urgency) -> str:
     when = 'not due'
     if one.due is not None:
         when = f'due {moment_of(one.due).astimezone().strftime("%Y-%m-%d %H:%M %Z")}'
-    return f'{job}: {when}, priority {one.priority}'
+    where = '' if one.truck is None else f', place {one.place} of truck {one.truck}'
+    return f'{job}: {when}, priority {one.priority}{where}'
 
 
 def run_close(words: Sequence[str], text: str) -> int:

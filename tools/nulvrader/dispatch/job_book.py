@@ -1,11 +1,11 @@
 """The jobs that wait for a vehicle, since when, and how urgent they are."""
 from __future__ import annotations
 
-from collections.abc import Mapping
+from collections.abc import Iterator, Mapping, Sequence
 from dataclasses import dataclass, replace
 
 from ..desk.client import Job
-from .instructions import Urgency
+from ..common.instructions import Urgency
 
 AGE = 120.0
 """A job that has waited for so many seconds counts as an edge nearer, and for n times as many as
@@ -23,7 +23,9 @@ priority: a job that has waited for 45 minutes comes before all that are added t
 @dataclass(frozen=True)
 class Waiting:
     """A job that waits: its load, the stations where that stands and where it leads, and the moment
-    in seconds since which it has been seen to wait. `due` is a moment of the same clock."""
+    in seconds since which it has been seen to wait. `due` is a moment of the same clock. `behind`
+    has the live jobs of its truck that come before it, and `pulled` the earliest due time and the
+    highest priority of those behind it."""
 
     job: str
     load: str
@@ -32,12 +34,17 @@ class Waiting:
     since: float = 0.0
     due: float | None = None
     priority: int = 0
+    truck: str | None = None
+    behind: frozenset[str] = frozenset()
+    pulled: tuple[float | None, int] = (None, 0)
 
     def nearer(self, now: float) -> float:
-        """As how many edges nearer it counts."""
-        found = (max(0.0, now - self.since) / AGE) ** 2 + STEP * self.priority
-        if self.due is not None:
-            found += DUE * min(2.0, max(0.0, 1 + (now - self.due) / LEAD))
+        """As how many edges nearer it counts: as those of its truck that wait for it do."""
+        priority = max(self.priority, self.pulled[1])
+        found = (max(0.0, now - self.since) / AGE) ** 2 + STEP * priority
+        due = _earlier(self.due, self.pulled[0])
+        if due is not None:
+            found += DUE * min(2.0, max(0.0, 1 + (now - due) / LEAD))
         return found
 
 
@@ -62,7 +69,9 @@ class JobBook:
             for job in jobs.values()
             if job.phase == 'waiting'
         ]
-        found = [_urged(one, (urgent or {}).get(one.job), now - wall) for one in found]
+        said = {name: one for name, one in (urgent or {}).items() if name in jobs}
+        found = [_urged(one, said.get(one.job), now - wall) for one in found]
+        found = in_their_order(found, said)
         self.waiting = {
             one.job: one for one in sorted(found, key=lambda one: (-one.nearer(now), one.since))
         }
@@ -76,6 +85,49 @@ def _urged(one: Waiting, urgency: Urgency | None, ahead: float) -> Waiting:
     """A job with its due time and its priority, where the book's clock is so much ahead."""
     urgency = urgency or Urgency()
     due = None if urgency.due is None else urgency.due + ahead
-    if (one.due, one.priority) == (due, urgency.priority):
+    if (one.due, one.priority, one.truck) == (due, urgency.priority, urgency.truck):
         return one
-    return replace(one, due=due, priority=urgency.priority)
+    return replace(one, due=due, priority=urgency.priority, truck=urgency.truck)
+
+
+def _earlier(one: float | None, other: float | None) -> float | None:
+    """The earlier of two moments that may be missing."""
+    return min((due for due in (one, other) if due is not None), default=None)
+
+
+def in_their_order(waiting: Sequence[Waiting], said: Mapping[str, Urgency]) -> list[Waiting]:
+    """The jobs, each with those of its truck that come before it: the live ones with the next
+    smaller place. `said` has what was said of live jobs."""
+    trucks: dict[str, dict[int, set[str]]] = {}
+    for job, urgency in said.items():
+        if urgency.truck is not None:
+            trucks.setdefault(urgency.truck, {}).setdefault(urgency.place, set()).add(job)
+    by_name = {one.job: one for one in waiting}
+    found: dict[str, Waiting] = {}
+    for places in trucks.values():
+        found.update(_of_a_truck(places, by_name))
+    return [found.get(one.job) or _alone(one) for one in waiting]
+
+
+def _of_a_truck(
+    places: Mapping[int, set[str]], waiting: Mapping[str, Waiting]
+) -> Iterator[tuple[str, Waiting]]:
+    """The jobs of a truck that wait, by their names. `places` has its live jobs."""
+    numbers = sorted(places)
+    before = {place: frozenset(places[less]) for less, place in zip(numbers, numbers[1:])}
+    pulled: tuple[float | None, int] = (None, 0)
+    for place in reversed(numbers):
+        row = [waiting[job] for job in places[place] if job in waiting]
+        for one in row:
+            behind = before.get(place, frozenset())
+            yield one.job, replace(one, behind=behind, pulled=pulled)
+        due, priority = pulled
+        for one in row:
+            due, priority = _earlier(due, one.due), max(priority, one.priority)
+        pulled = due, priority
+
+
+def _alone(one: Waiting) -> Waiting:
+    """A job of no truck."""
+    is_alone = not one.behind and one.pulled == (None, 0)
+    return one if is_alone else replace(one, behind=frozenset(), pulled=(None, 0))

@@ -15,6 +15,9 @@ from .traffic import Traffic
 
 NONE_FREE = 'no vehicle is free'
 
+SHOWN = 3
+"""So many jobs are named that come before one."""
+
 
 class Orders:
     """Gives orders by what a chooser proposes."""
@@ -41,7 +44,7 @@ class Orders:
         standing = _standing(turn.traffic) if idle else {}
         for job, one in book.waiting.items():
             why = self._why_job_waits(one, standing, turn, idle) if idle else NONE_FREE
-            turn.reasons['job ' + job] = why
+            turn.reasons['job ' + job] = behind_others(one) if one.behind else why
         return count
 
     def _give(self, found: Proposal, vehicle: Seen, edges: int) -> bool:
@@ -100,7 +103,8 @@ class Orders:
         what is closed."""
         ways, closed = self.shared.ways, turn.closed
         if ways.way(ends) is None:
-            return f'its way has more than {MOST_EDGES} edges, which no order may have'
+            why = f'its way has more than {MOST_EDGES} edges, which no order may have'
+            return f'{why}, until it is stopped and its load carried by two jobs'
         if not closed.names:
             return None
         found = (ways.way((seen.row.node, *ends)) for seen in idle.values())
@@ -111,6 +115,14 @@ class Orders:
         return (
             f'the ways of the free vehicles lead over {what}, which is closed, until that is opened'
         )
+
+
+def behind_others(one: Waiting) -> str:
+    """Why a job waits that comes behind others of its truck."""
+    names = sorted(one.behind, key=natural)
+    more = f' and {len(names) - SHOWN} more' if len(names) > SHOWN else ''
+    told = f'{", ".join(names[:SHOWN])}{more} of truck {one.truck}'
+    return f'it comes behind {told}, until these are done or stopped'
 
 
 def _standing(traffic: Traffic) -> dict[str, list[str]]:

@@ -119,11 +119,21 @@ def _turned(layout: Layout) -> Layout:
 
 
 class Parking:
-    """The parking places of a layout, and which vehicles are to go there."""
+    """The parking places of a layout, and which vehicles are to go there. Nobody parks on the nodes
+    of `besides`, where no places are given."""
 
-    def __init__(self, ways: Ways, judge: Judge, places: Iterable[str] | None = None) -> None:
+    def __init__(
+        self,
+        ways: Ways,
+        judge: Judge,
+        places: Iterable[str] | None = None,
+        besides: Collection[str] = (),
+    ) -> None:
         self.ways, self.judge = ways, judge
-        self.places = tuple(chosen(ways.layout) if places is None else places)
+        if places is None:
+            free = chosen(ways.layout)
+            places = [node for node in free if node not in besides] or free
+        self.places = tuple(places)
 
     def propose(
         self,
@@ -142,7 +152,7 @@ class Parking:
         wanted = {*drops, *picks}
         first = [one for one in idle if one.row.node in drops or traffic.in_the_way(one.name)]
         for seen in [*first, *(one for one in idle if self._is_to_go(one, since, picks, now))]:
-            found = self._drive(seen, wanted, picks, traffic)
+            found = self.away(seen, wanted, picks, traffic)
             if found is not None:
                 return found
         return None
@@ -154,9 +164,10 @@ class Parking:
         is_at_place = seen.row.node in self.places and seen.row.node not in picks
         return not is_at_place and now - since.get(seen.name, now) >= IDLE
 
-    def _drive(
+    def away(
         self, seen: Seen, wanted: Collection[str], picks: Sequence[str], traffic: Traffic
     ) -> Drive | None:
+        """A drive of a vehicle to the best place that is not wanted, or None."""
         ends = {way[-1] for way in traffic.all_ways().values()}
         taken = ends | traffic.walls | set(wanted)
         rows = []

@@ -28,7 +28,9 @@ class Releases:
                 continue
             if not vehicle.is_confirmed():
                 if vehicle.edges == 0:
-                    turn.reasons[vehicle.name] = 'has not confirmed its order'
+                    turn.reasons[
+                        vehicle.name
+                    ] = 'has not confirmed its order, until a state of it does'
                 continue
             edges, why = self._edges_for(vehicle, turn, ahead - vehicle.edges)
             if edges and self._advance(vehicle, edges, turn):

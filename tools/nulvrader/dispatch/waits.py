@@ -10,12 +10,13 @@ from .snapshot import Seen
 
 
 class Waits:
-    """What waits, as of the last turn. `out_of_use` says why a vehicle without an order gets
-    none."""
+    """What waits, as of the last turn. `out_of_use` says why a vehicle without an order gets none.
+    `all` has that too, of each such vehicle, and of each job what ends its wait."""
 
     def __init__(self, shared: Shared, out_of_use: Callable[[Seen, float], str | None]) -> None:
         self.shared, self.out_of_use = shared, out_of_use
         self.reasons: Mapping[str, str] = {}
+        self.all: Mapping[str, str] = {}
         self._late: frozenset[str] = frozenset()
 
     def tell(self, turn: Turn, idle: Mapping[str, Seen]) -> None:
@@ -31,6 +32,20 @@ class Waits:
                 self.shared.say(f'{name} {waits}{why}')
         self._tell_late(turn)
         self._tell_none_free(turn, idle)
+        self.all = self._all(turn)
+
+    def _all(self, turn: Turn) -> dict[str, str]:
+        """Why each vehicle and job waits, and what ends that."""
+        found = {
+            name: self.out_of_use(one, turn.now)
+            for name, one in turn.seen.vehicles.items()
+            if one.order is None
+        }
+        is_any = len(found) < len(turn.seen.vehicles)
+        end = 'until one has ended its order' if is_any else 'until one may take a job again'
+        said = {name: why for name, why in found.items() if why is not None} | turn.reasons
+        free = f'{NONE_FREE}, {end}'
+        return {name: free if why == NONE_FREE else why for name, why in said.items()}
 
     def _tell_late(self, turn: Turn) -> None:
         """Says of each job once that it is late and still waits."""

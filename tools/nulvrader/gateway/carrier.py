@@ -3,7 +3,7 @@ from __future__ import annotations
 
 import json
 import time
-from collections.abc import Iterable
+from collections.abc import Iterable, Sequence
 from typing import Protocol
 
 from ..desk.answers import refused
@@ -46,13 +46,13 @@ class Gateway:
         *,
         front: str = FRONT,
         instant_list: str = 'actions',
-        telemetry: TelemetrySender | None = None,
+        telemetry: Sequence[TelemetrySender] = (),
         write: Say = say,
         clock: Clock = time.monotonic,
     ) -> None:
         self.desk, self.broker, self.inbox = desk, broker, inbox
         self.front, self.instant_list, self.clock = front, instant_list, clock
-        self.telemetry = telemetry  # what sends a board the telemetry, if there is a board
+        self.telemetry = telemetry  # what sends boards and dispatchers the telemetry
         self.log = Log(write, clock)
         self.fleet = DeskFleet(desk, vehicles, self.log, clock)
         self.polled: dict[str, None] = {}  # the vehicles whose messages are fetched, in their turn
@@ -70,8 +70,8 @@ class Gateway:
         """Receives what has come, posts the states that wait, and fetches the messages of each
         vehicle once."""
         self.receive()
-        if self.telemetry is not None:
-            self.telemetry.turn()
+        for sender in self.telemetry:
+            sender.turn()
         try:
             self.refresh_vehicles()
             for vehicle in list(self.waiting):
@@ -106,8 +106,8 @@ class Gateway:
         self.waiting.pop(vehicle, None)
         self.named.pop(vehicle, None)
         self.old.pop(vehicle, None)
-        if self.telemetry is not None:
-            self.telemetry.forget(vehicle)
+        for sender in self.telemetry:
+            sender.forget(vehicle)
         for topic in (ORDER, INSTANT):
             self.owed.pop((vehicle, topic), None)
         self.log.once('vehicles', f'{vehicle}: the desk does not have this vehicle')
@@ -129,8 +129,8 @@ class Gateway:
     def receive_state(self, message: Message) -> None:
         """Adds a state to those that wait for the desk."""
         state = VehicleState.read(message.data)
-        if self.telemetry is not None:
-            self.telemetry.state(message.vehicle, message.data)
+        for sender in self.telemetry:
+            sender.state(message.vehicle, message.data)
         overtaken = self.waiting.setdefault(message.vehicle, StateQueue()).add(state)
         if overtaken:
             self.tally.count(OVERTAKEN, message.vehicle, overtaken)
@@ -147,8 +147,8 @@ class Gateway:
         if state not in CONNECTION:
             raise ValueError('no connectionState')
         self.log.of(message.vehicle, 'connection', f'{message.vehicle}: {state}')
-        if self.telemetry is not None:
-            self.telemetry.connection(message.vehicle, str(state))
+        for sender in self.telemetry:
+            sender.connection(message.vehicle, str(state))
 
     def ask(
         self, vehicle: str, method: str, topic: str, body: bytes | None = None

@@ -59,8 +59,11 @@ def parser_of(text: str) -> argparse.ArgumentParser:
     add('--vehicle', type=vehicle, action='append', default=[], metavar='VEHICLE', help=help_text)
     help_text = 'the name of the list in an instantActions message'
     add('--instant-list', default='actions', metavar='NAME', help=help_text)
-    help_text = 'the socket of a board (its --words), which is told what vehicles say of themselves'
-    add('--board', metavar='FILE', help=help_text)
+    help_text = (
+        'a socket on which a board or a dispatcher (their --words) is told what vehicles say of'
+    )
+    help_text += ' themselves; may be repeated'
+    add('--board', metavar='FILE', action='append', default=[], help=help_text)
     help_text = 'seconds from one turn to the next (default: 1)'
     add('--every', type=arguments.seconds, default=1.0, metavar='SECONDS', help=help_text)
     return line
@@ -97,7 +100,7 @@ def gateway_of(args: argparse.Namespace) -> Gateway:
     except (NoLibrary, OSError, ValueError) as fault:
         raise NotStarted(str(fault)) from None
     vehicles = [str(key) for key in args.vehicle]
-    telemetry = None if args.board is None else TelemetrySender(args.board, Log(say))
+    telemetry = [TelemetrySender(path, Log(say)) for path in args.board]
     return Gateway(
         desk,
         broker,

@@ -1,8 +1,8 @@
-"""Sends a board what vehicles say that the desk does not keep: operating mode, safety, errors,
-battery, position, failed actions and the connection.
+"""Sends a board, or a dispatcher, what vehicles say that the desk does not keep: operating mode,
+safety, errors, battery, position, failed actions and the connection.
 
-A board listens on a socket for datagrams (docs/BOARD_API.md, *What vehicles say*). Sending never
-waits: what the board does not take is sent in a later turn, as the last state of the vehicle has it
+Each listens on a socket for datagrams (docs/BOARD_API.md, *What vehicles say*). Sending never
+waits: what is not taken there is sent in a later turn, as the last state of the vehicle has it
 then. The memory is bounded by the number of vehicles."""
 from __future__ import annotations
 
@@ -88,7 +88,7 @@ class Unsent:
 
 
 class TelemetrySender:
-    """Sends the telemetry of the desk's vehicles to the board at a socket."""
+    """Sends the telemetry of the desk's vehicles to the board or the dispatcher at a socket."""
 
     def __init__(self, path: str, log: Log, clock: Clock = time.monotonic) -> None:
         self.path, self.log, self.clock = path, log, clock
@@ -137,13 +137,14 @@ class TelemetrySender:
         return True
 
     def _send(self, data: bytes) -> bool:
-        """Sends a datagram. False where the board can't take it."""
+        """Sends a datagram. False where it can't be taken."""
         try:
             self.socket.sendto(data, self.path)
         except OSError as fault:
             why = fault.strerror or type(fault).__name__
             is_full = isinstance(fault, BlockingIOError)
-            self.log.of('board', 'words', None if is_full else f'the board is not told: {why}')
+            line = f'what vehicles say is not told to {self.path}: {why}'
+            self.log.of('board', 'words', None if is_full else line)
             return False
         self.log.of('board', 'words', None)
         return True

@@ -23,6 +23,7 @@ const store = new Store();
 const view = {
   layout: null, // until the desk has told it
   mayCommand: false,
+  instructs: false, // whether the dispatcher is told by commands
   picked: null,
   tab: 'vehicles',
 
@@ -207,7 +208,9 @@ async function askWhether(again) {
     const page = new DOMParser().parseFromString(await (await fetch('./')).text(), 'text/html');
     token = page.querySelector('meta[name=token]').content;
   }
-  view.mayCommand = token ? !(await post('may', {})).fault : false;
+  const told = token ? await post('may', {}) : { fault: true };
+  view.mayCommand = !told.fault;
+  view.instructs = view.mayCommand && Boolean(told.instructs);
   document.body.classList.toggle('may', view.mayCommand);
 }
 

@@ -105,6 +105,7 @@ export class Vehicles {
         el('p', { class: 'line' }, part('span', 'said'), part('span', 'far')),
         el('div', { class: 'bar', role: 'img' }, part('i', 'seen'), part('i', 'base'))),
       part('p', 'acts'),
+      part('p', 'why'),
       part('ul', 'saying'),
       part('p', 'measures'),
       part('p', 'rest bad'),
@@ -124,6 +125,8 @@ export class Vehicles {
     });
     this.changeOrder(card, vehicle, store.get('way', name));
     this.changeWords(card, vehicle, store.get('said', name), store.now());
+    const why = store.get('why', name);
+    text(card.querySelector('.why'), why ? say('why.dispatcher', { why }) : '');
     const { rest } = vehicle;
     const { edge, node } = rest ?? {};
     text(card.querySelector('.rest'), say('vehicles.rest', { edge, node }));

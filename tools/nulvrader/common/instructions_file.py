@@ -12,7 +12,7 @@ import os
 import time
 from collections.abc import Callable, Iterator
 
-from ..common import plain_files
+from . import plain_files
 from .instructions import Instructions, NoInstructions, read
 
 PATIENCE = 20.0

@@ -1,0 +1,42 @@
+"""Shows why vehicles and jobs wait, as the dispatcher writes it in a file."""
+from __future__ import annotations
+
+import time
+from collections.abc import Callable
+
+from ..common.reasons import OLD, NoReasons, Reasons, read_file
+from .journal import log
+from .page_state import Shown
+
+EVERY = 1.0  # seconds from one look at the file to the next
+
+
+class DispatcherWords:
+    """What a dispatcher says, put where pages are told of it. A file that is missing, wrong or old
+    says nothing; what is wrong is a line of the log, once."""
+
+    def __init__(self, shown: Shown, path: str, wall: Callable[[], float] = time.time) -> None:
+        self.shown, self.path, self.wall = shown, path, wall
+        self.due = 0.0
+        self.fault: str | None = None
+
+    def turn(self) -> None:
+        """Looks at the file, where that is due."""
+        if time.monotonic() < self.due:
+            return
+        self.due = time.monotonic() + EVERY
+        waits = self._read().waits
+        for name in self.shown.all('why').keys() - waits.keys():
+            self.shown.put('why', name, None)
+        for name, why in waits.items():
+            self.shown.put('why', name, why)
+
+    def _read(self) -> Reasons:
+        try:
+            found, fault = read_file(self.path), None
+        except NoReasons as wrong:
+            found, fault = Reasons(), str(wrong)
+        if fault is not None and fault != self.fault:
+            log(f'the dispatcher tells nothing: {fault}')
+        self.fault = fault
+        return found if abs(self.wall() - found.at) <= OLD else Reasons()
