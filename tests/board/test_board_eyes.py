@@ -59,7 +59,8 @@ class Eyes(Page):
         self.assertEqual(found, {'pale': [], 'nameless': [], 'small': [], 'twice': []}, where)
 
     def look_at(self, page: Browser, where: tuple[Any, ...]) -> None:
-        """Each list, a card that is open, and a command, its look and its answer."""
+        """Each list, a card that is open, a command, its look and its answer, and the figures of a
+        day."""
         until(lambda: 'KIT/0001' in page.text('.vehicle-card'), 'the page')
         for tab in TABS:
             page.click(f'#tab-{tab}')
@@ -74,6 +75,9 @@ class Eyes(Page):
         page.click('#command .main')
         until(lambda: page.text('#command .answer'), 'the answer')
         self.check(page, (*where, 'an answer'))
+        page.open(f'http://127.0.0.1:{self.board.port}/figures.html')
+        until(lambda: 'KIT/0001' in page.text('main'), 'the figures')
+        self.check(page, (*where, 'figures'))
 
     def check_all(self, language: str, dark: bool) -> None:
         for size in SIZES:
