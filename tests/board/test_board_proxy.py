@@ -47,8 +47,8 @@ class BoardByNginx(unittest.TestCase):
         self.assertEqual(self.ask('GET /board/', None).status, 401)
         for user, status in (('anna', 200), ('otto', 200), ('gate', 403)):
             files = 'main.js', 'messages.json', 'record?load=L1', 'record.csv', 'alarm.svg'
-            files += 'figures.html', 'figures.css', 'day?begin=1&end=9'
-            for path in ('', 'data?run=&since=0', 'data?vehicle=KIT%2F0001', *files):
+            figures = 'figures.html', 'figures.css', 'day?begin=1&end=9'
+            for path in ('', 'data?run=&since=0', 'data?vehicle=KIT%2F0001', *files, *figures):
                 self.assertEqual(self.ask(f'GET /board/{path}', user).status, status, (user, path))
         lines = (f'X-Board-Token: {self.token()}', f'Origin: {self.proxy.origin(True)}')
         command = {'command': 'leave', 'values': {'load': 'L1', 'ref': 'R1'}}
