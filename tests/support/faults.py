@@ -169,6 +169,9 @@ def scripts() -> dict[str, Script]:
         'two loads in one order': Script(
             lines(SCRIPTS['a vehicle for two carries two loads in one order'])
         ),
+        'a drive': Script(
+            lines(SCRIPTS['a drive takes a load along; a job in each of its phases'])
+        ),
         'a request that is cut': Script(CUT, cut=True),
     }
 
