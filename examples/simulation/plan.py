@@ -100,7 +100,12 @@ class Plan:
     chargers: int = 0
 
     def calm(self) -> Plan:
-        """The same plant, in which nothing fails and nothing is killed."""
+        """The same plant, in which nothing fails and nothing is killed. No vehicle is silent there,
+        so something moves within a minute."""
         return replace(
-            self, trouble=CALM, line=Line(lost=0, twice=0, late=0.4), nature=Nature(failing=0)
+            self,
+            trouble=CALM,
+            line=Line(lost=0, twice=0, late=0.4),
+            nature=Nature(failing=0),
+            follows=60.0,
         )

@@ -2,6 +2,7 @@
 datagrams, and over the built program."""
 from __future__ import annotations
 
+import contextlib
 import json
 import os
 import re
@@ -104,6 +105,24 @@ class OverASocket(unittest.TestCase):
         self.until({'KIT/0001': 50.0})
         self.assertEqual(self.told.of(()), {})
         self.assertEqual(self.told.of(KNOWN), {})
+
+    def test_a_flood(self) -> None:
+        """One sends as fast as it can, in the names of many: each turn ends at once, little is
+        kept, and once it is over words are taken as before."""
+        self.socket.setblocking(False)
+        ends, sent, longest = time.monotonic() + 3, 0, 0.0
+        while time.monotonic() < ends:
+            for n in range(200):
+                with contextlib.suppress(BlockingIOError):
+                    sent += self.socket.sendto(words('5', f'{n:05d}'), self.path) > 0
+            begun = time.process_time()
+            self.assertEqual(self.told.of(KNOWN), {})
+            longest = max(longest, time.process_time() - begun)
+        self.assertGreater(sent, 400)
+        self.assertLess(longest, 1.0)
+        self.socket.setblocking(True)
+        self.socket.sendto(words('50'), self.path)
+        self.until({'KIT/0001': 50.0})
 
 
 @over_sockets

@@ -2,13 +2,22 @@
 
 import { button, el, keyed, part, set, show, text } from './dom.js';
 import { faultOf, say } from './messages.js';
-import { clock, day, span } from './words.js';
+import { clock, day, ordered, span } from './words.js';
 
 const NAME = 'board.name'; // what is kept of who looks here, where no proxy names them
 const SOUND = 'board.sound';
 const MANY = 6; // alarms of a kind, beyond which only the first are seen
 const FIRST = 4;
 const TITLE = say('page.title');
+
+/** By the kind of an alarm the command that ends the order of its vehicle. */
+const HELP = { astray: 'place', silent: 'place', unready: 'cancel', 'unready.unknown': 'cancel' };
+
+/** The jobs of a vehicle's order. */
+function jobsOf(vehicle, store) {
+  const jobs = [...store.kind('job')].filter(([, job]) => job.phase === 'riding' && job.vehicle === vehicle);
+  return ordered(jobs.map(([name]) => name));
+}
 
 /** What the browser keeps of this page, or nothing where it keeps none. */
 function kept(name) {
@@ -127,7 +136,8 @@ export class Alarms {
     return el('li', {},
       button('', () => this.pick(this.rows.get(row.key)), { class: 'plain what' }),
       part('span', 'since'), part('span', 'todo'), part('span', 'taken'),
-      button('', take, { class: 'take' }));
+      button('', take, { class: 'take' }), part('span', 'jobs'),
+      button('', () => this.help(this.rows.get(row.key)), { class: 'take help' }));
   }
 
   change(item, row, store) {
@@ -139,7 +149,7 @@ export class Alarms {
     }
     (this.rows ??= new Map()).set(row.key, row);
     set(item, 'class', `${row.level}${row.taken ? ' taken' : ''}`);
-    const [what, since, todo, taken, take] = item.children;
+    const [what, since, todo, taken, take, riding, help] = item.children;
     text(what, this.wordsOf(row));
     text(since, row.since ? say('since', { clock: clock(row.since), span: span(store.now() - row.since) }) : '');
     set(since, 'title', row.since ? day(row.since) : null);
@@ -147,6 +157,16 @@ export class Alarms {
     text(taken, row.taken ? say('alarms.taken', { who: row.taken.who, clock: clock(row.taken.at) }) : '');
     text(take, say(row.taken ? 'alarms.leave' : 'alarms.take'));
     show(take, Boolean(row.n) && this.view.mayCommand);
+    const command = row.n ? HELP[row.kind] : null;
+    const jobs = command ? jobsOf(row.values.vehicle, store) : [];
+    text(riding, jobs.length ? say('alarms.jobs', { jobs: jobs.join(', ') }) : '');
+    text(help, command ? say(`do.${command}`) : '');
+    show(help, jobs.length > 0 && this.view.mayCommand);
+  }
+
+  /** Opens the command that frees the jobs of a vehicle which does not go on. */
+  help(row) {
+    this.view.command(HELP[row.kind], { vehicle: row.values.vehicle });
   }
 
   /** What is so. */
