@@ -41,6 +41,14 @@ class BoardByNginx(unittest.TestCase):
         self.assertGreater(len(said[1]), 20)
         return said[1].decode()
 
+    def test_the_token_for_programs(self) -> None:
+        """A dispatcher alone gets it, by which it tells the dispatcher what is urgent."""
+        self.assertEqual(self.ask('GET /board/api/token', None).status, 401)
+        for user in ('otto', 'gate'):
+            self.assertEqual(self.ask('GET /board/api/token', user, 'X-User: anna').status, 403)
+        told = self.ask('GET /board/api/token', 'anna')
+        self.assertEqual((told.status, json.loads(told.body)), (200, {'token': self.token()}))
+
     def test_roles(self) -> None:
         """Readers and dispatchers may look, a dispatcher alone may give commands, and is named in
         the record of them. A gateway gets nothing."""
