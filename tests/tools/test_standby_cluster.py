@@ -118,6 +118,7 @@ class VolumeWords(unittest.TestCase):
         self.assertEqual(options['client.strict-locks'], 'on')
         self.assertEqual(options['cluster.quorum-type'], 'auto')
         self.assertEqual(options['performance.write-behind'], 'off')
+        self.assertEqual(options['cluster.post-op-delay-secs'], '0')
 
     def test_a_volume(self) -> None:
         bricks = [f'm{one}:/brick' for one in (1, 2, 3)]

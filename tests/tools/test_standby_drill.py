@@ -23,6 +23,7 @@ with mock.patch.object(sys, 'path', [BENCH, *sys.path]):
     desks: Any = importlib.import_module('machines.desks')
     drill: Any = importlib.import_module('machines.drill')
     cluster: Any = importlib.import_module('machines.cluster')
+    volume: Any = importlib.import_module('machines.volume')
     watchdog: Any = importlib.import_module('machines.watchdog')
 Answered, Term = records.Answered, desks.Term
 
@@ -126,6 +127,45 @@ class Machine:
         """Resets it."""
         self.has_rebooted = False
         self.ended.set()
+
+
+class Marks(unittest.TestCase):
+    """A copy that differs from another one, in which nothing says so, is told."""
+
+    def setUp(self) -> None:
+        folder = tempfile.TemporaryDirectory()
+        self.addCleanup(folder.cleanup)
+        self.machines = []
+        for number in (1, 2):
+            machine = Machine(os.path.join(folder.name, str(number)))
+            machine.number = number
+            os.makedirs(os.path.dirname(self.copy(machine)))
+            self.machines.append(machine)
+        self.volume = volume.Volume(None, {})
+        try:
+            os.setxattr(folder.name, 'trusted.afr.desk', b'1')
+        except OSError as fault:
+            self.skipTest(f'files can not be marked here: {fault.strerror}')
+
+    def copy(self, machine: Machine) -> str:
+        """The copy of a file in a machine."""
+        return os.path.join(machine.folder, 'brick', 'desk', 'file')
+
+    def is_unmarked(self, *contents: bytes, mark: bytes = b'') -> bool:
+        """What is told of copies with these contents, and this mark of the second in the first."""
+        for machine, content in zip(self.machines, contents):
+            with open(self.copy(machine), 'wb') as file:
+                file.write(content)
+        if mark:
+            os.setxattr(self.copy(self.machines[0]), 'trusted.afr.desk-client-1', mark)
+        return bool(self.volume.unmarked(*self.machines, 'file'))
+
+    def test_marks(self) -> None:
+        """The first four bytes of a mark are about the content; the others about names."""
+        self.assertFalse(self.is_unmarked(b'one', b'one'))
+        self.assertTrue(self.is_unmarked(b'two', b'one'))
+        self.assertTrue(self.is_unmarked(b'two', b'one', mark=bytes(7) + b'\1' + bytes(4)))
+        self.assertFalse(self.is_unmarked(b'two', b'one', mark=bytes(3) + b'\1' + bytes(8)))
 
 
 class Watchdogs(unittest.TestCase):
