@@ -41,9 +41,13 @@ class Instructed(Watching):
         self.told(self.board.do('urgency', **values), done)
         self.assertEqual(read_file(self.path).jobs, {'J1': Urgency(DUE, 2, 'T7', 3)})
         self.wait('urgency', 'J1', due=DUE, priority=2, truck='T7', place=3)
-        until(lambda: self.board.said(f'Say how urgent job J1 is: {done}'), 'it is recorded')
+        said = 'due 2026-12-24T14:30Z, priority 2, truck T7, place 3'
+        told = f'Say how urgent job J1 is, {said}: {done}'
+        until(lambda: self.board.said(told), 'it is recorded')
         self.told(self.board.do('urgency', job='J1', priority='1'), done)
         self.wait('urgency', 'J1', due=None, priority=1, truck=None)
+        told = f'Say how urgent job J1 is, due –, priority 1, truck –, place –: {done}'
+        until(lambda: self.board.said(told), 'what is left out is none')
         self.told(self.board.do('urgency', job='J1'), done)
         until(lambda: not self.board.get('urgency', 'J1'), 'nothing is said of it')
 

@@ -27,7 +27,9 @@ from .record import NoRecord
 from .scene import Scene
 
 TEXT = 20_000  # characters of what is wrong with a value
-INSTRUCTED = ('due', 'priority', 'truck', 'place', 'thing')
+UNSAID = '–'  # of what may be said of a job, and was not
+URGENCY = ('due', 'priority', 'truck', 'place')
+INSTRUCTED = (*URGENCY, 'thing')
 # values that an entry says besides
 MORE = ('order', 'stops', 'edges', 'update', 'ref', 'vehicles', *INSTRUCTED)
 
@@ -90,6 +92,8 @@ def event_of(given: Command, cause: Cause, answered: Answered) -> Event:
         says = [Line('answer.refused', {'name': refusal, **words})]
     more: dict[str, Any] = {'answer': words_of(says), 'says': told(says)}
     more |= {name: values[name] for name in MORE if values.get(name)}
+    if given.name == 'urgency':
+        more |= {name: values.get(name) or UNSAID for name in URGENCY}
     if re.fullmatch('[0-9]{1,3}', more.get('edges', '')):
         more['edges'] = int(more['edges'])
     more |= {'refusal': refusal} if refusal else {}
