@@ -178,8 +178,9 @@ def run(drill: Drill, folder: str, given: Any) -> bool:
     """Runs the plant. Whether all was right."""
     served = OverMachines(drill, folder, given.every, given.kinds or DAYS)
     a_plan = plan(given.day, given.vehicles, given.seed, given.pace)
-    layout = FLOORS[a_plan.floor]().layout()
-    plant = Plant(a_plan, served, maker('look', layout))
+    batteries: dict[str, float] = {}
+    make = maker('look', FLOORS[a_plan.floor](), batteries)
+    plant = Plant(a_plan, served, make, batteries=batteries)
     plant.given = Messages(drill.records)
     served.now = lambda: plant.clock.now
     try:
