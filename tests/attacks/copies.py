@@ -6,15 +6,20 @@ import contextlib
 import datetime
 import os
 import signal
+import socket
 import sqlite3
 import subprocess
 import time
+import unittest
 
-from tests.support.attacked_file import Attack, DESK, SECRET, ran, started
+from tests.support.attacked_file import Attack, DESK, SECRET, ended, ran, started
+from tests.support.desks import Serving
+from tests.support.installed import OTHER
 from tests.support.programs import PATIENCE, until
 
 COPY = 'warehouse-%s.db'
 DATE = '%Y%m%dT%H%M%SZ'
+PYTHON = '/usr/bin/python3'  # which another user may read
 
 
 class Copies(Attack):
@@ -60,6 +65,29 @@ class Copies(Attack):
         for name in self.copies():
             if name != 'warehouse.new':
                 self.assertEqual(os.readlink(self.path('copies', name)), self.victim)
+
+    @unittest.skipIf(os.geteuid(), 'only root becomes another user')
+    def test_the_folder_of_another_user(self) -> None:
+        """The user whose folder it is keeps the desk busy, and puts a link into the place of what
+        root has made there meanwhile: root writes nothing through it."""
+        copies, owned = self.path('copies'), self.path('owned')
+        os.chmod(self.above.name, 0o711)
+        os.chmod(self.folder, 0o711)
+        os.chown(copies, OTHER, OTHER)
+        line = ['setpriv', f'--reuid={OTHER}', f'--regid={OTHER}', '--clear-groups', 'sh', '-ec']
+        line += [
+            f'cd {copies}; mv warehouse.new gone; mkdir -m 777 warehouse.new; cd warehouse.new;'
+        ]
+        line[-1] += f'ln -s {owned} copy.db'
+        with Serving(self.db) as desk, socket.create_connection(('127.0.0.1', desk.port)) as kept:
+            kept.send(b'GET ')
+            process = started(*self.words('--desk', f'127.0.0.1:{desk.port}'), python=PYTHON)
+            until(lambda: os.path.exists(self.path('copies', 'warehouse.new')), 'root has begun')
+            subprocess.run(line, check=True)
+            kept.close()
+            told = ended(process)
+        self.assertEqual(told.status, 1, told.text)
+        self.assertFalse(os.path.lexists(owned))
 
     def test_names_among_the_copies(self) -> None:
         """Names with line ends or dashes, folders and links with the name of a copy, and names with

@@ -46,9 +46,12 @@ def limits() -> None:
 
 
 def started(
-    name: str, *words: str, stdin: int | IO[bytes] = subprocess.DEVNULL
+    name: str,
+    *words: str,
+    stdin: int | IO[bytes] = subprocess.DEVNULL,
+    python: str = sys.executable,
 ) -> 'subprocess.Popen[bytes]':
-    line = [sys.executable, os.path.join(TOOLS, name), *words]
+    line = [python, os.path.join(TOOLS, name), *words]
     out, said = tempfile.TemporaryFile(), tempfile.TemporaryFile()
     process = subprocess.Popen(line, stdin=stdin, stdout=out, stderr=said, preexec_fn=limits)
     process.stdout, process.stderr = out, said

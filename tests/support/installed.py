@@ -37,7 +37,8 @@ class Installed(unittest.TestCase):
         folder = tempfile.TemporaryDirectory()
         self.addCleanup(folder.cleanup)
         self.here = folder.name
-        os.chmod(self.here, 0o777)  # the user of a desk that is installed here may make files in it
+        # (the user of a desk that is installed here may make files, and remove none of root's)
+        os.chmod(self.here, 0o1777)
         self.db = self.path('warehouse.db')
         self.write('layout.csv', LAYOUT)
         self.configure('unix:/none')
