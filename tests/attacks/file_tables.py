@@ -3,8 +3,10 @@ tables, or beside them."""
 from __future__ import annotations
 
 import contextlib
+import os
 import sqlite3
 
+from tests.support import endless_pages
 from tests.support.attacked_file import Attack, ran
 from tests.support.hostile_tables import BESIDE, INSTEAD, more
 
@@ -61,6 +63,13 @@ class NoTables(Attack):
         with open(self.db, 'wb') as file:
             file.write(data)
         self.check_readers('pages')
+
+    def test_a_list_of_tables_without_an_end(self) -> None:
+        """The pages of the list of tables are such ones, in a file that says that it has 4 GiB, of
+        which one MB is on the disk: no program works as long as for 4 GiB."""
+        endless_pages.make(self.db, 4 << 30)
+        self.assertLess(512 * os.stat(self.db).st_blocks, 2 << 20)
+        self.check_readers('the list of tables', 'more steps')
 
     def test_more_rows_than_a_desk_has(self) -> None:
         """A table has many more rows than README.md allows: they are not all read into memory or

@@ -58,7 +58,7 @@ def opened(
     regular file or is too large."""
     with contextlib.ExitStack() as stack:
         file = stack.enter_context(plain_files.opened(path))
-        size = _size(path, file)
+        size, work = _size(path, file), _on_disk(file)
         for end in BESIDE:
             plain_files.check(path + end)
         if alone:
@@ -69,12 +69,15 @@ def opened(
             copy = os.path.join(place, 'copy.db')
             _copy(file, size, copy)
             _copy(log, _size(path + '-wal', log), copy + '-wal')
-            size += _size(path + '-wal', log)
+            work += _on_disk(log)
             connection = sqlite3.connect(copy)
         else:
             connection = _as_it_is(path, file)
         stack.callback(connection.close)
-        bound(connection, size)
+        bound(connection)
+        # The list of tables is read first, which is small however large the file is.
+        connection.execute('SELECT 1 FROM sqlite_master LIMIT 1')
+        _bound_steps(connection, work)
         yield connection
 
 
@@ -139,14 +142,19 @@ def _opened_in(folder: int, path: str) -> BinaryIO:
         raise
 
 
-def bound(connection: sqlite3.Connection, size: int) -> None:
-    """Bounds the steps and the memory of a connection to a file of `size` bytes. A statement that
-    needs more ends with the error `interrupted`, or with MemoryError."""
+def bound(connection: sqlite3.Connection) -> None:
+    """Bounds the steps and the memory of a connection to a small file. A statement that needs more
+    ends with the error `interrupted`, or with MemoryError."""
     connection.text_factory = any_text
     for limit, most in LIMITS.items():
         connection.setlimit(limit, most)
     for pragma in PRAGMAS:
         connection.execute('PRAGMA ' + pragma)
+    _bound_steps(connection, 0)
+
+
+def _bound_steps(connection: sqlite3.Connection, size: int) -> None:
+    """Bounds the steps that a connection to a file of `size` bytes takes from now on."""
     turns = iter(range((STEPS + STEPS_OF_A_BYTE * size) // TURN))
     connection.set_progress_handler(lambda: next(turns, None) is None, TURN)
 
@@ -196,6 +204,12 @@ def _size(path: str, file: BinaryIO) -> int:
     if size > LARGEST:
         raise NotPlain(path, f'it has {size} bytes, and a file of a desk has at most {LARGEST}')
     return size
+
+
+def _on_disk(file: BinaryIO) -> int:
+    """Returns how many bytes of a file are on the disk, which has none for its holes."""
+    found = os.fstat(file.fileno())
+    return min(found.st_size, 512 * found.st_blocks)
 
 
 def _log(stack: contextlib.ExitStack, path: str) -> BinaryIO | None:
