@@ -10,6 +10,7 @@ from tests.attacks.board import ForeignPage
 from tests.attacks.machine import AnotherUserOfTheMachine, AnotherUserWithoutSystemd
 from tests.attacks.clients import OverAUnixSocket
 from tests.attacks.board import OtherUser
+from tests.attacks.local_users import LocalUsers
 
 # A gateway, or a reader, commands by the page of the board or by a path that is read in two ways;
 # no command is unrecorded.
@@ -110,6 +111,7 @@ __all__ = [
     'HostileWords',
     'InventedVehicles',
     'KeptReports',
+    'LocalUsers',
     'LongMessages',
     'MadeOnce',
     'NamesOfUsers',

@@ -85,6 +85,10 @@ def noting_faults(findings: Findings, path: str, check: Callable[[], object]) ->
     try:
         check()
     except (sqlite3.Error, MemoryError, UnicodeError) as error:
+        if opening.is_of_the_machine(error):
+            findings.may_pass = True
+            findings.reasons.append(_not_read(path, opening.why_unread(error)))
+            return
         findings.reasons.append(
             f'{path_text(path)} is damaged: {shown(opening.why_unread(error))} (`fault: Storage` or'
             f' `Damaged`). Put a copy back: {COPY}.'
@@ -99,10 +103,15 @@ def noting_faults(findings: Findings, path: str, check: Callable[[], object]) ->
         findings.reasons.append(f'{error}. {OTHER_FILE}')
     except OSError as error:
         findings.may_pass = not isinstance(error, PermissionError)
-        findings.reasons.append(
-            f'The rows of {path_text(path)} could not be read: {shown(str(error), PATH)}. Run this'
-            ' as root, with room for a copy of the file in the folder TMPDIR.'
-        )
+        findings.reasons.append(_not_read(path, str(error)))
+
+
+def _not_read(path: str, why: str) -> str:
+    """Returns the sentence that a file could not be read this time, and what to do."""
+    return (
+        f'The rows of {path_text(path)} could not be read: {shown(why, PATH)}. Run this as root,'
+        ' with room for a copy of the file in the folder TMPDIR.'
+    )
 
 
 def _is_database(findings: Findings, path: str) -> bool:

@@ -170,6 +170,14 @@ def why_unread(error: Exception) -> str:
     return f'SQLite says `{error}`'
 
 
+def is_of_the_machine(error: Exception) -> bool:
+    """Whether an error says nothing of the file: SQLite has no room for what it puts beside a copy,
+    or the disk fails."""
+    # (errors that Python raises itself have no code)
+    code = getattr(error, 'sqlite_errorcode', 0) & 0xFF
+    return code in (sqlite3.SQLITE_IOERR, sqlite3.SQLITE_FULL, sqlite3.SQLITE_CANTOPEN)
+
+
 def has_journal(path: str) -> bool:
     """Whether a journal lies beside the file that SQLite has to roll back: one with a head."""
     try:
