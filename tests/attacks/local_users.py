@@ -4,16 +4,37 @@ from __future__ import annotations
 
 import contextlib
 import os
+import resource
 import shutil
+import signal
 import subprocess
+import sys
 import unittest
 from collections.abc import Iterator
 from unittest import mock
 
 from tests.support.attacked_file import AT, DESK, ROWS, Attack, ran
 
+NOBODY = 65534  # a user without rights
+AS_NOBODY = ['setpriv', f'--reuid={NOBODY}', f'--regid={NOBODY}', '--clear-groups']
 KIB = 1024
 LATER = 255  # the status after which systemd tries again
+# Each of so many programs has so many descriptors of one file.
+MANY = """
+import os, sys, time
+count, each = map(int, sys.argv[1:])
+file = os.open('/dev/null', os.O_RDONLY)
+for _ in range(count - 1):
+    if os.fork() == 0:
+        break
+while os.dup(file) < each:
+    pass
+os.write(1, b'.')
+time.sleep(600)
+"""
+HOLDS = "import os, sys, time; file = open(sys.argv[1]); os.write(1, b'.'); time.sleep(600)"
+DESCRIPTORS = 4_000_000
+SECONDS = 15  # of a processor, that a search through them may take
 
 
 def missing(*names: str) -> str:
@@ -57,3 +78,32 @@ class LocalUsers(Attack):
             self.assertNotIn('damaged', told.text)
             statuses.add(told.status)
         self.assertEqual(statuses, {0, LATER})
+
+    def test_millions_of_descriptors(self) -> None:
+        """It opens four million descriptors: `why` does not look at all of them, and still names
+        the program that has the file."""
+        self.fill()
+        soft, most = resource.getrlimit(resource.RLIMIT_NOFILE)
+        each = min(most - 100, 200_000)
+        count = DESCRIPTORS // each
+        line = [*AS_NOBODY, '/usr/bin/python3', '-c', MANY, str(count), str(each)]
+        resource.setrlimit(resource.RLIMIT_NOFILE, (most, most))
+        many, holder = (
+            subprocess.Popen(one, stdout=subprocess.PIPE, start_new_session=True)
+            for one in (line, [sys.executable, '-c', HOLDS, self.db])
+        )
+        try:
+            assert many.stdout is not None and holder.stdout is not None
+            self.assertEqual(len(many.stdout.read(count)), count)
+            holder.stdout.read(1)
+            before = resource.getrusage(resource.RUSAGE_CHILDREN)
+            told = ran('why', '--db', self.db)
+            after = resource.getrusage(resource.RUSAGE_CHILDREN)
+        finally:
+            resource.setrlimit(resource.RLIMIT_NOFILE, (soft, most))
+            for one in (many, holder):
+                os.killpg(one.pid, signal.SIGKILL)
+                one.communicate()
+        taken = after.ru_utime + after.ru_stime - before.ru_utime - before.ru_stime
+        self.assertLess(taken, SECONDS)
+        self.assertIn(f'the program {holder.pid} ', told.out)

@@ -9,11 +9,13 @@ import pwd
 import random
 import socket
 import stat
-from collections.abc import Iterator
+import time
+from collections.abc import Collection, Iterator
 
 from ..common.text import shown
 
 COMMAND = 400  # the most characters of a command line that are shown
+SEARCH = 5.0  # the most seconds of one search through the descriptors of all programs
 
 
 @dataclasses.dataclass(frozen=True)
@@ -97,18 +99,39 @@ def open_files(pid: int) -> Iterator[str]:
     """Yields the paths of the descriptors of a program, if this user may see them."""
     folder = f'/proc/{pid}/fd'
     try:
-        numbers = os.listdir(folder)
+        with os.scandir(folder) as numbers:
+            yield from (number.path for number in numbers)
     except OSError:
         return
-    yield from (os.path.join(folder, number) for number in numbers)
+
+
+def descriptors(users: Collection[int]) -> Iterator[tuple[int, str]]:
+    """Yields the descriptors of all programs, those of root and of these users first, with the
+    number of the program. It ends after `SEARCH` seconds, since any user may have millions."""
+    ends = time.monotonic() + SEARCH
+    known = {0, *users}
+    for pid in sorted(programs(), key=lambda pid: (_user_of(pid) not in known, pid)):
+        for path in open_files(pid):
+            if time.monotonic() > ends:
+                return
+            yield pid, path
+
+
+def _user_of(pid: int) -> int | None:
+    """Returns the user of a program; None if it has ended."""
+    try:
+        return os.stat(f'/proc/{pid}').st_uid
+    except OSError:
+        return None
 
 
 def who_has(path: str) -> list[Program]:
     """Returns the programs that have the file open, of those whose descriptors this user may
     see."""
     wanted = os.stat(path)
-    found = (pid for pid in sorted(programs()) if any(_is(one, wanted) for one in open_files(pid)))
-    return [Program(pid, command_of(pid)) for pid in found]
+    searched = descriptors([wanted.st_uid])
+    found = dict.fromkeys(pid for pid, one in searched if _is(one, wanted))
+    return [Program(pid, command_of(pid)) for pid in sorted(found)]
 
 
 def _is(path: str, wanted: os.stat_result) -> bool:
@@ -175,14 +198,13 @@ def who_listens(port: int) -> list[Listener]:
     sockets = list(_listening(port))
     found = {f'socket:[{inode}]': (address, user) for address, user, inode in sockets}
     seen: dict[str, Program] = {}
-    for pid in sorted(programs()) if found else ():
-        for path in open_files(pid):
-            try:
-                link = os.readlink(path)
-            except OSError:
-                continue
-            if link in found:
-                seen.setdefault(link, Program(pid, command_of(pid)))
+    for pid, path in descriptors([user.uid for _, user in found.values()]) if found else ():
+        try:
+            link = os.readlink(path)
+        except OSError:
+            continue
+        if link in found:
+            seen.setdefault(link, Program(pid, command_of(pid)))
     return [Listener(address, user, seen.get(link)) for link, (address, user) in found.items()]
 
 
