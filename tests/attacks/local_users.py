@@ -9,14 +9,19 @@ import shutil
 import signal
 import subprocess
 import sys
+import tempfile
 import unittest
 from collections.abc import Iterator
 from unittest import mock
 
 from tests.support.attacked_file import AT, DESK, ROWS, Attack, ran
+from tests.support.programs import ROOT
 
-NOBODY = 65534  # a user without rights
+NOBODY, MEMBER, BOARD = 65534, 64001, 64003  # a user without rights, the dispatcher, the board
 AS_NOBODY = ['setpriv', f'--reuid={NOBODY}', f'--regid={NOBODY}', '--clear-groups']
+TMPFILES = os.path.join(ROOT, 'examples', 'systemd', 'tmpfiles.conf')
+PLACE = '/var/lib/nulvrader'
+CLOSED = 'kind,name,due,priority\nnode,N7,,\n'
 KIB = 1024
 LATER = 255  # the status after which systemd tries again
 # Each of so many programs has so many descriptors of one file.
@@ -107,3 +112,54 @@ class LocalUsers(Attack):
         taken = after.ru_utime + after.ru_stime - before.ru_utime - before.ru_stime
         self.assertLess(taken, SECONDS)
         self.assertIn(f'the program {holder.pid} ', told.out)
+
+    @unittest.skipIf(missing('systemd-tmpfiles'), missing('systemd-tmpfiles'))
+    def test_a_lock_of_the_instructions(self) -> None:
+        """It locks the folder of the dispatcher's instructions, or reads them: who opens a node has
+        not to wait, the dispatcher reads them, and the board writes there by its user alone."""
+        self.write('passwd', f'root:x:0:0::/:/\ndesk-board:x:{BOARD}:{BOARD}::/:/\n')
+        self.write('group', f'root:x:0:\ndesk-dispatch:x:{MEMBER}:\n')
+        with tempfile.TemporaryDirectory() as root, open(TMPFILES, encoding='utf-8') as file:
+            os.chmod(root, 0o755)
+            os.mkdir(os.path.join(root, 'etc'))
+            for name in ('passwd', 'group'):
+                shutil.copy(self.path(name), os.path.join(root, 'etc'))
+            lines = [
+                row for row in file if row.startswith((f'd {PLACE} ', f'd {PLACE}/instructions '))
+            ]
+            self.assertEqual(len(lines), 2)
+            self.write('conf', ''.join(lines))
+            line = ['systemd-tmpfiles', f'--root={root}', '--create', self.path('conf')]
+            subprocess.run(line, check=True)
+            self.check_instructions(root + PLACE + '/instructions')
+
+    def check_instructions(self, folder: str) -> None:
+        """Who may do what with the instructions in a folder."""
+        path = os.path.join(folder, 'instructions.csv')
+        with open(path, 'w', encoding='utf-8') as file:
+            file.write(CLOSED)
+        os.chmod(path, 0o644)
+        with subprocess.Popen(
+            [*AS_NOBODY, 'flock', folder, 'sh', '-c', 'echo; exec sleep 600'],
+            stdout=subprocess.PIPE,
+            stderr=subprocess.DEVNULL,
+            start_new_session=True,
+        ) as locker:
+            assert locker.stdout is not None
+            locker.stdout.readline()
+            told = ran('open', 'N7', '--instructions', path)
+            with contextlib.suppress(ProcessLookupError):
+                os.killpg(locker.pid, 9)
+        self.assertEqual((told.status, told.text), (0, 'node N7 is open\n'))
+        member, board = (
+            ['setpriv', f'--reuid={user}', f'--regid={group}', '--clear-groups']
+            for user, group in ((MEMBER, MEMBER), (BOARD, NOBODY))
+        )
+        for who, what, status in (
+            (AS_NOBODY, ['cat', path], 1),
+            (member, ['cat', path], 0),
+            (member, ['touch', os.path.join(folder, 'other')], 1),
+            (board, ['touch', os.path.join(folder, 'other')], 0),
+        ):
+            done = subprocess.run([*who, *what], capture_output=True, check=False)
+            self.assertEqual(done.returncode, status, (who, what))

@@ -105,14 +105,17 @@ class Names(unittest.TestCase):
 
     def test_folders(self) -> None:
         """tmpfiles.conf makes each folder of a unit, for its user and with its mode, and no other
-        one in /var/lib but that of the instructions, where root and the board write."""
+        one in /var/lib but that of the instructions, where root and the board write, and which
+        nobody but the dispatcher may open beside them."""
         made = {path: (mode, user) for _, path, mode, user, _ in rows('tmpfiles.conf')}
         state = {f'/var/lib/{one}' for name in SERVICES for one in said(name, 'StateDirectory')}
         found = {path for path in made if path.startswith('/var/lib/nulvrader/')}
         told = os.path.dirname(conf.DEFAULTS['NULVRADER_INSTRUCTIONS'])
         self.assertEqual(found, state | {told})
-        self.assertEqual(made[told], ('0775', 'root'))
-        self.assertIn(f'd {told} 0775 root desk-board', text_of('tmpfiles.conf').splitlines())
+        self.assertEqual(made[told], ('0750', 'desk-board'))
+        self.assertIn(
+            f'd {told} 0750 desk-board desk-dispatch', text_of('tmpfiles.conf').splitlines()
+        )
         self.assertIn(told, said('nulvrader-board.service', 'ReadWritePaths'))
         for name in SERVICES:
             for folder in said(name, 'StateDirectory'):
