@@ -7,6 +7,7 @@ import os
 import resource
 import shutil
 import signal
+import stat
 import subprocess
 import sys
 import tempfile
@@ -163,3 +164,26 @@ class LocalUsers(Attack):
         ):
             done = subprocess.run([*who, *what], capture_output=True, check=False)
             self.assertEqual(done.returncode, status, (who, what))
+
+    def test_a_package_that_is_there_already(self) -> None:
+        """It makes the package first, in the folder where root will put it, and may then write into
+        it: root's is another file."""
+        os.mkdir(self.path('bin'))
+        for name, text in (
+            ('dpkg-buildpackage', 'echo package > ../nulvrader_0_amd64.deb'),
+            ('help2man', 'echo page'),
+        ):
+            self.write(os.path.join('bin', name), f'#!/bin/sh\n{text}\n')
+            os.chmod(self.path('bin', name), 0o755)
+        with tempfile.TemporaryDirectory() as shared:
+            os.chmod(shared, 0o1777)
+            made = os.path.join(shared, 'nulvrader_0_amd64.deb')
+            line = [*AS_NOBODY, 'sh', '-c', 'touch "$1"; chmod 666 "$1"', 'sh', made]
+            subprocess.run(line, check=True)
+            line = [os.path.join(ROOT, 'dev', 'make-deb'), '--program', DESK, '--to', shared]
+            env = {**os.environ, 'PATH': f'{self.path("bin")}:{os.environ["PATH"]}'}
+            subprocess.run(line, check=True, stdout=subprocess.DEVNULL, env=env)
+            found = os.stat(made)
+            self.assertEqual((found.st_uid, found.st_mode & stat.S_IWOTH), (0, 0))
+            self.assertEqual(self.read(made), b'package\n')
+            self.assertEqual(os.listdir(shared), [os.path.basename(made)])
