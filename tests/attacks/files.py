@@ -2,17 +2,22 @@
 escape of a name."""
 from __future__ import annotations
 
+import itertools
 import os
 import random
 import subprocess
 import sys
+import tempfile
+import unittest
 import xml.etree.ElementTree as ElementTree
+from unittest import mock
 
 from nulvrader.common.layouts import Station, of_parts
 from nulvrader.drawing.svg import drawing
 from nulvrader.drawing.warehouse import Warehouse
-from tests.support.attacked_file import Attack, Ended, ran
+from tests.support.attacked_file import DESK, Attack, Ended, ran
 from tests.support.hostile_tables import BESIDE, INSTEAD
+from tests.support.programs import PATIENCE, ROOT
 
 FUZZ = int(os.environ.get('FUZZ', '20'))  # damaged files of each kind
 KINDS = ('a FIFO', 'a socket', 'a folder', 'a device', 'a link to a FIFO')
@@ -27,6 +32,22 @@ class NoRegularFile(Attack):
             self.put(kind, self.db)
             self.check_readers(kind, 'folder' if kind == 'a folder' else 'regular file')
             self.clear(self.db)
+
+    def test_for_the_program_itself(self) -> None:
+        """It lies in the place of the file, or of its log, as `./desk` is called: it says so, or
+        that the file is no desk's, before anything is built or waited for."""
+        for end, kind in itertools.product(('', '-wal'), KINDS):
+            self.write('warehouse.db', 'SQLite format 3\0')
+            self.clear(self.db + end)
+            self.put(kind, self.db + end)
+            for command in ('report', 'migrate'):
+                line = [os.path.join(ROOT, 'dev', 'desk-file'), command, '--db', self.db]
+                done = subprocess.run(line, capture_output=True, text=True, timeout=PATIENCE)
+                self.assertEqual(done.returncode, 1, (end, kind))
+                self.assertRegex(done.stderr, r"not a desk's file|without a desk's tables")
+            self.clear(self.db + end)
+            if end:
+                self.clear(self.db)
 
     def test_beside_the_file(self) -> None:
         """It lies in the place of the journal, the log or its index: each program says so, and none
@@ -180,6 +201,22 @@ class Texts(Attack):
         self.db = self.path(ESCAPE.replace('/', ''))
         os.mkfifo(self.db)
         self.check_readers('name', '\\x1b]0;owned')
+
+    @unittest.skipIf(
+        os.path.isdir('/run/systemd/system'), 'it would stop the units of this machine'
+    )
+    def test_the_name_of_a_copy(self) -> None:
+        """A copy that root puts back has a name with escapes."""
+        self.fill()
+        copy = self.path(ESCAPE.replace('/', ''))
+        os.link(self.db, copy)
+        with tempfile.TemporaryFile() as answers:
+            answers.write(b'yes\n' * 4)
+            answers.seek(0)
+            with mock.patch.dict(os.environ, NULVRADER_DB=self.path('put-back.db')):
+                told = ran('restore', copy, '--program', DESK, stdin=answers)
+        self.check_sentence(told, 'a copy')
+        self.assertIn('put-back.db is ', told.out)
 
     def test_a_picture(self) -> None:
         """Names of loads and stations have markup, and characters that XML forbids: the picture is

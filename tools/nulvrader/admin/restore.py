@@ -114,7 +114,9 @@ class Restore:
     def _mark(self) -> None:
         """Keeps the programs beside the desk from being started until the last step."""
         if os.path.isdir(os.path.dirname(units.MARK)):
-            init.put(units.MARK, f'{self.copy} is being put back\n'.encode(), init.CLIENTS)
+            init.put(
+                units.MARK, f'{shown(self.copy, PATH)} is being put back\n'.encode(), init.CLIENTS
+            )
 
     def file_is_replaced(self) -> None:
         """Stop the desk, move its old files away, and put the copy in their place."""
@@ -123,7 +125,7 @@ class Restore:
         self._move_aside()
         os.rename(new, self.db)
         copies.sync(os.path.dirname(self.db))
-        print(f'{self.db} is {self.copy}')
+        print(f'{self.db} is {shown(self.copy, PATH)}')
 
     def _make(self) -> str:
         """Puts the copy beside the old file, and has the desk check it. Returns its path."""
