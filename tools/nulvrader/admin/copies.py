@@ -16,7 +16,12 @@ BESIDE = ('', '-wal', '-shm', '-journal')  # a file of SQLite, and what may lie 
 
 
 class CopyError(Exception):
-    """No copy was made. Its `str()` is a sentence that says why."""
+    """No copy was made. Its `str()` is a sentence that says why; `why` is what it says of the file
+    that was to be copied, without the names of files."""
+
+    def __init__(self, text: str, why: str | None = None) -> None:
+        super().__init__(text)
+        self.why = text if why is None else why
 
 
 class RunAs(TypedDict, total=False):
@@ -38,7 +43,8 @@ def make(db: str, new: str) -> None:
                 connection.backup(other)
     except (stopped_file.Unread, sqlite3.Error) as fault:
         remove(new)
-        raise CopyError(f'it can not be copied to {new}: {fault}') from None
+        why = fault.why if isinstance(fault, stopped_file.Unread) else str(fault)
+        raise CopyError(f'it can not be copied to {new}: {fault}', why) from None
 
 
 def check(program: str, new: str, run_as: RunAs | None = None) -> None:

@@ -77,8 +77,7 @@ class Restore:
         except BlockingIOError:
             raise AdminError(f'{shown(copy, PATH)}: {stopped_file.LOCKED}') from None
         except copies.CopyError as fault:
-            why = str(fault).partition(f'{taken}: ')[2] or str(fault)
-            raise AdminError(f'{shown(copy, PATH)}: {why}') from None
+            raise AdminError(f'{shown(copy, PATH)}: {fault.why}') from None
         shutil.rmtree(folder)
         return made
 

@@ -115,7 +115,7 @@ def _reading(path: str) -> Iterator[sqlite3.Connection]:
         base.set_progress_handler(lambda: int(time.monotonic() > ends), STEPS)
         yield base
     except sqlite3.OperationalError as fault:
-        if 'interrupted' in str(fault):
+        if getattr(fault, 'sqlite_errorcode', None) == sqlite3.SQLITE_INTERRUPT:
             raise BadQuestion('long') from None
         raise
     finally:

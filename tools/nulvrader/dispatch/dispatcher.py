@@ -5,9 +5,9 @@ The desk tells it what it needs. What it remembers besides, as how long a job or
 waited or when that was last heard, begins anew with a start."""
 from __future__ import annotations
 
-import re
 import time
 from collections.abc import Callable, Mapping, Sequence
+from dataclasses import dataclass
 
 from ..common.layouts import Layout
 from ..desk.client import Desk, NoAnswer, NotADesk, Refused
@@ -34,6 +34,17 @@ from .traffic import Still, Traffic
 from .waits import Waits
 
 NO_CHARGERS: Chargers = {}
+
+
+@dataclass(frozen=True)
+class Hindrance:
+    """Why a vehicle does not go on: in short, and what its own line says besides."""
+
+    short: str
+    more: str = ''
+
+    def __str__(self) -> str:
+        return self.short + self.more
 
 
 class Dispatcher:
@@ -210,26 +221,28 @@ class Dispatcher:
         if seen.order is not None:
             memory.follow(seen, all_seen.places)
 
-    def _why_still(self, seen: Seen, now: float) -> str | None:
+    def _why_still(self, seen: Seen, now: float) -> Hindrance | None:
         """Why a vehicle does not go on, or None."""
         memory = self._memory[seen.name]
         if seen.row.astray:
-            return 'left its order on the way; look where it stands, and place it'
+            return Hindrance('left its order on the way', '; look where it stands, and place it')
         if seen.row.pending == 'cancelOrder':
-            return 'its order is being cancelled'
+            return Hindrance('its order is being cancelled')
         if not seen.row.ready:
-            return 'is not ready: it is not in automatic mode, has an emergency stop or an error'
+            return Hindrance(
+                'is not ready', ': it is not in automatic mode, has an emergency stop or an error'
+            )
         if now - memory.heard > self.settings.silent:
-            return f'has sent no state for {self.settings.silent:g} seconds'
+            return Hindrance(f'has sent no state for {self.settings.silent:g} seconds')
         if seen.row.paused:
-            return 'is paused'
+            return Hindrance('is paused')
         return None
 
     def _out_of_use(self, seen: Seen, now: float) -> str | None:
         """Why a vehicle without an order gets none, in short, or None."""
         why = self._why_still(seen, now)
         if why is not None:
-            return re.split('[:;]', why)[0]
+            return why.short
         return None if seen.free() > 0 else f'carries {" ".join(seen.loads)} in no job'
 
     def _takes_no_job(self, seen: Seen, now: float) -> str | None:

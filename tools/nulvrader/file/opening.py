@@ -165,7 +165,7 @@ def why_unread(error: Exception) -> str:
         return 'SQLite needs more memory than a file of a desk does'
     if isinstance(error, UnicodeError):
         return 'SQLite names something in it that is no text'
-    if str(error) == 'interrupted':
+    if getattr(error, 'sqlite_errorcode', None) == sqlite3.SQLITE_INTERRUPT:
         return 'SQLite needs more steps than a file of its size does'
     return f'SQLite says `{error}`'
 

@@ -24,10 +24,11 @@ NO_TABLES = 'it has no tables of a desk'
 
 class Unread(Exception):
     """A file that can't be read as a desk's. Its `str()` is a sentence that begins with the file's
-    name."""
+    name; `why` is the rest of it."""
 
     def __init__(self, path: str, why: str) -> None:
-        super().__init__(f'{shown(path, PATH)}: {shown(why, 2 * PATH)}')
+        self.why = shown(why, 2 * PATH)
+        super().__init__(f'{shown(path, PATH)}: {self.why}')
 
 
 @contextlib.contextmanager
@@ -51,7 +52,7 @@ def opened(path: str, folder: str | None = None) -> Iterator[sqlite3.Connection]
     except (BadRows, database.TooMany) as fault:
         raise Unread(path, f'{fault}: tools/why says more') from None
     except (sqlite3.Error, MemoryError, UnicodeError) as fault:
-        is_none = 'not a database' in str(fault)
+        is_none = getattr(fault, 'sqlite_errorcode', None) == sqlite3.SQLITE_NOTADB
         raise Unread(path, NO_TABLES if is_none else opening.why_unread(fault)) from None
 
 
