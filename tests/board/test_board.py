@@ -31,25 +31,7 @@ class Follows(Watching):
         self.wait('station', 'B', taken=0, reserved=1)
         self.desk.start_order('O1', ONE, job='J1', edges=1)
         self.held('node N1', 'node N2', 'edge E12')
-        self.wait(
-            'vehicle',
-            'KIT/0001',
-            order_name='O1',
-            seen=0,
-            base=1,
-            edges=2,
-            sent=0,
-            confirmed=None,
-            node='N1',
-        )
-        way = self.wait(
-            'way', 'KIT/0001', order='O1', first=0, nodes=['N1', 'N2', 'N3'], edges=['E12', 'E23']
-        )
-        acts = [{'kind': 'pick', 'load': 'L1', 'station': 'A', 'at': 0}]
-        self.assertEqual(
-            way['acts'], acts + [{'kind': 'drop', 'load': 'L1', 'station': 'B', 'at': 2}]
-        )
-        self.wait('job', 'J1', phase='riding', order='O1', vehicle='KIT/0001')
+        self.check_the_order()
         self.plant.state(ONE, 'N2', 'O1', 0, 2, (PICKED,))
         self.wait('load', 'L1', place='vehicle KIT/0001')
         self.wait('vehicle', 'KIT/0001', seen=1, base=1, confirmed=0, node='N2', loads=['L1'])
@@ -73,6 +55,19 @@ class Follows(Watching):
         ):
             self.said(words)
         self.check_the_record()
+
+    def check_the_order(self) -> None:
+        """The vehicle has the order of the job, with its way and what is done on it."""
+        order = {'order_name': 'O1', 'seen': 0, 'base': 1, 'edges': 2, 'sent': 0}
+        self.wait('vehicle', 'KIT/0001', node='N1', confirmed=None, **order)
+        way = self.wait(
+            'way', 'KIT/0001', order='O1', first=0, nodes=['N1', 'N2', 'N3'], edges=['E12', 'E23']
+        )
+        acts = [{'kind': 'pick', 'load': 'L1', 'station': 'A', 'at': 0}]
+        self.assertEqual(
+            way['acts'], acts + [{'kind': 'drop', 'load': 'L1', 'station': 'B', 'at': 2}]
+        )
+        self.wait('job', 'J1', phase='riding', order='O1', vehicle='KIT/0001')
 
     def check_the_record(self) -> None:
         moves = 'SELECT from_place, to_place FROM load_moves WHERE load = %s ORDER BY n' % "'L1'"

@@ -15,6 +15,50 @@ from nulvrader.board.record_tables import OLD
 
 PICKED = ('O1.0', 'FINISHED')
 DROPPED = ('O1.1', 'FINISHED')
+# A row of each table that grows, by its columns; the first one gets a mark.
+ROWS: dict[str, dict[str, object]] = {
+    'load_moves': {'load': '', 'to_place': 'left', 'at': ''},
+    'vehicle_states': {
+        'vehicle': '',
+        'node': 'N1',
+        'ready': 1,
+        'paused': 0,
+        'astray': 0,
+        'at': '',
+    },
+    'hold_changes': {'name': '', 'kind': 'node', 'at': ''},
+    'waits': {
+        'vehicle': '',
+        'kind': 'node',
+        'name': 'N1',
+        'holder': 'KIT/0001',
+        'began': '',
+        'ended': '',
+    },
+    'desk_times': {'fault': '', 'answers': 0, 'at': ''},
+    'commands': {
+        'who': '',
+        'command': 'leave',
+        'said': '{}',
+        'done': 1,
+        'answer': '',
+        'at': '',
+    },
+    'events': {'words': '', 'kind': 'load', 'what': 'load.moved', 'cause': '', 'at': ''},
+    'vehicle_batteries': {'vehicle': '', 'at': ''},
+    'vehicle_uses': {'vehicle': '', 'state': 'free', 'at': ''},
+    'alarms': {
+        'key': '',
+        'kind': 'disk',
+        'level': 'alarm',
+        'words': '',
+        'todo': '',
+        'more': '{}',
+        'began': '',
+        'ended': '',
+    },
+    'jobs': {'job': '', 'load': 'L1', 'phase': 'done', 'ended': ''},
+}
 
 
 class Keeps(Watching):
@@ -132,57 +176,13 @@ class Keeps(Watching):
         self.rows('SELECT kind, name, vehicle FROM holds', [('node', 'N1', 'KIT/0001')])
 
     def test_old_rows_are_removed(self) -> None:
-        """Of each table that grows; younger rows stay. Of each table the columns of a row, of which
-        the first has a mark."""
+        """Of each table that grows; younger rows stay."""
         self.board.stop()
-        tables: dict[str, dict[str, object]] = {
-            'load_moves': {'load': '', 'to_place': 'left', 'at': ''},
-            'vehicle_states': {
-                'vehicle': '',
-                'node': 'N1',
-                'ready': 1,
-                'paused': 0,
-                'astray': 0,
-                'at': '',
-            },
-            'hold_changes': {'name': '', 'kind': 'node', 'at': ''},
-            'waits': {
-                'vehicle': '',
-                'kind': 'node',
-                'name': 'N1',
-                'holder': 'KIT/0001',
-                'began': '',
-                'ended': '',
-            },
-            'desk_times': {'fault': '', 'answers': 0, 'at': ''},
-            'commands': {
-                'who': '',
-                'command': 'leave',
-                'said': '{}',
-                'done': 1,
-                'answer': '',
-                'at': '',
-            },
-            'events': {'words': '', 'kind': 'load', 'what': 'load.moved', 'cause': '', 'at': ''},
-            'vehicle_batteries': {'vehicle': '', 'at': ''},
-            'vehicle_uses': {'vehicle': '', 'state': 'free', 'at': ''},
-            'alarms': {
-                'key': '',
-                'kind': 'disk',
-                'level': 'alarm',
-                'words': '',
-                'todo': '',
-                'more': '{}',
-                'began': '',
-                'ended': '',
-            },
-            'jobs': {'job': '', 'load': 'L1', 'phase': 'done', 'ended': ''},
-        }
-        self.assertEqual(tables.keys(), OLD.keys())
+        self.assertEqual(ROWS.keys(), OLD.keys())
         base = sqlite3.connect(self.board.db)
         for mark, seconds in (('old', 90000), ('new', 80000)):
             at = time.strftime('%Y-%m-%dT%H:%M:%S.000Z', time.gmtime(time.time() - seconds))
-            for table, row in tables.items():
+            for table, row in ROWS.items():
                 values = [
                     at if name in ('at', 'began', 'ended') else value for name, value in row.items()
                 ]
@@ -193,7 +193,7 @@ class Keeps(Watching):
         base.commit()
         base.close()
         self.board = self.plant.board('--days', '1')
-        for table, row in tables.items():
+        for table, row in ROWS.items():
             mark = next(iter(row))
             self.rows(f"SELECT {mark} FROM {table} WHERE {mark} IN ('old', 'new')", [('new',)])
 

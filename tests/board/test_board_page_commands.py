@@ -144,6 +144,14 @@ class Gives(Page):
         )
         self.do('Update 1 of order O1 is sent.')
         self.sees('.vehicle-card', 'released to 2')
+        self.pause_and_go_on()
+        self.on_vehicle('Cancel')
+        self.look('KIT/0001 is told to cancel its order O1')
+        self.do('KIT/0001 is told to cancel its order (instant-3).')
+        self.place_it()
+
+    def pause_and_go_on(self) -> None:
+        """Pauses the vehicle and lets it go on; meanwhile nothing else can be told to it."""
         self.on_vehicle('Pause')
         self.look('KIT/0001 is told to pause.')
         self.do('KIT/0001 is told to pause (instant-1).')
@@ -162,10 +170,6 @@ class Gives(Page):
         self.do('An instant action is pending')
         self.plant.state(ONE, 'N1', 'O1', 1, 0, (('instant-2', 'FINISHED'),))
         self.misses('.vehicle-card', 'Told to go on')
-        self.on_vehicle('Cancel')
-        self.look('KIT/0001 is told to cancel its order O1')
-        self.do('KIT/0001 is told to cancel its order (instant-3).')
-        self.place_it()
 
     def test_a_drive(self) -> None:
         """By clicks on the card of the vehicle: refused, as it stands there already, and done."""

@@ -14,11 +14,7 @@ from tests.support.programs import ROOT
 FOLDERS = ('tools', 'dev', 'tests', 'bench', 'examples')
 PYTHON = '#!/usr/bin/env python3\n'
 MOST_LINES = 50  # of a function
-LONG = {
-    'tests/board/test_board.py: test_a_transport',
-    'tests/board/test_board_keeps.py: test_old_rows_are_removed',
-    'tests/board/test_board_page_commands.py: test_an_order',
-}
+MOST_OF_A_FILE = 400
 NAMED = re.compile(r'(?<![\w./-])(?:tools|dev|tests|bench|examples)/[\w/.-]*\w(?![\w/*<{-]|\.\*)')
 MODULE = re.compile(r'(?<![\w./*-])\w+\.py\b')
 
@@ -81,14 +77,20 @@ class Form(unittest.TestCase):
                 self.assertEqual(done.returncode, 0, done.stdout + done.stderr)
 
     def test_functions_are_short(self) -> None:
-        """No function has more than 50 lines, but for those that are named here."""
+        """No function has more than 50 lines."""
         found = set()
         for path in files():
             for node in ast.walk(ast.parse(text_of(path))):
                 if isinstance(node, (ast.FunctionDef, ast.AsyncFunctionDef)):
                     if (node.end_lineno or 0) - node.lineno >= MOST_LINES:
                         found.add(f'{os.path.relpath(path, ROOT)}: {node.name}')
-        self.assertLessEqual(found, LONG)
+        self.assertEqual(found, set())
+
+    def test_files_are_short(self) -> None:
+        """No file has more than 400 lines."""
+        counts = {os.path.relpath(path, ROOT): text_of(path).count('\n') for path in files()}
+        long = {path: count for path, count in counts.items() if count > MOST_OF_A_FILE}
+        self.assertEqual(long, {})
 
     def test_no_test_module_takes_from_another(self) -> None:
         """What tests share is in `tests/support`."""
