@@ -316,12 +316,10 @@ class Asks(unittest.TestCase):
         """Of 200 loads 60 get jobs to two stations by another program; each is seen with where it
         leads, and those that are stopped, or are so while the board does not run, are gone."""
         for number in range(200):
-            self.plant.desk.register_load('L%03d' % number, 'A')
+            self.plant.desk.register_load(f'L{number:03}', 'A')
         board = self.plant.board()
         until(lambda: board.get('counts').get('loads') == 200, 'the loads')
-        jobs = {
-            'J%02d' % number: ('L%03d' % (3 * number), 'BD'[number % 2]) for number in range(60)
-        }
+        jobs = {f'J{number:02}': (f'L{3 * number:03}', 'BD'[number % 2]) for number in range(60)}
         for job, (load, to) in jobs.items():
             self.plant.desk.add_job(job, load, to)
 

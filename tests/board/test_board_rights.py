@@ -121,7 +121,7 @@ class Starts(unittest.TestCase):
         self.assertIn('file is not a database', self.told('--db', bad))
         with socket.create_server(('127.0.0.1', 0)) as taken:
             port = str(taken.getsockname()[1])
-            self.assertIn('port %s: ' % port, self.told('--port', port))
+            self.assertIn(f'port {port}: ', self.told('--port', port))
         self.assertIn('is not the address of a desk', self.told('--desk', 'ftp://x'))
 
     def test_it_is_stopped(self) -> None:

@@ -95,7 +95,7 @@ class Judged(unittest.TestCase):
                 self.assertTrue(true or not told, (case, traffic, way))
                 counts['without one plan for all'] += told != true
                 counts[f'{true}, plainly {plainly}'] += 1
-        print('start: ' + ', '.join('%s: %d' % one for one in counts.items()))
+        print('start: ' + ', '.join(f'{what}: {count}' for what, count in counts.items()))
         for kind in (
             'True, plainly True',
             'True, plainly None',
@@ -129,7 +129,7 @@ class Judged(unittest.TestCase):
                 counts[true] += 1
                 traffic = traffic.released(name, 1) if told else traffic
             self.assertLessEqual(could, judge.finish_now(traffic), (case, traffic))
-        print('release: ' + ', '.join('%s: %d' % one for one in counts.items()))
+        print('release: ' + ', '.join(f'{what}: {count}' for what, count in counts.items()))
         for kind in (True, False, 'all'):
             self.assertGreater(counts[kind], CASES // 60, kind)
         self.assertLess(20 * counts['without one plan for all'], counts[True])
@@ -156,7 +156,10 @@ class Judged(unittest.TestCase):
             self.assertLessEqual(
                 could, look(traffic.ways, traffic.walls, PLENTY, could).finishing, (case, traffic)
             )
-        print('the states of the program: ' + ', '.join('%s: %d' % one for one in counts.items()))
+        print(
+            'the states of the program: '
+            + ', '.join(f'{what}: {count}' for what, count in counts.items())
+        )
         self.assertGreater(counts['released'], CASES // 40)
         self.assertGreater(
             counts['start: True, in truth True'], 20 * counts['start: False, in truth True']
@@ -175,7 +178,7 @@ BAYS = RING[::2]
 LAYOUT = of_parts(
     [*RING, *('b' + node for node in BAYS)],
     [
-        Edge('%s.%s' % ends, *ends)
+        Edge('.'.join(ends), *ends)
         for ends in (
             *zip(RING, RING[1:] + RING[:1]),
             *((node, 'b' + node) for node in BAYS),
@@ -236,7 +239,7 @@ class Choosing(unittest.TestCase):
         nearest first, and none a second one before all had one. A job without one is put off."""
         chooser, asked = self.chooser(lambda vehicle, way: False)
         jobs = [
-            Waiting('J%02d' % n, 'L%d' % n, 'S' + BAYS[4 + n % 15], 'S' + BAYS[3 - n // 15])
+            Waiting(f'J{n:02}', f'L{n}', 'S' + BAYS[4 + n % 15], 'S' + BAYS[3 - n // 15])
             for n in range(30)
         ]
         for turn in range(1, self.turns + 1):
@@ -259,8 +262,7 @@ class Choosing(unittest.TestCase):
         far = 'b' + BAYS[0], 'b' + BAYS[-1]
         chooser, _ = self.chooser(lambda vehicle, way: (way[0], way[-1]) == far)
         jobs = [
-            Waiting('J%02d' % n, 'L%d' % n, 'S' + BAYS[4 + n % 15], 'S' + BAYS[3])
-            for n in range(29)
+            Waiting(f'J{n:02}', f'L{n}', 'S' + BAYS[4 + n % 15], 'S' + BAYS[3]) for n in range(29)
         ]
         jobs.append(Waiting('J29', 'L29', 'S' + BAYS[18], 'S' + BAYS[-1]))
         found: Proposal | None = None
@@ -282,8 +284,8 @@ class Choosing(unittest.TestCase):
         )
         jobs = [
             Waiting(
-                'J%02d' % n,
-                'L%d' % n,
+                f'J{n:02}',
+                f'L{n}',
                 'S' + BAYS[4 + n % 15],
                 'S' + BAYS[3 if n < 99 else -1],
                 float(n),
@@ -364,7 +366,7 @@ class Choosing(unittest.TestCase):
         jobs = []
         for n in range(3000):
             pick, drop = chance.sample(BAYS, 2)
-            jobs.append(Waiting('J%04d' % n, 'L%d' % n, 'S' + pick, 'S' + drop, float(n)))
+            jobs.append(Waiting(f'J{n:04}', f'L{n}', 'S' + pick, 'S' + drop, float(n)))
         begun = time.process_time()
         turns = given = 0
         while turns < 20:

@@ -62,7 +62,7 @@ class AgainstAllStates(unittest.TestCase):
                 says = finishing(ways, walls, budget) == set(ways)
                 self.assertFalse(says and not true, (case, budget, ways, walls))
                 counts[f'refused, with {budget} states'] += true and not says
-        print('look: ' + ', '.join('%s: %d' % one for one in counts.items()))
+        print('look: ' + ', '.join(f'{what}: {count}' for what, count in counts.items()))
         self.assertGreater(counts['all can finish'], most * 0.3)
         self.assertGreater(most - counts['all can finish'], most * 0.1)
         self.assertLess(counts['refused, with 300 states'], counts['all can finish'] * 0.01)

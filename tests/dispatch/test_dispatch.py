@@ -226,7 +226,7 @@ class Orders(OverADesk):
                 told(key, node)
         self.assertRegex(
             lines[2],
-            '^KIT/0001: cancels order P1, of J1: it and others block one another, %s$' % SHUT_IN,
+            f'^KIT/0001: cancels order P1, of J1: it and others block one another, {SHUT_IN}$',
         )
         self.assertEqual(
             (desk.vehicle(ONE).pending, desk.vehicle(TWO).pending), ('cancelOrder', None)

@@ -97,7 +97,7 @@ class Program(OverADesk):
     def test_a_desk_without_a_layout(self) -> None:
         """The program waits until it has one, and goes by it."""
         with Serving(os.path.join(self.folder.name, 'new.db'), 10**6) as serving:
-            desk = Desk('127.0.0.1:%d' % serving.port, timeout=PATIENCE)
+            desk = Desk(f'127.0.0.1:{serving.port}', timeout=PATIENCE)
             words = [
                 sys.executable,
                 os.path.join(TOOLS, 'dispatch'),
@@ -161,7 +161,7 @@ class Unit(unittest.TestCase):
         )
         assert found
         self.assertEqual(self.options['--desk'], '${NULVRADER_DESK}')
-        self.assertIn('\nNULVRADER_DESK=unix:%s\n' % found.group(1), self.conf)
+        self.assertIn(f'\nNULVRADER_DESK=unix:{found.group(1)}\n', self.conf)
 
     def test_its_line(self) -> None:
         """It is taken, and waits for a desk where none listens. Where it ends, the unit starts it

@@ -190,7 +190,7 @@ class Kept(unittest.TestCase):
                     self.assertTrue(floor.someone_has_to_come_first(), (case, turn, traffic))
                 before = judge.finish_now(floor.traffic())
                 counts['can move' if plan.can_move() else 'stands'] += 1
-        print('plan: ' + ', '.join('%s: %d' % one for one in counts.items()))
+        print('plan: ' + ', '.join(f'{what}: {count}' for what, count in counts.items()))
         self.assertGreater(counts['granted'], CASES // 15)
         self.assertGreater(counts['can move'], CASES // 15)
 
@@ -239,7 +239,7 @@ class Kept(unittest.TestCase):
                         self.assertLessEqual(
                             wanted, look(ways, walls, PLENTY, wanted).finishing, (case, turn, name)
                         )
-        print('behind people: ' + ', '.join('%s: %d' % one for one in counts.items()))
+        print('behind people: ' + ', '.join(f'{what}: {count}' for what, count in counts.items()))
         self.assertGreater(counts['granted'], CASES // 30)
         self.assertGreater(counts['all finish'], CASES // 30)
 
