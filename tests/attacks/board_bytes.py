@@ -4,12 +4,12 @@ from __future__ import annotations
 import contextlib
 import json
 import os
-import socket
 import time
 from typing import Any
 
 from tests.support.attacked_board import STATUS, sent
-from tests.support.board_run import ONE, Plant, Watching
+from tests.support.board_words import OverASocket, datagram
+from tests.support.board_run import ONE, Watching
 
 
 class Desync(Watching):
@@ -223,23 +223,12 @@ class Values(Watching):
         )
 
 
-class HostileWords(Watching):
+class HostileWords(OverASocket):
     """What is sent to the socket on which gateways tell of vehicles."""
-
-    def setUp(self) -> None:
-        self.plant = Plant()
-        self.addCleanup(self.plant.close)
-        self.desk, self.path = self.plant.desk, self.plant.path('words.sock')
-        self.plant.vehicle(ONE, 'N1')
-        self.board = self.plant.board('--words', self.path, '--silent', '600')
-        self.out = socket.socket(socket.AF_UNIX, socket.SOCK_DGRAM)
-        self.addCleanup(self.out.close)
-        self.wait('vehicle', 'KIT/0001', node='N1')
 
     def tell(self, **members: Any) -> None:
         """Tells of KIT/0001."""
-        told = {'manufacturer': 'KIT', 'serialNumber': '0001', **members}
-        self.out.sendto(json.dumps(told).encode(), self.path)
+        self.out.sendto(datagram(**members), self.path)
 
     def test_a_flood(self) -> None:
         """Invented vehicles, bytes and datagrams that are too long, as fast as they go: the board

@@ -20,7 +20,7 @@ from unittest import mock
 
 from nulvrader.board import page_state as shown_module
 from nulvrader.board.page_state import Shown
-from tests.support.attacked_board import STATUS, read_all
+from tests.support.attacked_board import STATUS, connections, read_all
 from tests.support.board_run import ONE, Plant, Watching, has_loopback, until
 
 POLLS = '''
@@ -71,17 +71,8 @@ class Crowd(unittest.TestCase):
 
     def crowd(self, count: int, data: bytes = b'') -> list[socket.socket]:
         """So many connections, or as many as are taken, which send these bytes."""
-        for _ in range(count):
-            plain = socket.socket()
+        for plain in connections(self.board.port, count, data):
             self.addCleanup(plain.close)
-            plain.setsockopt(socket.SOL_SOCKET, socket.SO_RCVBUF, 4096)
-            plain.settimeout(5)
-            try:
-                plain.connect(('127.0.0.1', self.board.port))
-            except TimeoutError:
-                break
-            with contextlib.suppress(OSError):  # it was ended for another one
-                plain.send(data)
             self.plain.append(plain)
         return self.plain
 

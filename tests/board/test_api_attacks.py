@@ -16,6 +16,7 @@ import time
 import unittest
 from unittest import mock
 
+from tests.support.attacked_board import connections
 from tests.support.board_run import ONE, Plant, has_loopback, until
 from tests.support.event_client import Stream, messages
 
@@ -57,20 +58,10 @@ class Crowd(unittest.TestCase):
 
     def crowd(self, count: int) -> list[socket.socket]:
         """So many streams from the first event on, of which nobody reads a byte."""
-        found = []
         request = f'GET /api/events/stream HTTP/1.1\r\nHost: 127.0.0.1:{self.board.port}\r\n\r\n'
-        for _ in range(count):
-            plain = socket.socket()
+        found = list(connections(self.board.port, count, request.encode()))
+        for plain in found:
             self.addCleanup(plain.close)
-            plain.setsockopt(socket.SOL_SOCKET, socket.SO_RCVBUF, 4096)
-            plain.settimeout(5)
-            try:
-                plain.connect(('127.0.0.1', self.board.port))
-            except TimeoutError:
-                break
-            with contextlib.suppress(OSError):  # it was ended for another one
-                plain.send(request.encode())
-            found.append(plain)
         return found
 
     def status(self, name: str) -> int:

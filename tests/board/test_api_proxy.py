@@ -10,7 +10,8 @@ import unittest
 from collections.abc import Iterator
 
 from tests.support import proxies
-from tests.support.board_run import ONE, Plant, free_port, has_loopback, until
+from tests.support.board_by_nginx import BoardBehindNginx
+from tests.support.board_run import ONE, until
 from tests.support.event_client import Sent, messages
 from tests.support.proxies import Proxy, basic
 
@@ -49,20 +50,13 @@ class Stream:
         self.plain.close()
 
 
-@unittest.skipUnless(has_loopback(), 'no sockets on 127.0.0.1 here')
-@unittest.skipIf(proxies.MISSING, proxies.WHY)
-class ApiByNginx(unittest.TestCase):
-    def setUp(self) -> None:
-        self.plant = Plant()
-        self.addCleanup(self.plant.close)
+class ApiByNginx(BoardBehindNginx):
+    def prepare(self) -> None:
         self.plant.vehicle(ONE, 'N1')
-        self.plant.desk.register_load('L1', 'A')
-        port = free_port()
-        self.proxy = Proxy(self.plant.port, port)
-        self.addCleanup(self.proxy.close)
-        words = ('--name', self.proxy.host(True), '--user-header', 'X-User')
-        self.board = self.plant.board(*words, port=port)
-        until(lambda: self.board.get('load', 'L1'), 'the board has looked')
+        super().prepare()
+
+    def setUp(self) -> None:
+        super().setUp()
         self.plant.desk.add_job('J1', 'L1', 'B')
         until(lambda: self.board.get('job', 'J1'), 'the board has seen the job')
 

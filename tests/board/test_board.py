@@ -70,7 +70,7 @@ class Follows(Watching):
         self.wait('job', 'J1', phase='riding', order='O1', vehicle='KIT/0001')
 
     def check_the_record(self) -> None:
-        moves = 'SELECT from_place, to_place FROM load_moves WHERE load = %s ORDER BY n' % "'L1'"
+        moves = "SELECT from_place, to_place FROM load_moves WHERE load = 'L1' ORDER BY n"
         way = [('station A', 'vehicle KIT/0001'), ('vehicle KIT/0001', 'station B')]
         self.rows(moves, way)
         job = (
@@ -288,10 +288,7 @@ class Silent(Watching):
                     True,
                     False,
                     False,
-                    None,
-                    None,
-                    None,
-                    None,
+                    *(None, None, None, None),
                     1 + second // every,
                 )
                 fleet.take_vehicles({ONE: VehicleRow(*row, None, None, None, None)})

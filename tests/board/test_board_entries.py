@@ -17,7 +17,6 @@ import unittest
 from typing import Any
 from unittest import mock
 
-from tests.support import browser
 from tests.support.board_page import Page
 from tests.support.board_run import Watching
 from nulvrader.board import entries
@@ -26,7 +25,6 @@ from nulvrader.board.events import BOARD, VEHICLE, Cause, Event
 from nulvrader.board.record import Record
 
 BEGUN = 1_796_000_000_000  # 2026-11-30T00:53:20Z
-LACKING = browser.missing()
 
 
 class Finds(unittest.TestCase):
@@ -233,7 +231,6 @@ class Asked(Watching):
                 self.assertIn(self.board.ask('GET', path, None, headers)[0], (403, 421))
 
 
-@unittest.skipIf(LACKING is not None, LACKING or '')
 class OnThePage(Page):
     def test_it_is_found(self) -> None:
         """By a word and by a thing; with its cause; and what comes meanwhile is found too."""

@@ -8,13 +8,11 @@ import os
 import unittest
 from typing import Any
 
-from tests.support import browser
 from tests.support.board_page import Page
 from tests.support.board_run import ONE, TWO, until
 from tests.support.browser import Browser
 from tests.support.programs import ROOT
 
-LACKING = browser.missing()
 # Widths and heights, and whether it is a phone.
 SIZES = ((1280, 800, False), (3840, 2160, False), (390, 844, True))
 TABS = ('vehicles', 'stock', 'jobs', 'events')
@@ -37,7 +35,6 @@ def opened(port: int, size: tuple[int, int, bool], language: str, dark: bool) ->
     return page
 
 
-@unittest.skipIf(LACKING is not None, LACKING or '')
 class Eyes(Page):
     def setUp(self) -> None:
         """There are alarms, a vehicle that waits for another one, jobs, and full stations."""

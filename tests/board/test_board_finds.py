@@ -6,10 +6,9 @@ from __future__ import annotations
 import unittest
 
 from tests.support.board_run import until
-from tests.support.board_page import LACKING, Page
+from tests.support.board_page import Page
 
 
-@unittest.skipIf(LACKING is not None, LACKING or '')
 class Finds(Page):
     def test_what_is_found_by_its_name(self) -> None:
         """Enter picks what has the name that was typed; its station is seen, so the map stays. A

@@ -11,7 +11,6 @@ import re
 import unittest
 from collections.abc import Iterable
 
-from tests.support import browser
 from tests.support.board_page import Page
 from tests.support.board_run import ONE, TOOLS, until
 from tests.support.programs import ROOT
@@ -30,7 +29,6 @@ MADE = re.compile(r'say\(`([a-z]\w*)\.\$\{')
 MARKED = re.compile(r'data-(?:say|label|title)="([^"]+)"')
 # A text of two words or more that begins with a capital letter, as a sentence does.
 SENTENCE = re.compile(r"'[A-Z][a-z]+ [^']*'|`[A-Z][a-z]+ [^`]*`")
-LACKING = browser.missing()
 VEHICLE = '/vehicles/{manufacturer}/{serial}'
 # Of each command of the page the call of the desk.
 CALLS = {
@@ -256,7 +254,6 @@ class OfTheDesk(unittest.TestCase):
                     self.assertEqual(said, [], path)
 
 
-@unittest.skipIf(LACKING is not None, LACKING or '')
 class InTheBrowser(Page):
     def open_in(self, languages: str) -> None:
         """Opens the page in a browser of these languages."""

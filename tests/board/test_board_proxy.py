@@ -7,25 +7,11 @@ import json
 import re
 import unittest
 
-from tests.support import proxies
-from tests.support.board_run import Plant, free_port, has_loopback, until
-from tests.support.proxies import Proxy, Told
+from tests.support.board_by_nginx import BoardBehindNginx
+from tests.support.proxies import Told
 
 
-@unittest.skipUnless(has_loopback(), 'no sockets on 127.0.0.1 here')
-@unittest.skipIf(proxies.MISSING, proxies.WHY)
-class BoardByNginx(unittest.TestCase):
-    def setUp(self) -> None:
-        self.plant = Plant()
-        self.addCleanup(self.plant.close)
-        self.plant.desk.register_load('L1', 'A')
-        port = free_port()
-        self.proxy = Proxy(self.plant.port, port)
-        self.addCleanup(self.proxy.close)
-        words = ('--name', self.proxy.host(True), '--user-header', 'X-User')
-        self.board = self.plant.board(*words, port=port)
-        until(lambda: self.board.get('load', 'L1'), 'the board has looked')
-
+class BoardByNginx(BoardBehindNginx):
     def ask(self, request: str, user: str | None, *lines: str, body: object = None) -> Told:
         """One request to the server with TLS."""
         text = '' if body is None else json.dumps(body)

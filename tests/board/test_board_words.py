@@ -6,12 +6,12 @@ from __future__ import annotations
 import contextlib
 import json
 import os
-import socket
 import stat
 import unittest
 from typing import Any
 
-from tests.support.board_run import ONE, Plant, Watching
+from tests.support.board_run import Plant
+from tests.support.board_words import OverASocket, datagram
 from nulvrader.board.events import Cause
 from nulvrader.board.news import News, OrderEnd
 from nulvrader.board.page_state import Shown
@@ -30,14 +30,9 @@ SCANNER = {
 DIRTY = Error('scannerDirty', 'FATAL', 'front scanner dirty', '', ('nodeId N1',))
 
 
-def told(**members: Any) -> bytes:
-    """A datagram of KIT/0001."""
-    return json.dumps({'manufacturer': 'KIT', 'serialNumber': '0001', **members}).encode()
-
-
 class Reads(unittest.TestCase):
     def test_what_is_read(self) -> None:
-        data = told(
+        data = datagram(
             operatingMode='MANUAL',
             safetyState={'eStop': 'REMOTE', 'fieldViolation': True},
             batteryState={'batteryCharge': 12.34, 'charging': False},
@@ -57,12 +52,12 @@ class Reads(unittest.TestCase):
         self.assertEqual(said, [*reasons, 'operating mode MANUAL'])
 
     def test_what_is_not_said_stays(self) -> None:
-        before = read_words(told(operatingMode='MANUAL', errors=[SCANNER]))[1]
-        after = read_words(told(connectionState='OFFLINE'))[1].over(before)
+        before = read_words(datagram(operatingMode='MANUAL', errors=[SCANNER]))[1]
+        after = read_words(datagram(connectionState='OFFLINE'))[1].over(before)
         self.assertEqual(
             (after.mode, after.errors, after.connection), ('MANUAL', (DIRTY,), 'OFFLINE')
         )
-        after = read_words(told(errors=[]))[1].over(after)
+        after = read_words(datagram(errors=[]))[1].over(after)
         self.assertEqual((after.mode, after.errors), ('MANUAL', ()))
 
     def test_what_is_no_datagram(self) -> None:
@@ -77,10 +72,10 @@ class Reads(unittest.TestCase):
                 b'[' * 10_000,
                 b'{"manufacturer":"KIT"}',
             ),
-            told(serialNumber='a b'),
-            told(serialNumber={}),
-            told(manufacturer='x' * 40),
-            told(errors=['x' * 17_000]),
+            datagram(serialNumber='a b'),
+            datagram(serialNumber={}),
+            datagram(manufacturer='x' * 40),
+            datagram(errors=['x' * 17_000]),
         ):
             with self.assertRaises(NoWords, msg=data[:40]):
                 read_words(data)
@@ -105,18 +100,18 @@ class Reads(unittest.TestCase):
                 *('operatingMode', 'safetyState', 'batteryState', 'agvPosition', 'errors'),
                 *('actionStates', 'connectionState'),
             ):
-                _, words = read_words(told(**{name: value}))
+                _, words = read_words(datagram(**{name: value}))
                 for text in (words.mode, words.stop, words.connection):
                     self.assertTrue(text is None or (text.isprintable() and len(text) <= 60))
         errors = [{'errorType': nasty, 'errorLevel': nasty, 'errorDescription': nasty[:900]}]
-        (error,) = read_words(told(errors=errors))[1].errors or ()
+        (error,) = read_words(datagram(errors=errors))[1].errors or ()
         self.assertTrue(error.words().isprintable() and len(error.words()) < 500)
         many = [{'errorType': str(number), 'errorLevel': 'WARNING'} for number in range(100)]
-        self.assertEqual(len(read_words(told(errors=[*many, SCANNER]))[1].errors or ()), 16)
-        self.assertEqual((read_words(told(errors=[*many, SCANNER]))[1].errors or ())[0], DIRTY)
-        number = told(batteryState={'batteryCharge': 0}).replace(b': 0', b': 1e999')
+        self.assertEqual(len(read_words(datagram(errors=[*many, SCANNER]))[1].errors or ()), 16)
+        self.assertEqual((read_words(datagram(errors=[*many, SCANNER]))[1].errors or ())[0], DIRTY)
+        number = datagram(batteryState={'batteryCharge': 0}).replace(b': 0', b': 1e999')
         self.assertIsNone(read_words(number)[1].battery)
-        number = told(agvPosition={'x': 0, 'y': 0}).replace(b': 0', b': NaN')
+        number = datagram(agvPosition={'x': 0, 'y': 0}).replace(b': 0', b': NaN')
         self.assertIsNone(read_words(number)[1].position)
 
 
@@ -131,7 +126,7 @@ class Keeps(unittest.TestCase):
     def say(self, later: int = 1000, **members: Any) -> None:
         """The vehicle says this, so many milliseconds later."""
         self.at += later
-        words = read_words(told(**members))[1]
+        words = read_words(datagram(**members))[1]
         self.keeper.take({'KIT/0001': [words]}, ['KIT/0001'], self.at)
         self.news.commit()
 
@@ -240,24 +235,14 @@ class Keeps(unittest.TestCase):
         self.assertEqual(self.record.rows('SELECT count(*) FROM vehicle_words'), [(0,)])
 
 
-class Hears(Watching):
+class Hears(OverASocket):
     """A board that is told on a socket."""
-
-    def setUp(self) -> None:
-        self.plant = Plant()
-        self.addCleanup(self.plant.close)
-        self.desk, self.path = self.plant.desk, self.plant.path('words.sock')
-        self.plant.vehicle(ONE, 'N1')
-        self.board = self.plant.board('--words', self.path, '--silent', '600')
-        self.out = socket.socket(socket.AF_UNIX, socket.SOCK_DGRAM)
-        self.addCleanup(self.out.close)
-        self.wait('vehicle', 'KIT/0001', node='N1')
 
     def test_why_it_is_not_ready(self) -> None:
         """While no desk answers, too."""
         self.plant.served.stop()
         self.wait('desk', '', up=False)
-        self.out.sendto(told(operatingMode='MANUAL', errors=[SCANNER]), self.path)
+        self.out.sendto(datagram(operatingMode='MANUAL', errors=[SCANNER]), self.path)
         self.wait('said', 'KIT/0001', mode='MANUAL')
         self.said('KIT/0001 says: operating mode MANUAL, it was AUTOMATIC')
         self.rows('SELECT mode FROM vehicle_words', [('MANUAL',)])

@@ -197,10 +197,7 @@ def seen(number: int, node: str, capacity: int = 1) -> Seen:
         True,
         False,
         False,
-        None,
-        None,
-        None,
-        None,
+        *(None, None, None, None),
         1,
     )
     return Seen(row, (), None, frozenset((node,)), 0)

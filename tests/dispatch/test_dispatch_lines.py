@@ -14,35 +14,23 @@ from tests.support.desks import over_sockets
 class Lines(OverADesk):
     places = ()
 
-    def test_a_failed_drop_is_told(self) -> None:
+    def line_after(self, first: str, both: str) -> str:
+        """What is said of an order whose pick and drop have ended so."""
         self.turn()
         self.desk.add_job('J1', 'L1', 'B')
         self.turn()
-        self.told(ONE, 'b', 4, 'f')
+        self.told(ONE, 'b', 4, first)
         self.turn()
-        self.told(ONE, 'bb', 6, 'fx')
-        self.assertRegex(
-            self.turn()[0],
-            (
-                r'has ended at bb; J1 is stopped, since its drop failed: its load L1 is now at'
-                r' vehicle KIT/0001$'
-            ),
-        )
+        self.told(ONE, 'bb', 6, both)
+        return self.turn()[0]
+
+    def test_a_failed_drop_is_told(self) -> None:
+        line = r'J1 is stopped, since its drop failed: its load L1 is now at vehicle KIT/0001$'
+        self.assertRegex(self.line_after('f', 'fx'), f'has ended at bb; {line}')
 
     def test_a_failed_pick_is_told(self) -> None:
-        self.turn()
-        self.desk.add_job('J1', 'L1', 'B')
-        self.turn()
-        self.told(ONE, 'b', 4, 'x')
-        self.turn()
-        self.told(ONE, 'bb', 6, 'xx')
-        self.assertRegex(
-            self.turn()[0],
-            (
-                r'has ended at bb; J1 is stopped, since its pick failed: its load L1 is now at'
-                r' station A$'
-            ),
-        )
+        line = r'J1 is stopped, since its pick failed: its load L1 is now at station A$'
+        self.assertRegex(self.line_after('x', 'xx'), f'has ended at bb; {line}')
 
     def test_a_vehicle_that_is_placed(self) -> None:
         self.turn()

@@ -1,5 +1,6 @@
 """The dispatcher as a program, over the built program of a desk: how it starts and ends, faults;
 and as a service of systemd, as docs/OPERATE.md installs it."""
+import contextlib
 import os
 import re
 import shlex
@@ -8,13 +9,29 @@ import subprocess
 import sys
 import tempfile
 import unittest
-from typing import Any
+from collections.abc import Iterator
+from typing import Any, TextIO, cast
 from unittest import mock
 
 from tests.support.dispatching import LAYOUT, ONE, OverADesk, Told
 from nulvrader.desk.client import Answer, Desk
 from tests.support.programs import PATIENCE, ROOT, TOOLS, module, within
 from tests.support.desks import Serving, over_sockets
+
+
+@contextlib.contextmanager
+def running(*words: str) -> Iterator[TextIO]:
+    """Runs the dispatcher's program, and gives what it prints to a block; then it is ended by a
+    signal, with 0."""
+    line = [sys.executable, os.path.join(TOOLS, 'dispatch'), *words]
+    with subprocess.Popen(line, stdout=subprocess.PIPE, text=True) as process:
+        assert process.stdout
+        try:
+            yield cast(TextIO, process.stdout)
+        finally:
+            process.terminate()
+        status = process.wait(300)
+    assert status == 0, status
 
 
 @over_sockets
@@ -24,21 +41,8 @@ class Program(OverADesk):
     def test_the_program(self) -> None:
         """It waits for its desk, gives an order, and ends by a signal."""
         self.desk.add_job('J1', 'L1', 'B')
-        words = [
-            sys.executable,
-            os.path.join(TOOLS, 'dispatch'),
-            '--desk',
-            self.address,
-            '--every',
-            '0.1',
-        ]
-        with subprocess.Popen(words, stdout=subprocess.PIPE, text=True) as process:
-            assert process.stdout
-            try:
-                lines = [process.stdout.readline(), process.stdout.readline()]
-            finally:
-                process.terminate()
-            self.assertEqual(process.wait(300), 0)
+        with running('--desk', self.address, '--every', '0.1') as out:
+            lines = [out.readline(), out.readline()]
         self.assertRegex(lines[0], r'^\d\d:\d\d:\d\d gives orders at ')
         self.assertRegex(lines[1], r'^\d\d:\d\d:\d\d KIT/0001: takes J1 \(L1 from A to B\)')
         self.assertIsNotNone(self.desk.vehicle(ONE).order)
@@ -98,27 +102,14 @@ class Program(OverADesk):
         """The program waits until it has one, and goes by it."""
         with Serving(os.path.join(self.folder.name, 'new.db'), 10**6) as serving:
             desk = Desk(f'127.0.0.1:{serving.port}', timeout=PATIENCE)
-            words = [
-                sys.executable,
-                os.path.join(TOOLS, 'dispatch'),
-                '--desk',
-                desk.address,
-                '--every',
-                '0.1',
-            ]
-            with subprocess.Popen(words, stdout=subprocess.PIPE, text=True) as process:
-                assert process.stdout
-                try:
-                    lines = [process.stdout.readline()]
-                    desk.set_layout(LAYOUT)
-                    desk.register_vehicle(ONE, 'ab')
-                    Told(desk)(ONE, 'ab')
-                    desk.register_load('L1', 'A')
-                    desk.add_job('J1', 'L1', 'B')
-                    lines += [process.stdout.readline(), process.stdout.readline()]
-                finally:
-                    process.terminate()
-                self.assertEqual(process.wait(300), 0)
+            with running('--desk', desk.address, '--every', '0.1') as out:
+                lines = [out.readline()]
+                desk.set_layout(LAYOUT)
+                desk.register_vehicle(ONE, 'ab')
+                Told(desk)(ONE, 'ab')
+                desk.register_load('L1', 'A')
+                desk.add_job('J1', 'L1', 'B')
+                lines += [out.readline(), out.readline()]
         for line, wanted in zip(
             lines,
             (
@@ -175,17 +166,8 @@ class Unit(unittest.TestCase):
         words = [word for option in self.options for word in (option, here[option])]
         self.assertEqual(self.said('Restart'), 'always')
         self.assertNotIn('RestartPreventExitStatus', self.unit)
-        with subprocess.Popen(
-            [sys.executable, os.path.join(TOOLS, 'dispatch'), *words],
-            stdout=subprocess.PIPE,
-            text=True,
-        ) as process:
-            assert process.stdout
-            try:
-                line = process.stdout.readline()
-            finally:
-                process.terminate()
-            self.assertEqual(process.wait(300), 0)
+        with running(*words) as out:
+            line = out.readline()
         self.assertRegex(line, r'^\d\d:\d\d:\d\d waits for the desk: ')
 
 

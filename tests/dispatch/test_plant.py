@@ -59,6 +59,12 @@ CIRCLE = (
 )
 
 
+def run_with_kills(seconds: float) -> None:
+    """Runs the small plant, in which the desk is killed every so many seconds."""
+    trouble = Trouble(seconds, None, None, False, None)
+    run(DESK, dataclasses.replace(SMALL, trouble=trouble), 'look')
+
+
 @over_sockets
 class APartOfADay(unittest.TestCase):
     def test_all_goes_wrong_that_can(self) -> None:
@@ -157,11 +163,7 @@ class Faulty(unittest.TestCase):
                 Wrong,
                 r'^load-\d+ is at checking, and the desk has it at (station \S+|vehicle KIT/\d+)$',
             ):
-                run(
-                    DESK,
-                    dataclasses.replace(SMALL, trouble=Trouble(20.0, None, None, False, None)),
-                    'look',
-                )
+                run_with_kills(20.0)
 
     def test_a_load_in_two_orders(self) -> None:
         """A vehicle takes another's load along."""
@@ -175,11 +177,7 @@ class Faulty(unittest.TestCase):
             with self.assertRaisesRegex(
                 Wrong, r'^load-\d+ is in an order of KIT/\d+ and in one of KIT/\d+$'
             ):
-                run(
-                    DESK,
-                    dataclasses.replace(SMALL, trouble=Trouble(60.0, None, None, False, None)),
-                    'look',
-                )
+                run_with_kills(60.0)
 
     def test_a_vehicle_that_is_elsewhere(self) -> None:
         """One is moved by hand, and nobody tells the desk."""
@@ -193,11 +191,7 @@ class Faulty(unittest.TestCase):
             with self.assertRaisesRegex(
                 Wrong, r'^KIT/\d+ is on the node \S+, which the desk holds for (None|KIT/\d+)$'
             ):
-                run(
-                    DESK,
-                    dataclasses.replace(SMALL, trouble=Trouble(20.0, None, None, False, None)),
-                    'look',
-                )
+                run_with_kills(20.0)
 
 
 @over_sockets

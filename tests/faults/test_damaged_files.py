@@ -20,7 +20,14 @@ from tests.support.calls import REPORTS, request
 from tests.support.fault_files import ALL, remove
 from tests.support.faults import STORAGE, Script, full_log, lines, scripts
 from nulvrader.file.tables import SECOND, TABLES
-from tests.support.records import FOLDER, answers_of_rows, broken, copied, rows_of
+from tests.support.records import (
+    FOLDER,
+    answers_of_rows,
+    broken,
+    checkpoint,
+    copied,
+    rows_of,
+)
 from tests.support.damages import DRIVEN, FILLED, FINISHED, SHAPES, asked, damaged
 from tests.support.answers import answers_of
 from tests.support.first_schema import BEGUN, FIRST, committed
@@ -139,9 +146,7 @@ class FilesTest(unittest.TestCase):
 class Damaged(FilesTest):
     def into_database(self) -> None:
         """What the log has is put into the database, and the log is gone."""
-        base = sqlite3.connect(self.db)
-        base.execute('PRAGMA wal_checkpoint(TRUNCATE)')
-        base.close()
+        checkpoint(self.db)
         self.assertEqual(list(self.files()), [''])
 
     def kinds_of(self, script: Any) -> Any:

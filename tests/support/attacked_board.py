@@ -4,6 +4,7 @@ from __future__ import annotations
 import contextlib
 import re
 import socket
+from collections.abc import Iterator
 
 STATUS = re.compile(rb'HTTP/1\.1 ([0-9]{3}) ')
 
@@ -27,3 +28,20 @@ def sent(port: int, data: bytes) -> bytes:
             return read_all(plain)
         except TimeoutError:
             raise AssertionError(f'the board keeps the connection open behind {data!r}') from None
+
+
+def connections(port: int, count: int, data: bytes) -> Iterator[socket.socket]:
+    """Opens so many connections to a board, or as many as it takes, sends these bytes by each, and
+    reads nothing."""
+    for _ in range(count):
+        plain = socket.socket()
+        plain.setsockopt(socket.SOL_SOCKET, socket.SO_RCVBUF, 4096)
+        plain.settimeout(5)
+        try:
+            plain.connect(('127.0.0.1', port))
+        except TimeoutError:
+            plain.close()
+            return
+        with contextlib.suppress(OSError):  # it was ended for another one
+            plain.send(data)
+        yield plain

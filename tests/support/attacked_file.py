@@ -15,6 +15,7 @@ import unittest
 from collections.abc import Iterator
 from typing import IO
 
+from tests.support.records import checkpoint
 from tests.support.hostile_tables import LONG, SHORT
 from tests.support.programs import ROOT, TOOLS, until
 
@@ -98,8 +99,7 @@ class Attack(unittest.TestCase):
         with open(ROWS, 'rb') as file:
             line = [DESK, 'replay', '--db', cls.filled, '--at', AT]
             subprocess.run(line, stdin=file, stdout=subprocess.DEVNULL, check=True)
-        with contextlib.closing(sqlite3.connect(cls.filled)) as base:
-            base.execute('PRAGMA wal_checkpoint(TRUNCATE)')
+        checkpoint(cls.filled)
 
     @classmethod
     def tearDownClass(cls) -> None:

@@ -5,33 +5,25 @@ from __future__ import annotations
 import unittest
 
 from tests.support import browser
-from tests.support.board_run import ONE, Plant, until
+from tests.support.board_run import Watching, until
 from tests.support.browser import Browser
 
 LACKING = browser.missing()
 
 
 @unittest.skipIf(LACKING is not None, LACKING or '')
-class Page(unittest.TestCase):
+class Page(Watching):
     """A desk with two loads and a vehicle at N1, a board, and its page in a browser."""
 
     words: tuple[str, ...] = ('--silent', '600', '--timeout', '600')
-    plant: Plant
     browser: Browser
 
     def setUp(self) -> None:
-        self.plant = Plant()
-        self.addCleanup(self.plant.close)
-        self.desk = self.plant.desk
-        self.plant.vehicle(ONE, 'N1')
-        self.desk.register_load('L1', 'A')
-        self.desk.register_load('L2', 'A')
-        self.board = self.plant.board(*self.words)
+        super().setUp()
         self.browser = Browser()
         self.addCleanup(self.browser.close)
         self.browser.open(f'http://127.0.0.1:{self.board.port}/')
         self.addCleanup(self.check_the_console)
-        self.board.has_looked(2)
         self.sees('.vehicle-card', 'KIT/0001')
         self.sees('#tab-stock', '2')
 

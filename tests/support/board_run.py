@@ -15,6 +15,7 @@ import unittest
 from collections.abc import Sequence
 from typing import Any
 
+from tests.support import calls
 from tests.support.programs import PATIENCE, ROOT, TOOLS, free_port, until
 from tests.support.siding import siding
 
@@ -118,28 +119,10 @@ class Plant:
         """Posts a state of a vehicle that is ready; `actions` are pairs of an action's id and its
         status."""
         self.headers[key] = self.headers.get(key, 0) + 1
-        message = {
-            'headerId': self.headers[key],
-            'timestamp': '2026-11-28T06:00:00Z',
-            'version': '2.0.0',
-            'manufacturer': key.manufacturer,
-            'serialNumber': key.serial,
-            'orderId': order,
-            'orderUpdateId': update,
-            'lastNodeId': node,
-            'lastNodeSequenceId': sequence,
-            'driving': False,
-            'nodeStates': [],
-            'edgeStates': [],
-            'actionStates': [
-                {'actionId': name, 'actionStatus': status} for name, status in actions
-            ],
-            'batteryState': {'batteryCharge': 80, 'charging': False},
-            'operatingMode': 'AUTOMATIC',
-            'errors': [],
-            'safetyState': {'eStop': 'NONE', 'fieldViolation': False},
-            **others,
-        }
+        vehicle = calls.key(key.serial, key.manufacturer)
+        number = self.headers[key]
+        message = calls.state_body(number, vehicle, order, update, node, sequence, actions)
+        message |= {'timestamp': '2026-11-28T06:00:00Z', **others}
         if not self.desk.post_state(key, message):
             raise AssertionError('an old state')
 

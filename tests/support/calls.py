@@ -50,8 +50,8 @@ def present(**members: object) -> dict[str, object]:
     return {name: value for name, value in members.items() if value is not None}
 
 
-def key(serial: str) -> dict[str, object]:
-    return {'manufacturer': 'KIT', 'serialNumber': serial}
+def key(serial: str, manufacturer: str = 'KIT') -> dict[str, object]:
+    return {'manufacturer': manufacturer, 'serialNumber': serial}
 
 
 def layout(rows: str) -> Call:
@@ -121,22 +121,22 @@ def resync(serial: str = '0001') -> Call:
     return Call(f'POST /vehicles/KIT/{serial}/resync', '')
 
 
-def state(
+def state_body(
     number: int,
-    order: str = '',
-    update: int = 0,
-    node: str = 'N1',
-    sequence: int = 0,
-    statuses: Iterable[tuple[str, str]] = (),
-    serial: str = '0001',
-    **others: Any,
-) -> Call:
-    """A state of a vehicle that is ready; `statuses` are pairs of an action's id and its status."""
-    body = {
+    vehicle: dict[str, object],
+    order: str,
+    update: int,
+    node: str,
+    sequence: int,
+    statuses: Iterable[tuple[str, str]],
+) -> dict[str, Any]:
+    """The message of a vehicle that is ready; `statuses` are pairs of an action's id and its
+    status."""
+    return {
         'headerId': number,
         'timestamp': '2023-11-14T22:13:19.50Z',
         'version': '2.0.0',
-        **key(serial),
+        **vehicle,
         'orderId': order,
         'orderUpdateId': update,
         'lastNodeId': node,
@@ -150,6 +150,20 @@ def state(
         'errors': [],
         'safetyState': {'eStop': 'NONE', 'fieldViolation': False},
     }
+
+
+def state(
+    number: int,
+    order: str = '',
+    update: int = 0,
+    node: str = 'N1',
+    sequence: int = 0,
+    statuses: Iterable[tuple[str, str]] = (),
+    serial: str = '0001',
+    **others: Any,
+) -> Call:
+    """A state of a vehicle that is ready; `statuses` are pairs of an action's id and its status."""
+    body = state_body(number, key(serial), order, update, node, sequence, statuses)
     return Call(f'POST /uagv/v2/KIT/{serial}/state', {**body, **others})
 
 

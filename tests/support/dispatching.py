@@ -5,6 +5,7 @@ import tempfile
 import unittest
 from typing import Any
 
+from tests.support import calls
 from tests.support.programs import PATIENCE, TOOLS
 from tests.support.desks import Serving
 
@@ -58,39 +59,18 @@ class Told:
     ) -> Any:
         """A state of a vehicle that has its last order with its last update, or names this one.
         `acts` has a letter for each action that has ended: f for finished, x for failed."""
-        message = self.desk.order_message(key) if fresh else None
+        last = self.desk.order_message(key) if fresh else None
         order, update = named or '', 0
-        if message:
-            order, update = message['orderId'], message['orderUpdateId']
+        if last:
+            order, update = last['orderId'], last['orderUpdateId']
         statuses = {'f': 'FINISHED', 'x': 'FAILED', 'r': 'RUNNING'}
-        listed = [
-            {'actionId': f'{order}.{n}', 'actionStatus': statuses[letter]}
-            for n, letter in enumerate(acts)
-        ]
+        listed = [(f'{order}.{n}', statuses[letter]) for n, letter in enumerate(acts)]
+        listed += [(name, 'FINISHED') for name in instant]
         self.headers[key] = self.headers.get(key, 0) + 1
-        return self.desk.post_state(
-            key,
-            {
-                'headerId': self.headers[key],
-                'timestamp': '2026-01-01T00:00:00.00Z',
-                'version': '2.0.0',
-                'manufacturer': key.manufacturer,
-                'serialNumber': key.serial,
-                'orderId': order,
-                'orderUpdateId': update,
-                'lastNodeId': node,
-                'lastNodeSequenceId': sequence,
-                'driving': False,
-                'paused': paused,
-                'nodeStates': [],
-                'edgeStates': [],
-                'actionStates': listed
-                + [{'actionId': name, 'actionStatus': 'FINISHED'} for name in instant],
-                'operatingMode': mode,
-                'errors': [],
-                'safetyState': {'eStop': 'NONE', 'fieldViolation': False},
-            },
-        )
+        vehicle = calls.key(key.serial, key.manufacturer)
+        number = self.headers[key]
+        message = calls.state_body(number, vehicle, order, update, node, sequence, listed)
+        return self.desk.post_state(key, {**message, 'paused': paused, 'operatingMode': mode})
 
 
 class OverADesk(unittest.TestCase):

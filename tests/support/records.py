@@ -1,6 +1,7 @@
 """The rows of a desk's file, as another SQLite reads them, which of the rules in
 `tools/nulvrader/file/rules.py` they break, and what a desk that has these rows is to answer to each
 GET, by the model of the rules in `tests/model`."""
+import contextlib
 import os
 import shutil
 import sqlite3
@@ -94,3 +95,9 @@ def answers_of_rows(rows: Any, targets: Iterable[str]) -> list[tuple[int, bytes]
 def export_of_rows(rows: Any) -> str:
     """The export of all loads."""
     return answers_of_rows(rows, ['/export/loads'])[0][1].decode()
+
+
+def checkpoint(db: str) -> None:
+    """Has SQLite move what the log of a file has into the file, and empty the log."""
+    with contextlib.closing(sqlite3.connect(db)) as base:
+        base.execute('PRAGMA wal_checkpoint(TRUNCATE)')

@@ -13,7 +13,7 @@ import unittest
 from typing import Any
 
 from tests.support.programs import TOOLS
-from tests.support.records import FOLDER
+from tests.support.records import FOLDER, checkpoint
 from tests.support.damages import FILLED, asked
 from tests.support.desks import AT, DESK, run
 
@@ -46,8 +46,7 @@ class WhyTest(unittest.TestCase):
         cls.log = cls.filled + '-wal'
         shutil.copyfile(cls.filled, cls.filled + '.before')
         shutil.copyfile(cls.log, cls.log + '.before')
-        with contextlib.closing(sqlite3.connect(cls.filled)) as base:
-            base.execute('PRAGMA wal_checkpoint(TRUNCATE)')
+        checkpoint(cls.filled)
 
     @classmethod
     def tearDownClass(cls) -> None:
