@@ -13,19 +13,19 @@ MINUTE = 60.0
 
 
 def memory_of(number: int) -> float:
-    """What a process has in memory, in MB."""
+    """Returns what a process has in memory, in MB."""
     with open(f'/proc/{number}/status') as file:
         kept = next(line for line in file if line.startswith('VmRSS:'))
     return int(kept.split()[1]) / 1000
 
 
 def size_of(path: str) -> int:
-    """The bytes of a file of SQLite and of its journal."""
+    """Returns the bytes of a file of SQLite and of its journal."""
     return sum(os.path.getsize(one) for one in (path, f'{path}-wal') if os.path.exists(one))
 
 
 def rows_by_table(path: str) -> dict[str, int]:
-    """How many rows each table of a file of SQLite has."""
+    """Returns how many rows each table of a file of SQLite has."""
     found = {}
     with contextlib.closing(sqlite3.connect(path)) as base:
         for (name,) in base.execute(

@@ -16,5 +16,5 @@ AT = '1700000000000'
 
 
 def load(number: int) -> bytes:
-    """The request that registers a load at the checking place."""
+    """Returns the request that registers a load at the checking place."""
     return calls.load(f'L{number:07d}').to_bytes()

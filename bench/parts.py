@@ -29,7 +29,7 @@ COUNT = 20
 
 
 def counted(stdin: bytes, folder: str) -> Any:
-    """The instructions in all, and those of each part."""
+    """Returns the instructions in all, and those of each part."""
     db, out = os.path.join(folder, 'parts.db'), os.path.join(folder, 'parts.out')
     for end in ('', '-wal', '-shm'):
         if os.path.exists(db + end):

@@ -27,7 +27,7 @@ START = [
 
 
 def nodes_ahead(*nodes: tuple[str, int]) -> list[dict[str, Any]]:
-    """The nodes that a vehicle has ahead, as pairs of a name and its number on the way."""
+    """Returns the nodes that a vehicle has ahead, as pairs of a name and its number on the way."""
     return [{'nodeId': name, 'sequenceId': at, 'released': True} for name, at in nodes]
 
 

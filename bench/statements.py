@@ -81,7 +81,7 @@ class Served:
 
 
 def times(name: str) -> tuple[dict[str, float], float, int]:
-    """The median seconds of each kind of call, and the opening."""
+    """Returns the median seconds of each kind of call, and the opening."""
     desk, calls = Served(name), rounds.Rounds()
     found: dict[str, list[float]] = {}
     for turn in range(TURNS + 5):
@@ -98,7 +98,7 @@ def times(name: str) -> tuple[dict[str, float], float, int]:
 
 
 def totals(folder: str, mark: str) -> dict[int, int]:
-    """The instructions between two dumps of callgrind, by the number of the second."""
+    """Returns the instructions between two dumps of callgrind, by the number of the second."""
     found = {}
     for path in glob.glob(os.path.join(folder, mark + '.*')):
         total = re.search(r'^(?:totals|summary):\s*(\d+)', open(path).read(), re.M)
@@ -108,9 +108,9 @@ def totals(folder: str, mark: str) -> dict[int, int]:
 
 
 def instructions(name: str, folder: str) -> dict[str, float]:
-    """The instructions of each kind of call, the mean of a round's, behind four rounds: from the
-    moment at which the desk looks which call it is to that of the next one, each sent when the one
-    before it was answered."""
+    """Returns the instructions of each kind of call, the mean of a round's, behind four rounds:
+    from the moment at which the desk looks which call it is to that of the next one, each sent when
+    the one before it was answered."""
     out = os.path.join(folder, 'desk.callgrind')
     calls = rounds.Rounds()
     asked: list[tuple[str, bytes]] = []
@@ -200,7 +200,7 @@ def plain_instructions(plain: str, name: str, folder: str) -> dict[str, int]:
 
 
 def with_statements() -> set[str | None]:
-    """The kinds of call that have a statement."""
+    """Returns the kinds of call that have a statement."""
     found: set[str | None] = set()
     what: str | None = None
     with open(os.path.join(HERE, 'statements.txt')) as lines:
@@ -213,7 +213,7 @@ def with_statements() -> set[str | None]:
 
 
 def compiled(folder: str) -> str:
-    """The program that carries the statements out by SQLite alone."""
+    """Returns the program that carries the statements out by SQLite alone."""
     plain = os.path.join(folder, 'plain')
     source = os.path.join(HERE, 'plain_calls.c')
     subprocess.run(['gcc', '-O2', '-o', plain, source, '-lsqlite3'], check=True)
@@ -221,7 +221,7 @@ def compiled(folder: str) -> str:
 
 
 def begun(folder: str) -> str:
-    """A file of a desk in which a round may begin."""
+    """Returns a file of a desk in which a round may begin."""
     start = os.path.join(folder, 'start.db')
     subprocess.run(
         [DESK, 'replay', '--db', start, '--at', rounds.AT],
@@ -233,7 +233,7 @@ def begun(folder: str) -> str:
 
 
 def reading(folder: str) -> str:
-    """The statements that read all rows of a desk's file."""
+    """Returns the statements that read all rows of a desk's file."""
     path = os.path.join(folder, 'tables.txt')
     with open(path, 'w') as file:
         file.write('= opening\n' + ''.join(f'SELECT * FROM {name}\n' for name in TABLES))

@@ -34,7 +34,7 @@ def mixed(count: int) -> bytes:
 
 
 def best(words: list[str], stdin: bytes, fresh: str, turns: int = 3) -> tuple[float, bytes]:
-    """The least seconds of some runs, and the output of the last."""
+    """Returns the least seconds of some runs, and the output of the last."""
     spent, out = [], b''
     for _ in range(turns):
         for end in ('', '-wal', '-shm'):
@@ -91,8 +91,8 @@ def counted(name: str, before: bytes, requests: list[bytes], folder: str) -> Non
 
 
 def sockets(words: list[str], count: int) -> float:
-    """The seconds in which a desk answers so many registrations over one connection, the client's
-    own time among them."""
+    """Returns the seconds in which a desk answers so many registrations over one connection, the
+    client's own time among them."""
     desk = subprocess.Popen(words, stdout=subprocess.PIPE)
     assert desk.stdout
     port = int(desk.stdout.readline().split(b':')[1])

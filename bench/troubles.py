@@ -59,7 +59,7 @@ def vehicle(night: Night, number: int) -> Vehicle:
 
 
 def station(night: Night, number: int) -> str:
-    """The station where a vehicle stands."""
+    """Returns the station where a vehicle stands."""
     node = vehicle(night, number).node
     return next(one.name for one in night.plant.layout.stations.values() if one.node == node)
 
@@ -83,7 +83,7 @@ def clean(night: Night) -> None:
 
 
 def charge(part: float) -> Callable[[Night], None]:
-    """A battery comes to be so full."""
+    """Returns what makes a battery so full."""
 
     def do(night: Night) -> None:
         one = vehicle(night, 3)
@@ -102,7 +102,7 @@ def drive_by_hand(on: bool) -> Callable[[Night], None]:
 
 
 def connect(on: bool) -> Callable[[Night], None]:
-    """The gateway of a vehicle is there, or is away."""
+    """Returns what makes the gateway of a vehicle be there, or away."""
 
     def do(night: Night) -> None:
         night.plant.gateways['KIT/0005'].up = on
@@ -111,7 +111,7 @@ def connect(on: bool) -> Callable[[Night], None]:
 
 
 def order(night: Night, number: int, name: str, to: str, edges: int) -> str:
-    """Gives a vehicle an order for a load that stands where it stands. The load."""
+    """Gives a vehicle an order for a load that stands where it stands, and returns the load."""
     load = f'night-{name}'
     here = station(night, number)
     night.desk.register_load(load, here)
@@ -208,7 +208,7 @@ def empty(night: Night) -> None:
 
 
 def loads_at(night: Night, name: str) -> list[str]:
-    """The loads that the desk has at a station."""
+    """Returns the loads that the desk has at a station."""
     return read_stock(night.desk.stock_report()).stations[name].loads
 
 

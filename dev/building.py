@@ -41,7 +41,7 @@ def end_if_told() -> None:
 
 
 def text_of(path: str) -> str:
-    """The text of a file, which is empty where there is no file."""
+    """Returns the text of a file, which is empty where there is no file."""
     try:
         with open(path, encoding='utf-8', errors='replace') as file:
             return file.read()
@@ -50,7 +50,7 @@ def text_of(path: str) -> str:
 
 
 def crates() -> list[str]:
-    """The crates of the program, as their lines in crates.txt."""
+    """Returns the crates of the program, as their lines in crates.txt."""
     done = subprocess.run([SOURCES, '--crates'], stdout=subprocess.PIPE, text=True, check=True)
     return done.stdout.splitlines()
 

@@ -112,7 +112,7 @@ class Figures:
                 raise NoMachines('the file can not be copied to the volume')
 
     def desk(self, number: int) -> Desk:
-        """The desk of a machine."""
+        """Returns the desk of a machine."""
         return Desk(f'unix:{self.drill.sockets[number]}', timeout=LONGEST)
 
     def first(self, besides: int) -> tuple[int, float]:

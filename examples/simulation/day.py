@@ -41,9 +41,9 @@ class Day:
     )  # by vehicle and beginning how long it was shut in, and why
 
     def made(self) -> list[str]:
-        """The vehicles that were shut in by the dispatcher itself, or nobody knows why, for longer
-        than it takes the dispatcher to see that it was a look that was too short; and the orders
-        that it cancelled for that."""
+        """Returns the vehicles that were shut in by the dispatcher itself, or nobody knows why, for
+        longer than it takes the dispatcher to see that it was a look that was too short; and the
+        orders that it cancelled for that."""
         by_itself = BEFORE, BY_ITSELF
         found = self.longest_shut_in(
             lambda seconds, why: why in by_itself and seconds > SHUT_IN + 5
@@ -53,7 +53,7 @@ class Day:
     def longest_shut_in(
         self, which: Callable[[float, str], bool] = lambda seconds, why: True
     ) -> list[str]:
-        """The times that vehicles were shut in, in lines, the longest first."""
+        """Returns the times that vehicles were shut in, in lines, the longest first."""
         rows = sorted(self.shut.items(), key=lambda row: -row[1][0])
         return [
             f'{vehicle} was shut in for {seconds:.0f} s from {since:.0f} s on, {why}'
@@ -62,14 +62,14 @@ class Day:
         ]
 
     def stopped_for(self, why: str) -> int:
-        """How many jobs were stopped for this reason."""
+        """Returns how many jobs were stopped for this reason."""
         return sum(1 for told in self.stopped.values() if told == why)
 
     def per_hour(self) -> float:
         return self.done * 3600 / self.seconds
 
     def waiting(self) -> float:
-        """Which part of the time with an order the vehicles waited, from 0 to 1."""
+        """Returns which part of the time with an order the vehicles waited, from 0 to 1."""
         return sum(self.waited.values()) / (sum(self.ordered.values()) or 1)
 
     def has_waited(self, vehicle: str, since: float, now: float, why: str) -> None:
@@ -79,7 +79,8 @@ class Day:
         self.longest = max(self.longest, now - since)
 
     def longest_waits(self, count: int = 5) -> list[str]:
-        """The longest wait and why it was, in lines, and the next of those that were long."""
+        """Returns the longest wait and why it was, in lines, and the next of those that were
+        long."""
         rows = sorted(self.long.items(), key=lambda row: -row[1][0])[:count]
         rows = [row for row in rows if row[1][0] >= min(LONG, self.longest)]
         return [

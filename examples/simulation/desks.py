@@ -179,8 +179,8 @@ class Served:
         self.process = None
 
     def report(self, name: str) -> bytes:
-        """What the program reports of the file, once it is stopped. That it does shows that the
-        file is lawful: the program reads every row first, and ends where they break a rule."""
+        """Returns what the program reports of the file, once it is stopped. That it does shows that
+        the file is lawful: the program reads every row first, and ends where they break a rule."""
         done = subprocess.run(
             [self.program, 'report', '--db', self.db, name], capture_output=True, timeout=600
         )

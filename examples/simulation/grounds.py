@@ -119,8 +119,8 @@ class Grounds:
                 self.goods.add(f'load-{n}', 'station ' + station)
 
     def waits(self) -> Mapping[str, str] | None:
-        """Why vehicles and jobs wait, as the dispatcher says. None where it is not the plant's
-        own."""
+        """Returns why vehicles and jobs wait, as the dispatcher says. None where it is not the
+        plant's own."""
         if self.make is None:
             return None
         return self.dispatcher.waits() if self.dispatcher else {}

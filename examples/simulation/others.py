@@ -65,7 +65,7 @@ class FirstCome:
         self._waits: dict[str, str] = {}
 
     def waits(self) -> Mapping[str, str]:
-        """Why each job waits, as of the last turn, called `job J1`."""
+        """Returns why each job waits, as of the last turn, called `job J1`."""
         return self._waits
 
     def shut_in(self) -> Mapping[str, tuple[float, str]]:

@@ -373,8 +373,9 @@ class People:
         self.clock.after(15, lambda: self.give_back(vehicle))
 
     def free_node(self) -> str | None:
-        """The node of a station which nobody holds, where no vehicle is, and where no order leads,
-        as people look first. Only if there is no such node it is one where an order leads."""
+        """Returns the node of a station which nobody holds, where no vehicle is, and where no order
+        leads, as people look first. Only if there is no such node it is one where an order
+        leads."""
         held = read_holds(self.desk.hold_report()).nodes
         nodes = {station.node for station in self.layout.stations.values()}
         free = sorted(node for node in nodes if node not in held and node not in self.track.nodes)

@@ -22,8 +22,8 @@ class Plant(Troubled):
     `words` tells a board what vehicles say."""
 
     def run(self, ready: Callable[[], None] = lambda: None) -> Day:
-        """The whole run, to its end. `ready` is called once the desk has its layout, vehicles and
-        loads."""
+        """Returns the whole run, to its end. `ready` is called once the desk has its layout,
+        vehicles and loads."""
         begun = time.monotonic()
         try:
             self.set_up()

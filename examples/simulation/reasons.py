@@ -56,7 +56,7 @@ class Reasons:
             raise
 
     def why_stopped(self, job: str) -> str:
-        """Why a job is stopped."""
+        """Returns why a job is stopped."""
         if job in self.jobs:
             return self.jobs[job]
         acts = [act for _, act in self.acts.get(job, ())]

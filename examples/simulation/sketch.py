@@ -174,7 +174,7 @@ class Sketch(Sketched):
         return 0
 
     def start_drive(self, order: str, vehicle: VehicleKey, to: str, edges: int) -> int:
-        """An order without actions, to a node."""
+        """Returns an order without actions, to a node."""
         car = self.cars[str(vehicle)]
         assert car.trip is None
         way = self.ways.way((car.node, to))

@@ -51,7 +51,7 @@ class Track:
         self.on[vehicle] = edge
 
     def arrive(self, vehicle: str) -> str:
-        """A vehicle has come to the end of its edge. The node."""
+        """Notes that a vehicle has come to the end of its edge, and returns the node there."""
         edge = self.on.pop(vehicle)
         node = self.edges[edge].finish
         self._enter(vehicle, node)
@@ -107,7 +107,7 @@ class Goods:
         self.add(load, finish)
 
     def places(self) -> dict[str, str]:
-        """The place of each load. A load in two places is a `Wrong`."""
+        """Returns the place of each load. A load in two places is a `Wrong`."""
         found: dict[str, str] = {}
         for place, loads in self.here.items():
             for load in loads:

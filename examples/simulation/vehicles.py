@@ -154,7 +154,7 @@ class Vehicle:
         return 'RUNNING' in self.statuses.values()
 
     def open_loads(self) -> set[str]:
-        """The loads that it still has to pick or put down."""
+        """Returns the loads that it still has to pick or put down."""
         actions = [
             action
             for node in self.nodes.values()
@@ -304,11 +304,11 @@ class Vehicle:
         self.go_on()
 
     def mode(self) -> str:
-        """Its operating mode."""
+        """Returns its operating mode."""
         return 'SERVICE' if self.in_service else 'MANUAL' if self.by_hand else 'AUTOMATIC'
 
     def errors(self) -> list[dict[str, Any]]:
-        """What is wrong with it, as its states say it."""
+        """Returns what is wrong with it, as its states say it."""
         found = list(self.faults)
         if self.in_service:
             text = f'battery empty at {self.node}, it has to be changed'
@@ -352,7 +352,7 @@ class Vehicle:
     # Its state.
 
     def state(self) -> dict[str, Any]:
-        """The next state message."""
+        """Returns the next state message."""
         self.header += 1
         actions = [
             {'actionId': name, 'actionStatus': status} for name, status in self.statuses.items()
@@ -388,12 +388,12 @@ class Vehicle:
 
 
 def _error(kind: str, level: str, text: str, refers: str, to: str) -> dict[str, Any]:
-    """An error of a state."""
+    """Returns an error of a state."""
     references = [{'referenceKey': refers, 'referenceValue': to}]
     told = {'errorType': kind, 'errorLevel': level, 'errorDescription': text}
     return {**told, 'errorReferences': references}
 
 
 def _said(action: dict[str, Any]) -> dict[str, str]:
-    """The parameters of a pick or a drop."""
+    """Returns the parameters of a pick or a drop."""
     return {pair['key']: pair['value'] for pair in action['actionParameters']}

@@ -13,7 +13,7 @@ of them gets free by itself."""
 
 
 def circles(waits: Sequence[BlockedOrder]) -> list[Circle]:
-    """The circles among what the desk shows, each from the vehicle of the least name on."""
+    """Returns the circles among what the desk shows, each from the vehicle of the least name on."""
     left = {wait.vehicle: wait for wait in waits if wait.in_circle}
     found = []
     while left:

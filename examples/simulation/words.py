@@ -54,12 +54,12 @@ def maker(kind: str, floor: Floor, batteries: Mapping[str, float]) -> Maker:
 
 
 def folder() -> str | None:
-    """Where files lie in memory, if there is such a folder."""
+    """Returns where files lie in memory, if there is such a folder."""
     return '/dev/shm' if os.access('/dev/shm', os.W_OK | os.X_OK) else None
 
 
 def run(program: str, plan: Plan, kind: str, say: Callable[[str], None] = lambda line: None) -> Day:
-    """A run over the program and a new file, which is removed at its end."""
+    """Returns a run over the program and a new file, which is removed at its end."""
     with tempfile.TemporaryDirectory(dir=folder()) as place:
         served = Served(program, os.path.join(place, 'plant.db'))
         batteries: dict[str, float] = {}
@@ -79,7 +79,7 @@ def end_by_signal() -> None:
 
 
 def told(day: Day) -> list[str]:
-    """The figures of a run, in lines."""
+    """Returns the figures of a run, in lines."""
     reasons = Counter(day.stopped.values())
     lines = [
         (

@@ -22,7 +22,7 @@ class Lines(OverADesk):
         self.told(ONE, 'b', 4, first)
         self.turn()
         self.told(ONE, 'bb', 6, both)
-        return self.turn()[0]
+        return str(self.turn()[0])
 
     def test_a_failed_drop_is_told(self) -> None:
         line = r'J1 is stopped, since its drop failed: its load L1 is now at vehicle KIT/0001$'

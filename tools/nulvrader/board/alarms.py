@@ -48,15 +48,15 @@ class Condition:
     since: int | None = None
 
     def about(self) -> dict[str, str | None]:
-        """The things that it is about."""
+        """Returns the things that it is about."""
         return {name: self.values.get(name) for name in ABOUT}
 
     def words(self) -> str:
-        """What is so."""
+        """Returns what is so."""
         return say(f'alarm.{self.kind}', self.values)
 
     def todo(self) -> str:
-        """What to do."""
+        """Returns what to do."""
         return say(f'alarm.{self.kind}.do', self.values)
 
 
@@ -126,7 +126,7 @@ class Alarms:
         return True
 
     def _settled(self, found: Mapping[str, Condition], at: int) -> dict[str, Condition]:
-        """What is found, without what may be so only between two answers of the desk."""
+        """Returns what is found, without what may be so only between two answers of the desk."""
         self._first = {key: self._first.get(key, at) for key in found}
         return {
             key: one
@@ -171,8 +171,8 @@ class Alarms:
         return Alarm(number, found, began, again=self.news.at if flaps else None)
 
     def _lose(self, alarm: Alarm, keeper: Keeper | None) -> None:
-        """What was found is not so any more. The alarm is over, unless it flaps, or its vehicle has
-        said too much: where it comes again it is the same one."""
+        """Notes that what was found is not so any more. The alarm is over, unless it flaps, or its
+        vehicle has said too much: where it comes again it is the same one."""
         at, found = self.news.at, alarm.found
         alarm.gone = alarm.gone or at
         if alarm.stands(at) and found.key not in MACHINE:
@@ -216,7 +216,7 @@ class Alarms:
         self.news.shown.put('alarm', found.key, row)
 
     def _of_the_machine(self, at: int) -> Iterator[Condition]:
-        """The desk, the clock and the disk."""
+        """Yields the desk, the clock and the disk."""
         desk = self.news.shown.get('desk', '')
         if desk is not None and not desk['up']:
             kind = 'other' if desk['other'] else 'desk'
@@ -284,8 +284,8 @@ class Alarms:
                 yield Condition(f'battery {name}', 'battery', 'warn', values)
 
     def _of_action(self, seen: KnownVehicle, failed: FailedAction, result: str) -> dict[str, Any]:
-        """What an alarm says of an action that has failed: what it was, where its order is known,
-        and what the vehicle says of it."""
+        """Returns what an alarm says of an action that has failed: what it was, where its order is
+        known, and what the vehicle says of it."""
         values = {'vehicle': str(seen.row.key), 'action': failed.action, 'type': failed.type}
         values |= {'result': result, 'node': seen.row.node}
         order, _, number = failed.action.rpartition('.')
@@ -327,7 +327,7 @@ class Alarms:
                 yield Condition(f'late {job.name}', 'late', 'warn', values, since)
 
     def _of_stations(self, layout: Layout) -> Iterator[Condition]:
-        """The stations in which no place is free, all in one alarm."""
+        """Yields the stations in which no place is free, all in one alarm."""
         full = []
         for name, station in layout.stations.items():
             row = self.news.shown.get('station', name)
@@ -354,7 +354,7 @@ def has_exit(layout: Layout, holders: Mapping[Thing, str], vehicle: str, node: s
 
 
 def free_of(path: str) -> str | None:
-    """How much of a disk is free, where that is too little: `120 MB`."""
+    """Returns how much of a disk is free, where that is too little: `120 MB`."""
     try:
         disk = os.statvfs(os.path.dirname(os.path.abspath(path)))
     except OSError:

@@ -25,7 +25,8 @@ def told(what: Any, status: int = 200) -> Reply:
 
 
 def refused(status: int, words: str | Line) -> Reply:
-    """A refusal, with a sentence; one of the table of messages the page says in its language."""
+    """Returns a refusal, with a sentence; one of the table of messages the page says in its
+    language."""
     if isinstance(words, str):
         return told({'fault': words}, status)
     return told({'fault': words.words(), 'says': [words.told()]}, status)

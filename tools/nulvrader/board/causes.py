@@ -38,20 +38,20 @@ class Calls:
         self._sent: deque[SentCommand] = deque(maxlen=KEPT)
 
     def sent(self, number: int, who: str, name: str, values: Mapping[str, str], at: int) -> None:
-        """A command is about to be sent."""
+        """Notes that a command is about to be sent."""
         with self._lock:
             self._sent.append(SentCommand(number, who, name, values, at))
 
     def ended(self, number: int, done: bool | None, at: int) -> None:
-        """What came of a command."""
+        """Notes what came of a command."""
         with self._lock:
             for sent in self._sent:
                 if sent.number == number:
                     sent.done, sent.ended = done, at
 
     def find(self, names: tuple[str, ...], matches: Matches, at: int) -> Cause | None:
-        """The last command of these names that was not refused and whose values match, where it may
-        have caused what is seen at a moment; else None."""
+        """Returns the last command of these names that was not refused and whose values match,
+        where it may have caused what is seen at a moment; else None."""
         with self._lock:
             for sent in reversed(self._sent):
                 is_late = sent.ended is not None and at > sent.ended + LATE
@@ -62,5 +62,5 @@ class Calls:
         return None
 
     def cause(self, names: tuple[str, ...], matches: Matches, at: int) -> Cause:
-        """The same, or another client of the desk, by one of these calls."""
+        """Returns the same, or another client of the desk, by one of these calls."""
         return self.find(names, matches, at) or Cause('client', call=' or '.join(names))

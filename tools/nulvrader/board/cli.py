@@ -40,7 +40,7 @@ PATIENCE = 0.5  # seconds for an answer of the desk, at the end
 
 
 def words(text: str) -> argparse.ArgumentParser:
-    """What the line may say. `text` is the head of the help."""
+    """Returns the options of the command line. `text` is the head of the help."""
     line = entry.parser(text, 'board')
     arguments.add_desk(line, front='desk-')
     add = line.add_argument
@@ -84,7 +84,7 @@ class Unready(Exception):
 
 
 def listener_of(said: argparse.Namespace) -> socket.socket:
-    """What the board listens on: a port of this machine, or a socket in a folder."""
+    """Returns what the board listens on: a port of this machine, or a socket in a folder."""
     try:
         return listening_at(said.port) if said.socket is None else listening_in(said.socket)
     except (OSError, OverflowError) as fault:
@@ -94,7 +94,7 @@ def listener_of(said: argparse.Namespace) -> socket.socket:
 
 
 def heard_of(said: argparse.Namespace) -> Heard | None:
-    """What hears what gateways tell of vehicles; None where that isn't wanted."""
+    """Returns what hears what gateways tell of vehicles; None where that isn't wanted."""
     if said.words is None:
         return None
     try:
@@ -109,7 +109,7 @@ def plan_of(said: argparse.Namespace) -> FloorPlan | None:
 
 
 def signalled() -> threading.Event:
-    """What is set once SIGINT or SIGTERM has come."""
+    """Returns what is set once SIGINT or SIGTERM has come."""
     over = threading.Event()
     for number in (signal.SIGINT, signal.SIGTERM):
         signal.signal(number, lambda *_: over.set())
@@ -127,8 +127,8 @@ def wait_for_the_end(over: threading.Event, asker: Asker, server: Server) -> boo
 def commands_of(
     said: argparse.Namespace, desk: Desk, drawn: ShownLayout, news: News, asker: Asker
 ) -> Commands | None:
-    """The commands, None where there are none. What an earlier run has sent without hearing of it
-    is told."""
+    """Returns the commands, None where there are none. What an earlier run has sent without hearing
+    of it is told."""
     if said.read_only:
         return None
     commands = Commands(

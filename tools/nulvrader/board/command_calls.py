@@ -27,7 +27,7 @@ def key_of(said: Values) -> VehicleKey:
 
 
 def done(name: str, **values: object) -> Done:
-    """What is said of a command that was carried out."""
+    """Returns what is said of a command that was carried out."""
     return [Line(f'done.{name}', values)]
 
 

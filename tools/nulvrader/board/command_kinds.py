@@ -35,7 +35,7 @@ class Field:
         return f'{self.name}.checking' if is_any else self.name
 
     def label(self) -> str:
-        """What it is called, in English."""
+        """Returns what it is called, in English."""
         return say(f'field.{self.row}')
 
 
@@ -53,7 +53,7 @@ class Kind:
 
 
 def new_name(front: str) -> Callable[[], str]:
-    """What makes a name that was not used before."""
+    """Returns what makes a name that was not used before."""
     return lambda: order_previews.new_name(front)
 
 

@@ -137,7 +137,7 @@ class CommandLog:
             self.told(told(entry or 0, outcome.at, outcome.event))
 
     def left(self) -> list[Command]:
-        """The commands of an earlier run whose outcome is not known."""
+        """Returns the commands of an earlier run whose outcome is not known."""
         with self._lock:
             try:
                 rows = self._base.execute(

@@ -44,12 +44,12 @@ class AskedCommand:
 
 
 def wrong(name: str, /, **values: object) -> NoCommand:
-    """What is wrong, by the row `wrong.` and this name."""
+    """Returns what is wrong, by the row `wrong.` and this name."""
     return NoCommand(Line(f'wrong.{name}', values))
 
 
 def read_command(said: Mapping[str, Any], layout: Layout, is_whole: bool) -> AskedCommand:
-    """The command that was said. `is_whole` says that it has to have what the look adds."""
+    """Returns the command that was said. `is_whole` says that it has to have what the look adds."""
     name, told = said.get('command'), said.get('values')
     if not isinstance(name, str) or name not in COMMANDS or not isinstance(told, dict):
         raise wrong('command')

@@ -47,7 +47,7 @@ class Hurried(Protocol):
     """Who asks the desk anew after a command."""
 
     def hurry(self) -> None:
-        """Something may have changed."""
+        """Has all that may have changed asked for at once."""
 
 
 @dataclass(frozen=True)
@@ -67,11 +67,11 @@ class Answered:
         return 'command' if self.done else 'refused' if self.refusal else 'failed'
 
     def text(self) -> str:
-        """What is said of it, in English."""
+        """Returns what is said of it, in English."""
         return words_of(self.says)
 
     def told(self) -> dict[str, Any]:
-        """It as the page has it."""
+        """Returns the outcome as the page has it."""
         lines = {'says': told(self.says), 'advice': told(self.advice)}
         text = {'text': self.text(), 'advice': words_of(self.advice), 'lines': lines}
         refusal = {'refusal': self.refusal} if self.refusal else {}
@@ -79,7 +79,7 @@ class Answered:
 
 
 def event_of(given: Command, cause: Cause, answered: Answered) -> Event:
-    """The entry of a command: it names all things that the command does."""
+    """Returns the entry of a command: it names all things that the command does."""
     values = given.values
     names = {'order': 'order_name', 'to': 'station'}
     about = {names.get(name, name): value for name, value in values.items()}
@@ -122,7 +122,7 @@ class Commands:
         self.log, self.asker, self.instructions = log, asker, instructions
 
     def listed(self) -> list[dict[str, Any]]:
-        """The commands, as the page makes its forms of them."""
+        """Returns the commands, as the page makes its forms of them."""
         return [
             {
                 'command': name,
@@ -250,7 +250,7 @@ class Commands:
 
 
 def unanswered(asked: AskedCommand, fault: NoAnswer) -> Answered:
-    """What came of a command to which the desk has not answered."""
+    """Returns what came of a command to which the desk has not answered."""
     why = fault_of(fault.fault if isinstance(fault, NotAll) else fault)
     values: dict[str, Any] = {'fault': why.words(), 'says': [why.told()]}
     name = 'fault.down'

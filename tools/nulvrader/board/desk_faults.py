@@ -16,7 +16,7 @@ def is_known(refusal: Refused) -> bool:
 
 
 def refusal_of(refusal: Refused) -> Line:
-    """What is wrong, in a sentence without a full stop at its end."""
+    """Returns what is wrong, in a sentence without a full stop at its end."""
     name = f'refusal.{refusal.name}'
     if is_known(refusal):
         return Line(name, {key: shown(str(one), LONG) for key, one in refusal.members.items()})
@@ -24,13 +24,13 @@ def refusal_of(refusal: Refused) -> Line:
 
 
 def advice_of(refusal: Refused) -> Line:
-    """What to do about a refusal."""
+    """Returns what to do about a refusal."""
     name = f'refusal.{refusal.name}.do'
     return Line(name if is_known(refusal) and has(name) else 'advice.look')
 
 
 def fault_of(fault: Exception) -> Line:
-    """Why no answer came that is of use."""
+    """Returns why no answer came that is of use."""
     if isinstance(fault, OtherDesk):
         return fault.line
     if isinstance(fault, NotADesk):

@@ -38,9 +38,9 @@ class BadQuestion(ValueError):
 
 
 def conditions(asked: Mapping[str, str]) -> tuple[list[str], list[Any]]:
-    """What the rows have to be, in SQL, and its values. `thing` is the name of anything that an
-    entry is about, `text` a part of its sentence, `from` and `to` are times in UTC, or milliseconds
-    since 1970, and `before` is the number of an entry."""
+    """Returns what the rows have to be, in SQL, and its values. `thing` is the name of anything
+    that an entry is about, `text` a part of its sentence, `from` and `to` are times in UTC, or
+    milliseconds since 1970, and `before` is the number of an entry."""
     rows: list[str] = []
     values: list[Any] = []
     for name in EQUAL:
@@ -68,7 +68,7 @@ def conditions(asked: Mapping[str, str]) -> tuple[list[str], list[Any]]:
 
 
 def time_of(text: str) -> str:
-    """A time as the record has it."""
+    """Returns a time as the record has it."""
     if re.fullmatch('[0-9]{1,15}', text) and int(text) < 4_102_444_800_000:
         return text_of(int(text))
     if TIME.fullmatch(text):
@@ -101,7 +101,8 @@ TURNS = Turns()
 
 @contextlib.contextmanager
 def reading(path: str) -> Iterator[sqlite3.Connection]:
-    """A connection that only reads, and on which no question lasts longer than it may."""
+    """Gives a block a connection that only reads, and on which no question lasts longer than it
+    may."""
     with TURNS.one(), _reading(path) as base:
         yield base
 
@@ -123,7 +124,7 @@ def _reading(path: str) -> Iterator[sqlite3.Connection]:
 
 
 def found(path: str, asked: Mapping[str, str], most: int) -> list[tuple[Any, ...]]:
-    """The newest rows that are asked for, by `EVENT`, the newest first."""
+    """Returns the newest rows that are asked for, by `EVENT`, the newest first."""
     rows, values = conditions(asked)
     where = f' WHERE {" AND ".join(rows)}' if rows else ''
     question = f'SELECT {", ".join(EVENT)} FROM events{where} ORDER BY n DESC LIMIT ?'
@@ -132,14 +133,14 @@ def found(path: str, asked: Mapping[str, str], most: int) -> list[tuple[Any, ...
 
 
 def page_of(path: str, asked: Mapping[str, str]) -> dict[str, Any]:
-    """A page of entries, the newest first; `older` says that there are more before them."""
+    """Returns a page of entries, the newest first; `older` says that there are more before them."""
     rows = found(path, asked, PAGE + 1)
     return {'events': [entry_of(row) for row in rows[:PAGE]], 'older': len(rows) > PAGE}
 
 
 def csv_of(path: str, asked: Mapping[str, str]) -> bytes:
-    """The entries as CSV, the newest first, at most `FILE`: those before them are asked for by
-    `before`. What another program would compute is a text there."""
+    """Returns the entries as CSV, the newest first, at most `FILE`: those before them are asked for
+    by `before`. What another program would compute is a text there."""
     data = io.BytesIO()
     with io.TextIOWrapper(data, 'utf-8', newline='') as file:
         writer = csv.writer(file)
@@ -150,8 +151,8 @@ def csv_of(path: str, asked: Mapping[str, str]) -> bytes:
 
 
 def plain(row: Sequence[Any]) -> list[Any]:
-    """The values of a row. An apostrophe stands before what would be a formula at the beginning of
-    a text, or behind `;`, a tab or the end of a line."""
+    """Returns the values of a row. An apostrophe stands before what would be a formula at the
+    beginning of a text, or behind `;`, a tab or the end of a line."""
     return [_plain(value) if isinstance(value, str) else value for value in row]
 
 

@@ -16,7 +16,7 @@ CUTS = ((LONG, 32), (LONG // 2, 16), (LONG // 4, 8), (LONG // 8, 4), (LONG // 8,
 
 
 def cut(text: str, most: int = LONG) -> str:
-    """A text of at most so many bytes, with `..` at the end where it is cut."""
+    """Returns a text of at most so many bytes, with `..` at the end where it is cut."""
     data = text.encode('utf-8', 'replace')
     if len(data) > most:
         return data[: most - 2].decode('utf-8', 'ignore') + '..'
@@ -81,7 +81,7 @@ class Event:
     more: Mapping[str, Any] = field(default_factory=dict)
 
     def values(self) -> dict[str, Any]:
-        """What its sentence is made of."""
+        """Returns what its sentence is made of."""
         found = {**self.about, 'before': self.before, 'after': self.after, **self.more}
         return {name: value for name, value in found.items() if value is not None}
 
@@ -91,13 +91,13 @@ class Event:
         return replace(self, before=before, after=after, more=values_cut(self.more))
 
     def words(self, language: str = 'en') -> str:
-        """Its sentence."""
+        """Returns its sentence."""
         return say(f'event.{self.what}', self.values(), language)
 
 
 def told(number: int, at: int, event: Event) -> dict[str, Any]:
-    """An entry as the page and other programs have it: `n` is its number, `text` its sentence in
-    English."""
+    """Returns an entry as the page and other programs have it: `n` is its number, `text` its
+    sentence in English."""
     event = event.cut()
     cause = event.cause
     found = {

@@ -66,12 +66,12 @@ class Fleet:
         self.has_looked = bool(known) or news.record.has_look('vehicles')
 
     def again(self) -> None:
-        """The desk answers again: every vehicle has time to post a state."""
+        """Notes that the desk answers again: every vehicle has time to post a state."""
         for seen in self.seen.values():
             seen.heard = None if seen.heard is None else self.news.at
 
     def take_stock(self, stock: Stock) -> None:
-        """The loads on vehicles."""
+        """Takes the loads that are on vehicles."""
         self.loads = {
             str(key): tuple(sorted(loads, key=natural)) for key, loads in stock.vehicles.items()
         }
@@ -79,7 +79,7 @@ class Fleet:
             self._show(name, seen)
 
     def take_holds(self, holds: Holds) -> None:
-        """The hold report."""
+        """Takes the hold report."""
         told: dict[Thing, str] = {('node', name): str(key) for name, key in holds.nodes.items()}
         told |= {('edge', name): str(key) for name, key in holds.edges.items()}
         for kind, name in {thing for thing, _ in self.holders.items() ^ told.items()}:
@@ -89,7 +89,7 @@ class Fleet:
         self._wait()
 
     def take_vehicles(self, rows: Mapping[VehicleKey, VehicleRow]) -> None:
-        """The export of vehicles."""
+        """Takes the export of vehicles."""
         is_unseen = self.news.look('vehicles')
         for key, row in rows.items():
             self._take_row(str(key), row, is_unseen)
@@ -125,16 +125,17 @@ class Fleet:
         self._show(name, seen)
 
     def _is_new(self, name: str, row: VehicleRow, is_unseen: bool) -> None:
-        """A vehicle that was not there is registered, unless the board looks for the first time."""
+        """Notes a vehicle that was not there as registered, unless the board looks for the first
+        time."""
         is_known = self.news.record.rows('SELECT 1 FROM vehicles WHERE vehicle = ?', (name,))
         if not is_known and self.has_looked:
             cause = UNSEEN if is_unseen else Cause('client', call='vehicle')
             self.news.event('vehicle.registered', cause, {'vehicle': name, 'node': row.node})
 
     def _end_of(self, name: str, before: VehicleRow, row: VehicleRow, is_unseen: bool) -> OrderEnd:
-        """How an order has ended that was open at the last look. It ends by itself at its last
-        node; else it is cancelled, which leaves the vehicle astray or is pending before; or the
-        vehicle is placed, which needs no state of it."""
+        """Returns how an order has ended that was open at the last look. It ends by itself at its
+        last node; else it is cancelled, which leaves the vehicle astray or is pending before; or
+        the vehicle is placed, which needs no state of it."""
         place = self._command('place', name)
         if place is not None and place.command in self.placed:
             place = None  # it has ended another order
@@ -156,8 +157,8 @@ class Fleet:
         return OrderEnd('ended', VEHICLE)
 
     def _command(self, call: str, vehicle: str) -> Cause | None:
-        """A command of this board that may have caused what is seen of a vehicle: one to it, or to
-        all."""
+        """Returns a command of this board that may have caused what is seen of a vehicle: one to
+        it, or to all."""
 
         def is_of(values: Mapping[str, str]) -> bool:
             is_named = vehicle in values.get('vehicles', '').split()
@@ -171,7 +172,7 @@ class Fleet:
     def _tell_changes(
         self, name: str, before: VehicleRow, row: VehicleRow, is_unseen: bool
     ) -> None:
-        """What is worth an entry of what changed of a vehicle."""
+        """Makes an entry of each change of a vehicle that is worth one."""
 
         def tell(what: str, cause: Cause, **others: Any) -> None:
             why = UNSEEN if is_unseen else cause
@@ -216,13 +217,14 @@ class Fleet:
 
     @staticmethod
     def _obeys(action: str, row: VehicleRow) -> str:
-        """Whether a vehicle that reports the end of an instant action is as it was told to be."""
+        """Returns `obeyed` where a vehicle that reports the end of an instant action is as it was
+        told to be, else `disobeyed`."""
         is_so = {'startPause': row.paused, 'stopPause': not row.paused}
         is_so['cancelOrder'] = row.order is None
         return 'obeyed' if is_so.get(action, True) else 'disobeyed'
 
     def _hear(self, name: str, seen: KnownVehicle, is_new: bool) -> None:
-        """A state of a vehicle is new, or none has come for a while."""
+        """Notes a new state of a vehicle, or that none has come for a while."""
         at = self.news.at
         if is_new:
             seen.heard = at
@@ -236,14 +238,14 @@ class Fleet:
                 self.news.event('vehicle.silent', BOARD, {'vehicle': name})
 
     def next_order(self) -> VehicleKey | None:
-        """A vehicle whose order message is to be asked for, or None."""
+        """Returns a vehicle whose order message is to be asked for, or None."""
         for seen in self.seen.values():
             if seen.row.order is not None and seen.way is None and not seen.is_asked:
                 return seen.row.key
         return None
 
     def take_order(self, key: VehicleKey, way: Way | None) -> None:
-        """The way that an order message tells, or None where the vehicle has no open order any
+        """Takes the way that an order message tells, None where the vehicle has no open order any
         more. One of an order that the vehicle has by now is taken once the export tells of it."""
         name = str(key)
         seen = self.seen[name]
@@ -290,7 +292,7 @@ class Fleet:
         self.news.shown.put('way', name, None if seen.way is None else sentences.way(seen.way))
 
     def _unready_since(self, name: str) -> int:
-        """Since when a vehicle is not ready, as far as the record reaches."""
+        """Returns since when a vehicle is not ready, as far as the record reaches."""
         ready = 'SELECT coalesce(max(n), 0) FROM vehicle_states WHERE vehicle = ? AND ready = 1'
         question = f'SELECT min(at) FROM vehicle_states WHERE vehicle = ? AND n > ({ready})'
         ((at,),) = self.news.record.rows(question, (name, name))
@@ -326,7 +328,7 @@ class Fleet:
 
 
 def why_of(reasons: list[Line]) -> dict[str, Any]:
-    """Why a vehicle is not ready, as its entry says it; nothing where that is not known."""
+    """Returns why a vehicle is not ready, as its entry says it; nothing where that is not known."""
     if not reasons:
         return {}
     words = words_of(reasons, ', ')

@@ -40,15 +40,15 @@ class Guard:
         self.token = secrets.token_urlsafe(24)
 
     def host_fault(self, headers: Mapping[str, str]) -> str | None:
-        """Why a request is refused that names another host; None where it isn't."""
+        """Returns why a request is refused that names another host; None where it isn't."""
         host = headers.get('host', '').lower()
         return (
             None if host in self.hosts else f'This board does not answer to the name {host[:80]!a}.'
         )
 
     def site_fault(self, headers: Mapping[str, str]) -> str | None:
-        """Why a request is refused that a page of another site makes, where the browser says so. A
-        link may lead to the board."""
+        """Returns why a request is refused that a page of another site makes, where the browser
+        says so. A link may lead to the board."""
         if (
             headers.get('sec-fetch-site') not in OTHER_SITES
             or headers.get('sec-fetch-mode') == 'navigate'
@@ -57,7 +57,7 @@ class Guard:
         return 'The board answers only its own page.'
 
     def command_fault(self, headers: Mapping[str, str]) -> Line | None:
-        """Why a command is refused: it has no origin of this board, or not its token."""
+        """Returns why a command is refused: it has no origin of this board, or not its token."""
         scheme, _, host = headers.get('origin', '').lower().partition('://')
         if scheme not in ('http', 'https') or host not in self.hosts:
             return Line('page.only')

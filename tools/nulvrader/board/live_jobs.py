@@ -41,12 +41,12 @@ class Jobs:
         self.ended: list[LiveJob] = []  # which have ended, it is not known yet how
 
     def restore(self, jobs: Iterable[LiveJob]) -> None:
-        """The live jobs of an earlier run."""
+        """Takes the live jobs of an earlier run from the record."""
         self.live = {job.name: job for job in jobs}
 
     def take(self, jobs: Mapping[str, Job], at: int, is_first: bool, is_unseen: bool) -> None:
-        """The export of jobs, at a moment; at the first look it isn't known since when they are.
-        `is_unseen` says that the look before was long ago."""
+        """Takes the export of jobs, at a moment; at the first look it isn't known since when they
+        are. `is_unseen` says that the look before was long ago."""
         for name in self.live.keys() - jobs.keys():
             self.ended.append(replace(self.live.pop(name), ended=at, is_unseen=is_unseen))
         for name, job in jobs.items():
@@ -67,12 +67,14 @@ class Jobs:
                 self.told(now)
 
     def of(self, load: str) -> LiveJob | None:
-        """The job of a load that lives, or of which it is not known yet how it has ended."""
+        """Returns the job of a load that lives, or of which it is not known yet how it has
+        ended."""
         found = [job for job in (*self.ended, *self.live.values()) if job.load == load]
         return found[0] if found else None
 
     def has_moved(self, name: str, at: int, *, is_pick: bool) -> None:
-        """The load of a job was picked or dropped, at this moment, or before the job was over."""
+        """Notes that the load of a job was picked or dropped, at this moment, or before the job was
+        over."""
         what = 'picked' if is_pick else 'dropped'
         self.ended = [
             replace(job, **{what: job.ended}) if job.name == name else job for job in self.ended

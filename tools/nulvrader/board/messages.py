@@ -33,11 +33,11 @@ class Line:
     values: Mapping[str, Any] = field(default_factory=dict)
 
     def words(self, language: str = 'en') -> str:
-        """The sentence."""
+        """Returns the sentence."""
         return say(self.name, self.values, language)
 
     def told(self) -> list[Any]:
-        """It as the page has it."""
+        """Returns the sentence as the page has it: its name and its values."""
         return [self.name, dict(self.values)]
 
 
@@ -53,7 +53,7 @@ def words_of(lines: Sequence[Line], between: str = ' ') -> str:
 
 @functools.cache
 def table() -> dict[str, dict[str, str]]:
-    """The table: by the name of a row its texts by language."""
+    """Returns the table: by the name of a row its texts by language."""
     with open(FILE, encoding='utf-8') as file:
         rows = json.load(file)
     return {name: dict(zip(LANGUAGES, texts)) for name, texts in rows.items()}
@@ -65,7 +65,7 @@ def has(name: str) -> bool:
 
 
 def say(name: str, values: Mapping[str, Any] | None = None, language: str = 'en') -> str:
-    """The text of a row with these values. Where there is no such row it is its name."""
+    """Returns the text of a row with these values. Where there is no such row it is its name."""
     row = table().get(name)
     if row is None:
         return name
@@ -84,7 +84,7 @@ def say(name: str, values: Mapping[str, Any] | None = None, language: str = 'en'
 
 
 def _value(value: Any, how: str | None, of: str | None, language: str) -> str:
-    """A value as a text has it."""
+    """Returns a value as a text has it."""
     if how == 'place':
         return place(str(value), language)
     if how == 'spot':
@@ -101,6 +101,6 @@ def _value(value: Any, how: str | None, of: str | None, language: str) -> str:
 
 
 def place(value: str, language: str = 'en', front: str = 'place') -> str:
-    """A place as it stands in a sentence, by the rows that begin with `front`."""
+    """Returns a place as it stands in a sentence, by the rows that begin with `front`."""
     kind, _, name = value.partition(' ')
     return say(f'{front}.{kind}', {'name': name}, language)

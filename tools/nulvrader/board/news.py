@@ -57,25 +57,25 @@ class News:
         after: str | None = None,
         more: Mapping[str, Any] | None = None,
     ) -> None:
-        """Something happened: `what`, as `load.picked`, whose first part is its family; `about`
+        """Notes what happened: `what`, as `load.picked`, whose first part is its family; `about`
         names the things."""
         event = Event(what.partition('.')[0], what, cause, about, before, after, more or {})
         self._waiting.append(told(self.record.event(self.at, event), self.at, event))
 
     def commit(self) -> None:
-        """What was put so far is in the file, and pages are told of it."""
+        """Writes to the file what was put so far, and tells pages of it."""
         self.record.commit()
         waiting, self._waiting = self._waiting, []
         for event in waiting:
             self.shown.event(event)
 
     def roll_back(self) -> None:
-        """What was put since the last `commit` is not in the file."""
+        """Drops what was put since the last `commit`."""
         self._waiting.clear()
         self.record.roll_back()
 
     def cause(self, *names: str, of: Matches) -> Cause:
-        """By which of these calls it came to be as it is seen now."""
+        """Returns by which of these calls it came to be as it is seen now."""
         return self.calls.cause(names, of, self.at)
 
     def look(self, kind: str) -> bool:
@@ -85,7 +85,7 @@ class News:
         return before is None or self.at - before > GAP
 
     def looked(self, kind: str) -> int:
-        """The moment of the last look at a kind of things, 0 where there was none."""
+        """Returns the moment of the last look at a kind of things, 0 where there was none."""
         return self._looked.get(kind, 0)
 
     def ends_order(self, order: str, end: OrderEnd) -> None:

@@ -39,7 +39,8 @@ class Planned:
 
 
 def stops_of(text: str) -> list[Planned]:
-    """The stops that are written `pick J1, pick J2, drop J1, drop J2`, or of one job, `J1`."""
+    """Returns the stops that are written `pick J1, pick J2, drop J1, drop J2`, or of one job,
+    `J1`."""
     found = []
     for part in text.split(','):
         words = part.split()
@@ -135,8 +136,9 @@ def advance(scene: Scene, said: Mapping[str, str]) -> Look:
 
 
 def released(scene: Scene, look: Look, name: str, walk: Walk, start: str | None) -> int:
-    """How many edges of a way are released: as many as are said, all, or those before the first one
-    that another vehicle holds, or whose end it holds. The look has the number from then on."""
+    """Returns how many edges of a way are released: as many as are said, all, or those before the
+    first one that another vehicle holds, or whose end it holds. The look has the number from then
+    on."""
     said = look.values['edges']
     if said == ALL:
         number = len(walk)
@@ -157,7 +159,7 @@ def released(scene: Scene, look: Look, name: str, walk: Walk, start: str | None)
 
 
 def walk_of(layout: Layout, start: str, end: str) -> Walk | None:
-    """The way from one node to another as the desk takes it; None where there is none."""
+    """Returns the way from one node to another as the desk takes it; None where there is none."""
     route = layout.route(start, end)
     return None if route is None else [(edge, layout.edges[edge].finish) for edge in route]
 
@@ -219,6 +221,6 @@ def _check_free(
 
 
 def new_name(front: str) -> str:
-    """A name for an order or a job that was not used before, with the day in front:
+    """Returns a name for an order or a job that was not used before, with the day in front:
     `1128-O-142501`."""
     return time.strftime('%m%d-', time.gmtime()) + front + time.strftime('-%H%M%S', time.gmtime())

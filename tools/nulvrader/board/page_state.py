@@ -15,7 +15,7 @@ GONE = 10_000  # names that were taken away, of which pages are still told so
 
 
 def json_of(what: Any) -> str:
-    """What pages are told, as JSON."""
+    """Returns what pages are told, as JSON."""
     return json.dumps(what, separators=(',', ':'))
 
 
@@ -82,13 +82,13 @@ class Shown:
             self._events.append((self._version, json_of(event)))
 
     def get(self, kind: str, name: str) -> Any:
-        """The value, or None."""
+        """Returns the value, or None."""
         with self._lock:
             found = self._values.get((kind, name))
             return None if found is None else found.value
 
     def all(self, kind: str) -> dict[str, Any]:
-        """All values of a kind, by their names."""
+        """Returns all values of a kind, by their names."""
         with self._lock:
             found = [
                 (name, value.value) for (of, name), value in self._values.items() if of == kind
@@ -96,9 +96,10 @@ class Shown:
         return {name: value for name, value in found if value is not None}
 
     def newer(self, run: str, version: int) -> bytes:
-        """What is newer than a version of a run, of another run all that is, as the members of an
-        object of JSON. It is made once for all pages that have the same version. `values` has kind,
-        name and value of each, `full` says that it is all, and `events` are the newest last."""
+        """Returns what is newer than a version of a run, of another run all that is, as the members
+        of an object of JSON. It is made once for all pages that have the same version. `values` has
+        kind, name and value of each, `full` says that it is all, and `events` are the newest
+        last."""
         with self._lock:
             full = run != self.run or not self._least <= version <= self._version
             least = 0 if full else version

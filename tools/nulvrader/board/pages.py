@@ -101,7 +101,7 @@ class Pages:
         return None
 
     async def answer(self, head: Head, body: bytes) -> Reply | Stream:
-        """What a request is answered, which was not refused."""
+        """Returns what a request is answered, which was not refused."""
         path, _, query = head.target.partition('?')
         try:
             if path == TOKEN and head.method != 'POST':
@@ -154,7 +154,7 @@ class Pages:
         return told({'moves': moves, 'place': place, 'since': since})
 
     def _entries(self, path: str, asked: dict[str, str]) -> Reply:
-        """The entries that are asked for: a page of them, or a file."""
+        """Returns the entries that are asked for: a page of them, or a file."""
         try:
             if path == '/record':
                 return told(entries.page_of(self.board.record.path, asked))
@@ -199,14 +199,14 @@ class Pages:
         return self.board.user_header is None or bool(self._user(head))
 
     def _user(self, head: Head) -> str:
-        """Who asks, as the proxy says."""
+        """Returns who asks, as the proxy says."""
         header = self.board.user_header
         said = head.headers.get(header.lower(), '') if header else ''
         return shown(said.encode('latin-1').decode('utf-8', 'backslashreplace'), USER)
 
 
 def object_of(body: bytes) -> dict[str, Any] | None:
-    """The object of JSON that a body is, or None."""
+    """Returns the object of JSON that a body is, or None."""
     try:
         said = json.loads(body)
     except (ValueError, RecursionError):

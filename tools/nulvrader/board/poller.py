@@ -49,7 +49,7 @@ T = TypeVar('T')
 
 
 def now() -> int:
-    """The moment, in milliseconds since 1970."""
+    """Returns the moment, in milliseconds since 1970."""
     return time.time_ns() // 1_000_000
 
 
@@ -142,7 +142,7 @@ class Asker(threading.Thread):
         self.files = followers.files
 
     def hurry(self) -> None:
-        """A command was carried out: all that may have changed is asked for at once."""
+        """Has all asked for at once that a command may have changed."""
         self._woken.set()
 
     def stop(self, patience: float) -> None:
@@ -196,7 +196,7 @@ class Asker(threading.Thread):
             self.news.commit()
 
     def _wait_for_the_record(self, fault: str) -> None:
-        """The record can't be written: pages are told so, until it can."""
+        """Tells pages that the record can't be written, and waits until it can."""
         line = Line('record.unwritten', {'fault': fault})
         log(line.words())
         while True:
@@ -226,8 +226,8 @@ class Asker(threading.Thread):
             turn.due = 0.0
 
     def turn(self, begun: float) -> float:
-        """One question, and what its answer changes. How many seconds after its beginning the next
-        one may be asked."""
+        """Asks one question, and takes its answer. Returns how many seconds after its beginning the
+        next one may be asked."""
         question = self.next_question(begun)
         if question is None:
             return SLOT
@@ -255,7 +255,7 @@ class Asker(threading.Thread):
         self.news.commit()
 
     def next_question(self, at: float) -> Question | None:
-        """What to ask next, or None where nothing is due."""
+        """Returns what to ask next, or None where nothing is due."""
         if at >= self.old_due:
             is_more = self.news.record.remove_old(now() - self.days * DAY)
             self.old_due = at + (OLD_ON if is_more else OLD_EVERY)
@@ -272,7 +272,7 @@ class Asker(threading.Thread):
         return None if order is None else functools.partial(self.ask_order, order)
 
     def _told(self, question: Callable[[], T]) -> T:
-        """What the desk answers. From now on the news are of this moment."""
+        """Returns what the desk answers. From now on the news are of this moment."""
         self.asked += 1
         answer = question()
         if self.over.is_set():

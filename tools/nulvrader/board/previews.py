@@ -137,7 +137,7 @@ def resume_all(scene: Scene, said: Mapping[str, str]) -> Look:
 
 
 def _instant_all(scene: Scene, said: Mapping[str, str], what: str, paused: bool) -> Look:
-    """What all vehicles are told that are so, and which of them can't be told now."""
+    """Returns what all vehicles are told that are so, and which of them can't be told now."""
     vehicles = scene.shown.all('vehicle')
     names = [
         name for name in sorted(vehicles, key=natural) if bool(vehicles[name]['paused']) == paused
@@ -155,7 +155,7 @@ def _instant_all(scene: Scene, said: Mapping[str, str], what: str, paused: bool)
 
 
 def _instant(scene: Scene, said: Mapping[str, str], what: str, paused: bool) -> Look:
-    """What a vehicle is told to do, and a warning where it has paused, or has not."""
+    """Returns what a vehicle is told to do, and a warning where it has paused, or has not."""
     look, name = Look(dict(said)), said['vehicle']
     vehicle = vehicle_here(scene, look, name)
     look.say(what, vehicle=name)
@@ -185,12 +185,12 @@ def resync(scene: Scene, said: Mapping[str, str]) -> Look:
 
 
 def place_of(station: str) -> str:
-    """A station as a place; without a name it is the checking place."""
+    """Returns a station as a place; without a name it is the checking place."""
     return f'station {station}' if station else 'checking'
 
 
 def vehicle_here(scene: Scene, look: Look, name: str) -> dict[str, Any] | None:
-    """A vehicle of the desk; where there is none of that name, None and a warning."""
+    """Returns a vehicle of the desk; where there is none of that name, None and a warning."""
     vehicle = scene.vehicle(name)
     look.warn(vehicle is None, 'no.vehicle', vehicle=name)
     return vehicle
@@ -208,7 +208,7 @@ def _check_room(scene: Scene, look: Look, station: str) -> None:
 
 
 def _load_here(scene: Scene, look: Look, load: str) -> dict[str, Any] | None:
-    """A load that is in the warehouse; where none of that name is, None and a warning."""
+    """Returns a load that is in the warehouse; where none of that name is, None and a warning."""
     known = scene.load(load)
     look.warn(known is None, 'no.load', load=load)
     return known

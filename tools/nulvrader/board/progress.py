@@ -37,8 +37,8 @@ class Way:
         return self.first + len(self.edges)
 
     def behind(self, place: int) -> list[Thing]:
-        """The edge behind the node of this place, and the node that it leads to; none at the end
-        of the way."""
+        """Returns the edge behind the node of this place, and the node that it leads to; none at
+        the end of the way."""
         at = place - self.first
         if not 0 <= at < len(self.edges):
             return []
@@ -46,8 +46,8 @@ class Way:
 
 
 def way_of(message: Mapping[str, Any]) -> Way:
-    """The way that an order message tells, from its first node to its last. `NotADesk` where it
-    tells none."""
+    """Returns the way that an order message tells, from its first node to its last. `NotADesk`
+    where it tells none."""
     order = read_order(message)
     sequence = Members(message).objects('nodes')[0].number('sequenceId')
     if sequence % 2:

@@ -37,13 +37,13 @@ class NoRecord(Exception):
 
 
 def text_of(at: int) -> str:
-    """A moment, in milliseconds since 1970, as the tables have it."""
+    """Returns a moment, in milliseconds since 1970, as the tables have it."""
     moment = datetime.datetime.fromtimestamp(at // 1000, datetime.timezone.utc)
     return f'{moment.strftime("%Y-%m-%dT%H:%M:%S")}.{at % 1000:03d}Z'
 
 
 def moment_of(text: str) -> int:
-    """The milliseconds since 1970 of a time of the tables."""
+    """Returns the milliseconds since 1970 of a time of the tables."""
     moment = datetime.datetime.strptime(text, '%Y-%m-%dT%H:%M:%S.%fZ').replace(
         tzinfo=datetime.timezone.utc
     )
@@ -51,7 +51,7 @@ def moment_of(text: str) -> int:
 
 
 def event_row(at: int, event: Event) -> list[Any]:
-    """The values of an entry by `COLUMNS`."""
+    """Returns the values of an entry by `COLUMNS`."""
     event = event.cut()
     cause = event.cause
     row: list[Any] = [text_of(at), event.kind, event.what, cut(event.words())]
@@ -61,7 +61,7 @@ def event_row(at: int, event: Event) -> list[Any]:
 
 
 def entry_of(row: Sequence[Any]) -> dict[str, Any]:
-    """An entry as the page has it, of a row by `EVENT`."""
+    """Returns an entry as the page has it, of a row by `EVENT`."""
     found = dict(zip(EVENT, row))
     found['at'], found['text'] = moment_of(found['at']), found.pop('words')
     if found['more'] is not None:
@@ -70,8 +70,8 @@ def entry_of(row: Sequence[Any]) -> dict[str, Any]:
 
 
 def opened(path: str, wait: float = 10.0) -> sqlite3.Connection:
-    """A connection to the file, for several threads, one at a time. `wait` is for how many seconds
-    it waits for another program that writes."""
+    """Returns a connection to the file, for several threads, one at a time. `wait` is for how many
+    seconds it waits for another program that writes."""
     return sqlite3.connect(path, timeout=wait, isolation_level=None, check_same_thread=False)
 
 
@@ -95,13 +95,13 @@ class RecordedAlarm(Protocol):
         """What its sentences are made of."""
 
     def about(self) -> Mapping[str, str | None]:
-        """The things that it is about."""
+        """Returns the things that it is about."""
 
     def words(self) -> str:
-        """What is so."""
+        """Returns what is so."""
 
     def todo(self) -> str:
-        """What to do."""
+        """Returns what to do."""
 
 
 class Record:
@@ -164,30 +164,30 @@ class Record:
             self._base.execute('BEGIN IMMEDIATE')
 
     def commit(self) -> None:
-        """What was put so far is in the file, whole."""
+        """Writes what was put so far to the file, all of it or nothing."""
         with self._lock:
             if self._base.in_transaction:
                 self._base.execute('COMMIT')
 
     def roll_back(self) -> None:
-        """What was put since the last `commit` is not in the file."""
+        """Drops what was put since the last `commit`."""
         with self._lock, contextlib.suppress(sqlite3.Error):
             if self._base.in_transaction:
                 self._base.execute('ROLLBACK')
 
     def check_writing(self) -> None:
-        """A `sqlite3.Error` where nothing can be written."""
+        """Raises `sqlite3.Error` where nothing can be written."""
         with self._lock:
             self.set_meta('written', text_of(time.time_ns() // 1_000_000))
             self.commit()
 
     def rows(self, question: str, values: Sequence[Any] = ()) -> list[tuple[Any, ...]]:
-        """What the file answers."""
+        """Returns what the file answers."""
         with self._lock:
             return self._base.execute(question, values).fetchall()
 
     def meta(self, name: str) -> str | None:
-        """A value of the table `meta`, or None."""
+        """Returns a value of the table `meta`, or None."""
         for (value,) in self.rows('SELECT value FROM meta WHERE name = ?', (name,)):
             return str(value)
         return None
@@ -213,7 +213,7 @@ class Record:
         )
 
     def station(self, name: str, node: str, capacity: int, taken: int, reserved: int) -> None:
-        """How a station is."""
+        """Puts how a station is."""
         row = {
             'station': name,
             'node': node,
@@ -224,31 +224,31 @@ class Record:
         self._row('stations', row)
 
     def load(self, name: str, place: str, since: int | None) -> None:
-        """Where a load is; `since` is None where it was there when the board first looked."""
+        """Puts where a load is; `since` is None where it was there when the board first looked."""
         self._row(
             'loads',
             {'load': name, 'place': place, 'since': None if since is None else text_of(since)},
         )
 
     def load_move(self, at: int, load: str, before: str | None, after: str) -> None:
-        """A load moved; `before` is None where it was not known."""
+        """Puts a move of a load; `before` is None where it was not known."""
         self._row(
             'load_moves', {'at': text_of(at), 'load': load, 'from_place': before, 'to_place': after}
         )
 
     def vehicle(self, at: int, name: str, values: Mapping[str, Any], heard: int | None) -> None:
-        """A vehicle came to be so, at this moment: how it is, and the change."""
+        """Puts how a vehicle came to be at this moment: its row, and the change."""
         row = {key: value for key, value in values.items() if key != 'capacity'}
         self._row('vehicle_states', {'at': text_of(at), 'vehicle': name, **row})
         told = {'heard': None if heard is None else text_of(heard), 'since': text_of(at)}
         self._row('vehicles', {'vehicle': name, **values, **told})
 
     def heard(self, name: str, at: int) -> None:
-        """A new state of a vehicle was seen."""
+        """Puts that a new state of a vehicle was seen."""
         self._put('UPDATE vehicles SET heard = ? WHERE vehicle = ?', (text_of(at), name))
 
     def hold(self, at: int, kind: str, name: str, vehicle: str | None) -> None:
-        """A vehicle holds a node or an edge, or where it is None nobody does any more."""
+        """Puts who holds a node or an edge; None for nobody."""
         self._row(
             'hold_changes', {'at': text_of(at), 'kind': kind, 'name': name, 'vehicle': vehicle}
         )
@@ -260,7 +260,7 @@ class Record:
             )
 
     def job(self, values: Mapping[str, Any]) -> None:
-        """How a job is."""
+        """Puts how a job is."""
         self._row('jobs', values)
 
     def end_waits(self, at: int) -> None:
@@ -271,7 +271,7 @@ class Record:
     def wait(
         self, at: int, vehicle: str, thing: tuple[str, str] | None, holder: str | None
     ) -> None:
-        """A vehicle waits for a thing that another one holds, or where it is None no more; a wait
+        """Puts for which thing of another one a vehicle waits, None for nothing any more; a wait
         before it is over."""
         self._put(
             'UPDATE waits SET ended = ? WHERE vehicle = ? AND ended IS NULL', (text_of(at), vehicle)
@@ -287,7 +287,7 @@ class Record:
             self._row('waits', row)
 
     def desk(self, at: int, fault: str | None) -> None:
-        """The desk answers from now on, or where there is a fault it doesn't."""
+        """Puts that the desk answers from now on, or why it doesn't."""
         self._row('desk_times', {'at': text_of(at), 'answers': int(fault is None), 'fault': fault})
 
     def use(self, at: int, vehicle: str, state: str) -> None:
@@ -295,29 +295,30 @@ class Record:
         self._row('vehicle_uses', {'at': text_of(at), 'vehicle': vehicle, 'state': state})
 
     def event(self, at: int, event: Event) -> int:
-        """Something happened. The number of its entry, which no other entry ever has."""
+        """Puts what happened, and returns the number of its entry, which no other entry ever
+        has."""
         with self._lock:
             self._put(INSERT_EVENT, event_row(at, event))
             return int(self.rows('SELECT last_insert_rowid()')[0][0])
 
     def last_events(self, count: int) -> list[dict[str, Any]]:
-        """The last entries, the newest last, as the page has them."""
+        """Returns the last entries, the newest last, as the page has them."""
         question = f'SELECT {", ".join(EVENT)} FROM events ORDER BY n DESC LIMIT ?'
         return [entry_of(row) for row in self.rows(question, (count,))][::-1]
 
     def words(self, at: int, vehicle: str, values: Mapping[str, Any]) -> None:
-        """What a vehicle says of itself, by the columns of `vehicle_words`."""
+        """Puts what a vehicle says of itself, by the columns of `vehicle_words`."""
         self._row('vehicle_words', {'vehicle': vehicle, 'at': text_of(at), **values})
 
     def battery(self, at: int, vehicle: str, charge: float | None, charging: bool | None) -> None:
-        """The battery of a vehicle has come to be so."""
+        """Puts how the battery of a vehicle has come to be."""
         row = {'at': text_of(at), 'vehicle': vehicle, 'charge': charge}
         self._row(
             'vehicle_batteries', {**row, 'charging': None if charging is None else int(charging)}
         )
 
     def alarm(self, found: RecordedAlarm, began: int) -> int:
-        """Something needs a person, since a moment. The number of its row."""
+        """Puts what needs a person, and since when. Returns the number of its row."""
         about = {name: found.about().get(name) for name in ('vehicle', 'load', 'job', 'station')}
         row: dict[str, Any] = {'key': found.key, 'kind': found.kind, 'level': found.level, **about}
         row |= {'words': cut(found.words()), 'todo': cut(found.todo()), 'began': text_of(began)}
@@ -326,18 +327,18 @@ class Record:
             return int(self.rows('SELECT last_insert_rowid()')[0][0])
 
     def change_alarm(self, number: int, found: RecordedAlarm) -> None:
-        """An alarm says something else now."""
+        """Puts what an alarm says now."""
         row = found.kind, found.level, cut(found.words()), cut(found.todo())
         names = 'kind = ?, level = ?, words = ?, todo = ?, more = ?'
         more = json_of(values_cut(found.values))
         self._put(f'UPDATE alarms SET {names} WHERE n = ?', (*row, more, number))
 
     def end_alarm(self, number: int, at: int) -> None:
-        """An alarm is over."""
+        """Puts that an alarm is over."""
         self._put('UPDATE alarms SET ended = ? WHERE n = ?', (text_of(at), number))
 
     def layout(self) -> tuple[str, dict[str, tuple[float, float]]] | None:
-        """The layout as a file, and where its nodes are drawn; None where none is kept."""
+        """Returns the layout as a file, and where its nodes are drawn; None where none is kept."""
         layout = self.meta('layout')
         rows = self.rows('SELECT node, x, y FROM drawing')
         return None if layout is None else (layout, {node: (x, y) for node, x, y in rows})

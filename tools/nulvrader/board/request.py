@@ -78,7 +78,7 @@ def _header(line: bytes) -> tuple[str, str]:
 
 
 def _length(method: str, headers: Mapping[str, str]) -> int:
-    """The length of the body. Only a POST has one."""
+    """Returns the length of the body. Only a POST has one."""
     if method not in METHODS:
         raise BadRequest(405, 'The board answers GET, HEAD and POST.')
     if 'transfer-encoding' in headers:

@@ -20,34 +20,35 @@ class Scene:
         return found
 
     def load(self, name: str) -> dict[str, Any] | None:
-        """Where a load is; None where the board knows none of that name, or it has left."""
+        """Returns where a load is; None where the board knows none of that name, or it has left."""
         return self._row('load', name)
 
     def vehicle(self, name: str) -> dict[str, Any] | None:
-        """How a vehicle is."""
+        """Returns how a vehicle is."""
         return self._row('vehicle', name)
 
     def way(self, name: str) -> dict[str, Any] | None:
-        """The way of a vehicle's open order."""
+        """Returns the way of a vehicle's open order."""
         return self._row('way', name)
 
     def job(self, name: str) -> dict[str, Any] | None:
-        """A live job."""
+        """Returns a live job."""
         return self._row('job', name)
 
     def job_of(self, load: str) -> str | None:
-        """The live job of a load, where it is known."""
+        """Returns the live job of a load, where it is known."""
         return next(
             (name for name, job in self.shown.all('job').items() if job['load'] == load), None
         )
 
     def holder(self, kind: str, name: str) -> str | None:
-        """The vehicle that holds a node or an edge."""
+        """Returns the vehicle that holds a node or an edge."""
         holder: str | None = self.shown.get('hold', f'{kind} {name}')
         return holder
 
     def room(self, station: str) -> int | None:
-        """How many loads more fit at a station, or None where there is none of that name."""
+        """Returns how many loads more fit at a station, or None where there is none of that
+        name."""
         found = self.layout.stations.get(station)
         if found is None:
             return None
@@ -55,7 +56,7 @@ class Scene:
         return max(0, found.capacity - int(row['taken']) - int(row['reserved']))
 
     def room_of(self, station: str) -> dict[str, Any]:
-        """How full a station is."""
+        """Returns how full a station is."""
         row = self.shown.get('station', station) or {'taken': 0, 'reserved': 0}
         capacity = self.layout.stations[station].capacity
         return {'station': station, 'capacity': capacity, **row}

@@ -14,12 +14,12 @@ JOB = ('load', 'origin', 'target', 'phase', 'order', 'vehicle', 'added', 'began'
 
 
 def job(told: LiveJob) -> dict[str, Any]:
-    """A job as the page has it."""
+    """Returns a job as the page has it."""
     return {name: getattr(told, name) for name in JOB}
 
 
 def stops(told: Way) -> list[Line]:
-    """What is picked and dropped on a way, or where a drive leads."""
+    """Returns what is picked and dropped on a way, or where a drive leads."""
     acts = [
         Line(f'stop.{act.kind}', {'load': act.load, 'station': act.station}) for act in told.acts
     ]
@@ -27,7 +27,7 @@ def stops(told: Way) -> list[Line]:
 
 
 def vehicle(row: VehicleRow) -> dict[str, Any]:
-    """How a vehicle is, by the columns of `vehicles`."""
+    """Returns how a vehicle is, by the columns of `vehicles`."""
     return {
         'node': row.node,
         'order_name': row.order,
@@ -45,7 +45,7 @@ def vehicle(row: VehicleRow) -> dict[str, Any]:
 
 
 def way(told: Way) -> dict[str, Any]:
-    """The way of an order as the page draws it."""
+    """Returns the way of an order as the page draws it."""
     acts = [
         {'kind': act.kind, 'load': act.load, 'station': act.station, 'at': act.at}
         for act in told.acts
@@ -60,7 +60,7 @@ def way(told: Way) -> dict[str, Any]:
 
 
 def wait(told: Wait, at: int) -> dict[str, Any]:
-    """A vehicle waits for another one."""
+    """Returns which thing a vehicle waits for, and who holds it."""
     return {
         'kind': told.thing[0],
         'name': told.thing[1],

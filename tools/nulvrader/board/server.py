@@ -230,5 +230,5 @@ class Server(threading.Thread):
 
     @staticmethod
     def _fault(_: asyncio.AbstractEventLoop, context: dict[str, object]) -> None:
-        """A fault of one connection is a line of the log, and ends it alone."""
+        """Logs a fault of one connection, which ends that one alone."""
         log(f'a connection failed: {context.get("exception") or context.get("message")!r}')

@@ -71,7 +71,7 @@ def drawn_plan(layout: Layout, plan: FloorPlan) -> dict[str, Any]:
 
 
 def drawn(layout: Layout, places: dict[str, Point]) -> dict[str, Any]:
-    """The layout as the page draws it, each kind in the order of the names."""
+    """Returns the layout as the page draws it, each kind in the order of the names."""
     stations = [layout.stations[name] for name in sorted(layout.stations, key=natural)]
     nodes = sorted(layout.nodes, key=natural)
     return {

@@ -46,7 +46,7 @@ class Stores:
             self.news.shown.put('job', job.name, sentences.job(job))
 
     def take_stock(self, stock: Stock) -> None:
-        """The stock report."""
+        """Takes the stock report."""
         places, is_unseen = stock.places(), self.news.look('stock')
         for load in self.places.keys() - places.keys():
             self._move(load, 'left', is_unseen)
@@ -115,7 +115,7 @@ class Stores:
         return self.news.cause(*calls, of=lambda values: values.get('load') == load)
 
     def _by_hand(self, load: str, after: str, is_aboard: bool) -> tuple[str, Cause]:
-        """By which call a load is recorded elsewhere: a stocktake moves none that is on a
+        """Returns by which call a load was recorded elsewhere: a stocktake moves none that is on a
         vehicle."""
         station = after.removeprefix('station ') if after != 'checking' else ''
 
@@ -134,7 +134,7 @@ class Stores:
         return ('counted', cause) if cause else ('moved', Cause('client', call=' or '.join(HANDS)))
 
     def take_export(self, loads: Mapping[str, str]) -> None:
-        """All loads with their places. Those that came and left unseen are known by it alone."""
+        """Takes the places of all loads. Those that came and left unseen are known by it alone."""
         record = self.news.record
         left = {load for load, place in loads.items() if place == 'left'}
         known = {name for (name,) in record.rows("SELECT load FROM loads WHERE place = 'left'")}
@@ -144,7 +144,7 @@ class Stores:
         self.needs_export = False
 
     def take_jobs(self, jobs: Mapping[str, Job]) -> None:
-        """The export of jobs."""
+        """Takes the export of jobs."""
         is_unseen = self.news.look('jobs')
         self.jobs.take(jobs, self.news.at, self.first, is_unseen)
 
@@ -176,7 +176,7 @@ class Stores:
         return what, cause
 
     def _failure(self, job: LiveJob) -> dict[str, str]:
-        """Which action of a job has failed, where its vehicle has said so."""
+        """Returns which action of a job has failed, where its vehicle has said so."""
         end = self.news.ends.get(job.order or '')
         for number, kind, load in end.acts if end else ():
             result = self.news.failures.get((job.vehicle or '', f'{job.order}.{number}'))
@@ -202,7 +202,7 @@ class Stores:
         return UNSEEN if job.is_unseen else self.news.cause(call, of=is_of)
 
     def _change_of(self, job: LiveJob) -> tuple[str, Cause]:
-        """What has become of a job, and by what."""
+        """Returns what has become of a job, and by what."""
         if job.phase == 'waiting':
             return 'added', self._cause_of(job, 'job')
         if job.phase == 'riding':

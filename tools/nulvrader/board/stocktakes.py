@@ -38,7 +38,7 @@ def stocktake(scene: Scene, values: Mapping[str, str]) -> Look:
 
 
 def line_of(fault: Fault) -> Line:
-    """What is wrong with the file, and what to do without the command line."""
+    """Returns what is wrong with the file, and what to do without the command line."""
     parts = [part for part in (fault.rule, fault.remedy) if part]
     says = [
         Line(f'count.{part.name}', part.values).told() for part in parts if isinstance(part, Text)
@@ -50,7 +50,7 @@ def line_of(fault: Fault) -> Line:
 
 
 def records_of(scene: Scene) -> Records:
-    """What the board knows of what the desk has."""
+    """Returns what the board knows of what the desk has."""
     return Records(
         capacities={station.name: station.capacity for station in scene.layout.stations.values()},
         places={load: row['place'] for load, row in scene.shown.all('load').items()},

@@ -37,11 +37,12 @@ class Error:
     refers: tuple[str, ...] = ()
 
     def name(self) -> tuple[str, str, tuple[str, ...]]:
-        """By what it is known for the same error: its text may change, as where it has a number."""
+        """Returns by what it is known for the same error: its text may change, as where it has a
+        number."""
         return self.type, self.level, self.refers
 
     def words(self) -> str:
-        """The error in a few words."""
+        """Returns the error in a few words."""
         return f'{self.level} {self.type}{f": {self.text}" if self.text else ""}'
 
 
@@ -70,7 +71,7 @@ class Words:
     failed: tuple[FailedAction, ...] | None = None
 
     def over(self, before: Words) -> Words:
-        """These words, and what was said before of that of which they say nothing."""
+        """Returns these words, with what was said before where they say nothing."""
         values = {name: value for name, value in vars(self).items() if value is not None}
         return replace(before, **values)
 
@@ -81,7 +82,7 @@ class Words:
         return failed.result or next(about, '')
 
     def reasons(self) -> list[Line]:
-        """Why the desk gives it no orders, in a few words each."""
+        """Returns why the desk gives it no orders, in a few words each."""
         found = []
         if self.stop not in (None, NONE):
             found.append(Line('why.stop', {'stop': self.stop}))
@@ -94,7 +95,7 @@ class Words:
 
 
 def read_words(data: bytes) -> tuple[str, Words]:
-    """The vehicle, and what it says. `NoWords` where a datagram is none."""
+    """Returns the vehicle, and what it says. `NoWords` where a datagram is none."""
     if len(data) > LONGEST:
         raise NoWords(f'more than {LONGEST} bytes')
     try:
@@ -131,7 +132,7 @@ def _words(told: dict[str, Any]) -> Words:
 
 
 def _errors(told: dict[str, Any]) -> tuple[Error, ...] | None:
-    """The errors, each once, the gravest first."""
+    """Returns the errors, each once, the gravest first."""
     found: dict[object, Error] = {}
     for one in _objects(told, 'errors'):
         level = _text(one, 'errorLevel', WORD) or '?'
@@ -172,7 +173,7 @@ def _objects(told: dict[str, Any], name: str) -> list[dict[str, Any]]:
 
 
 def _text(told: dict[str, Any], name: str, most: int) -> str | None:
-    """A text as a page may show it; a number or a truth value is written as JSON."""
+    """Returns a text as a page may show it; a number or a truth value is written as JSON."""
     value = told.get(name)
     if isinstance(value, str):
         return shown(value, most)
@@ -185,7 +186,7 @@ def _flag(told: dict[str, Any], name: str) -> bool | None:
 
 
 def _number(told: dict[str, Any], name: str, most: float) -> float | None:
-    """A number that is not larger than `most`."""
+    """Returns a number that is not larger than `most`."""
     value = told.get(name)
     if isinstance(value, bool) or not isinstance(value, (int, float)) or abs(value) > most:
         return None

@@ -23,12 +23,13 @@ class Wait:
 def wait_of(
     vehicle: str, way: Way, seen: int, released: int, holders: Mapping[Thing, str]
 ) -> Wait | None:
-    """What a vehicle on a way waits for: of the edge behind what is released and the node at its
-    end the first that another vehicle holds; None where none does."""
+    """Returns what a vehicle on a way waits for: of the edge behind what is released and the node
+    at its end the first that another vehicle holds; None where none does."""
     found = first_held(vehicle, way.behind(released), holders)
     return None if found is None else Wait(vehicle, *found, seen == released)
 
 
 def circles_of(waits: Mapping[str, Wait]) -> list[list[str]]:
-    """The circles of vehicles of which each waits for the next and the last for the first."""
+    """Returns the circles of vehicles of which each waits for the next and the last for the
+    first."""
     return waits_of_desk.circles_of({name: wait.by for name, wait in waits.items()})

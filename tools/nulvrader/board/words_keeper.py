@@ -40,7 +40,7 @@ class KnownWords:
 
 
 def name_of(error: Error) -> str:
-    """The name of an error among those of a vehicle."""
+    """Returns the name of an error among those of a vehicle."""
     return ' '.join(('error', error.type, error.level, *error.refers))
 
 
@@ -75,7 +75,7 @@ class Keeper:
         self._show(row['vehicle'])
 
     def take(self, heard: Mapping[str, Sequence[Words]], known: Sequence[str], at: int) -> None:
-        """What was heard of the vehicles of the desk, at a moment."""
+        """Takes what was heard of the vehicles of the desk, at a moment."""
         before, self.news.at = self.news.at, at
         for vehicle in known:
             for words in heard.get(vehicle, ()):
@@ -106,7 +106,7 @@ class Keeper:
         values: tuple[Any, Any],
         more: Mapping[str, Any],
     ) -> None:
-        """An entry of a change, unless there were too many of this vehicle."""
+        """Makes an entry of a change, unless there were too many of this vehicle."""
         if what == 'action' and self._is_cancelled(more['id']):
             return
         if what == 'action':
@@ -198,8 +198,8 @@ Change = tuple[str, Any, Any, Mapping[str, Any]]
 
 
 def changes_of(before: Words, words: Words) -> Iterator[Change]:
-    """What has changed that matters: its name, how it was, how it is, and what else there is to
-    say."""
+    """Yields what has changed that matters: its name, how it was, how it is, and what else there is
+    to say."""
     for name in ('mode', 'stop', 'connection'):
         old, new = getattr(before, name), getattr(words, name)
         if old != new and (name != 'connection' or old is not None or new != 'ONLINE'):
@@ -221,7 +221,7 @@ def changes_of(before: Words, words: Words) -> Iterator[Change]:
 
 
 def row_of(said: KnownWords) -> dict[str, Any]:
-    """The values of `vehicle_words`."""
+    """Returns the values of `vehicle_words`."""
     words = said.words
     flags = {name: getattr(words, name) for name in ('field', 'charging')}
     x, y = words.position or (None, None)

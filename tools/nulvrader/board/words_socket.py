@@ -78,7 +78,7 @@ class Heard(threading.Thread):
                 self._words.setdefault(vehicle, deque(maxlen=EACH)).append(words)
 
     def take(self) -> dict[str, list[Words]]:
-        """What was heard since it was last taken, the oldest first, by vehicle."""
+        """Returns what was heard since it was last taken, the oldest first, by vehicle."""
         with self._lock:
             words, self._words = self._words, {}
         return {vehicle: list(row) for vehicle, row in words.items()}

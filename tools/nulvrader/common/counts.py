@@ -45,7 +45,7 @@ REFUSALS = ('TooLarge', 'BadCsv', 'NoStation', 'CountTwice', 'OnVehicle', 'InJob
 
 
 def text(name: str, /, **values: object) -> Text:
-    """A text of the table above."""
+    """Returns a text of the table above."""
     return Text.of(name, TEXTS[name], **values)
 
 
@@ -110,7 +110,7 @@ class CountFile(TableFile):
         )
 
     def read(self, line: int, fields: list[bytes]) -> None:
-        """A record that should be a row."""
+        """Reads a record that should be a row."""
         if len(fields) != len(HEADER):
             count = len(fields)
             rule = text('fields', fields=count, s='' if count == 1 else 's')
@@ -129,7 +129,7 @@ class CountFile(TableFile):
         self.rows.append(Row(line, station, load or None))
 
     def check_twice(self) -> None:
-        """Each load stands on one row at most."""
+        """Notes each load that stands on more than one row."""
         first: dict[str, Row] = {}
         for row in self.rows:
             if row.load is not None:
@@ -198,7 +198,7 @@ class CountFile(TableFile):
         self.faults.sort(key=lambda fault: fault.line or 0)
 
     def check_job(self, move: Move, job: str) -> None:
-        """A load in a live job would move."""
+        """Notes that a load in a live job would move."""
         line = move.line or self.stations()[move.before.partition(' ')[2]]
         values = {'load': move.load, 'place': move.before, 'job': job}
         rule = text('missed' if move.line is None else 'moves', **values)
@@ -206,8 +206,8 @@ class CountFile(TableFile):
         self.fault(line, 'InJob', rule, text('stop'), command)
 
     def check_room(self, records: Records) -> None:
-        """At a counted station the found loads that the desk has and the live jobs to it have
-        room."""
+        """Notes each counted station without room for the loads that were found and the live jobs
+        to it."""
         for station, line in self.stations().items():
             loads = [
                 row.load
@@ -224,7 +224,7 @@ class CountFile(TableFile):
 
 
 def two_fields(fields: list[bytes]) -> str:
-    """What to write for a record that has not two fields."""
+    """Returns what to write for a record that has not two fields."""
     if len(fields) == 1:
         mark = next((mark for mark in (b';', b'\t') if fields[0].count(mark) == 1), None)
         if mark is not None:

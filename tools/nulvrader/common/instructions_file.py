@@ -20,7 +20,7 @@ PATIENCE = 20.0
 
 
 def read_file(path: str) -> Instructions:
-    """What a file says; nothing where there is none."""
+    """Returns what a file says; nothing where there is none."""
     try:
         text = plain_files.read_text(path).decode()
     except FileNotFoundError:
@@ -46,7 +46,7 @@ class Followed:
         self._was_there = False
 
     def now(self) -> Instructions:
-        """What the file says. A `NoInstructions` where that can't be read."""
+        """Returns what the file says. A `NoInstructions` where that can't be read."""
         known = self._stamp()
         if known != self._known or isinstance(self._last, NoInstructions):
             self._known = known
@@ -62,7 +62,7 @@ class Followed:
         return self._last
 
     def _stamp(self) -> tuple[int, ...] | None:
-        """By what a file is known to be the same. None where there is none."""
+        """Returns what changes with each change of the file, None where there is no file."""
         try:
             found = os.stat(self.path)
         except OSError as fault:
@@ -74,7 +74,8 @@ class Followed:
 
 @contextlib.contextmanager
 def changing(path: str) -> Iterator[tuple[Instructions, Callable[[Instructions], None]]]:
-    """What a file says, and what writes it anew. No other command writes it while a block runs."""
+    """Gives a block what a file says, and what writes it anew. No other command writes it
+    meanwhile."""
     folder = os.path.dirname(os.path.abspath(path))
     handle = os.open(folder, os.O_RDONLY | os.O_DIRECTORY | os.O_CLOEXEC)
     try:

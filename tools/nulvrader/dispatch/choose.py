@@ -62,7 +62,7 @@ class Chooser:
         self._put_off: set[str] = set()  # the jobs that were not looked at
 
     def begin_turn(self, now: float = 0.0) -> None:
-        """From here on so many looks may be made anew. It is so many seconds."""
+        """Begins a turn at a moment, in seconds: so many looks may be made anew in it."""
         self._turn, self._left, self._now = self._turn + 1, LOOKS, now
 
     def is_put_off(self, one: Waiting) -> bool:
@@ -92,7 +92,7 @@ class Chooser:
         )
 
     def _first(self, idle: Sequence[Seen], jobs: Sequence[Waiting], traffic: Traffic) -> Try | None:
-        """The first of these that may be started, as far as looks are left."""
+        """Returns the first of these that may be started, as far as looks are left."""
         nearer: list[Try] = []
         plain: list[Try] = []
         for tried in self._tries(idle, jobs):
@@ -109,7 +109,7 @@ class Chooser:
         return found
 
     def _due(self, tries: Sequence[Try]) -> list[Try]:
-        """Those that get a look now, in their order: none of them twice in a turn."""
+        """Returns those that get a look now, in their order: none of them twice in a turn."""
         last = [(self._looked.get(_key(tried), 0), number) for number, tried in enumerate(tries)]
         due = sorted(one for one in last if one[0] < self._turn)[: self._left]
         return [tries[number] for number in sorted(number for _, number in due)]
@@ -147,8 +147,8 @@ class Chooser:
         waiting: Sequence[Waiting],
         traffic: Traffic,
     ) -> Proposal:
-        """The order with further jobs that it saves a way of their own, the one by which it saves
-        most first, as far as the vehicle can carry them."""
+        """Returns the order with further jobs that it saves a way of their own, the one by which it
+        saves most first, as far as the vehicle can carry them."""
         stops = [
             At(first.stops[0], self.ways.node_of(one.origin)),
             At(first.stops[1], self.ways.node_of(one.target)),
@@ -175,7 +175,7 @@ class Chooser:
         found: Proposal,
         traffic: Traffic,
     ) -> tuple[Proposal, list[At]] | None:
-        """The order with one more of these jobs, if one may be added, and its stops."""
+        """Returns the order with one more of these jobs, if one may be added, and its stops."""
         tries = []
         for number, other in enumerate(others):
             inserted = self._inserted(seen.row.node, stops, other, found.way)

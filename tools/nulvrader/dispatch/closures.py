@@ -33,7 +33,7 @@ class Closures:
         return frozenset(nodes | {f'edge {edge}' for edge in self.edges.values()})
 
     def first_on(self, way: Way) -> str | None:
-        """The first of them that a way leads over, behind its first node, as `node N7`."""
+        """Returns the first of them that a way leads over, behind its first node, as `node N7`."""
         for pair in zip(way, way[1:]):
             if pair in self.edges:
                 return f'edge {self.edges[pair]}'
@@ -42,7 +42,7 @@ class Closures:
         return None
 
     def walled(self, way: Way) -> Way:
-        """A way on which each closed edge leads to a wall."""
+        """Returns a way on which each closed edge leads to a wall."""
         if not self.edges:
             return way
         pairs = list(zip(way, way[1:]))

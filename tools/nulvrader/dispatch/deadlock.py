@@ -71,8 +71,8 @@ def along(
     *,
     settle: bool = True,
 ) -> Found:
-    """Who finishes by those of these moves that can be made, and behind them, if these are to be
-    made, by moves that take nothing from anybody."""
+    """Returns who finishes by those of these moves that can be made, and behind them, if these are
+    to be made, by moves that take nothing from anybody."""
     space = SearchSpace(ways, walls, ground)
     state = space.start()
     space.follow(state, moves)
@@ -88,8 +88,8 @@ def look(
     wanted: Collection[str] | None = None,
     ground: Ground | None = None,
 ) -> Found:
-    """An order of moves by which all of the wanted vehicles finish, or, where none are named, all
-    that can. Where it is not found, the best that was."""
+    """Returns an order of moves by which all of the wanted vehicles finish, or, where none are
+    named, all that can. Where it is not found, the best that was."""
     space = SearchSpace(ways, walls, ground)
     first = space.start()
     space.settle(first)
@@ -114,11 +114,11 @@ def look(
 def search(
     space: SearchSpace, first: State, group: Sequence[int], goal: frozenset[int], budget: int
 ) -> State:
-    """A state behind this one, after moves of the group alone, in which those of the goal have
-    finished; or, where none is found in so many, that in which the most have. It is tried again
-    and again, with the vehicles in another order each time: a search that has begun badly takes
-    long to get out of it, and one in another order seldom begins so. Each second try is longer.
-    """
+    """Returns a state behind this one, after moves of the group alone, in which those of the goal
+    have finished; or, where none is found in so many, that in which the most have. It is tried
+    again and again, with the vehicles in another order each time: a search that has begun badly
+    takes long to get out of it, and one in another order seldom begins so. Each second try is
+    longer."""
     chance, order, best = random.Random(0), list(group), first
     for n in itertools.count(1):
         found, looked, is_all = tried(
@@ -136,8 +136,8 @@ def search(
 def tried(
     space: SearchSpace, first: State, order: Sequence[int], goal: frozenset[int], most: int
 ) -> tuple[State, int, bool]:
-    """The best state that is found in so many, with those vehicles first that come first here;
-    how many were looked at; and whether there are no others."""
+    """Returns the best state that is found in so many, with those vehicles first that come first
+    here; how many were looked at; and whether there are no others."""
     best, count, looked = first, space.count(first, order), 0
     seen, rows = {tuple(first.at)}, [space.steps(first, order, goal)]
     while not space.has_all(best, goal) and rows and looked < most:
@@ -162,12 +162,12 @@ def tried(
 def finishing(
     ways: Mapping[str, Way], walls: Collection[str] = (), budget: int = BUDGET
 ) -> frozenset[str]:
-    """The vehicles that finish by some order of moves: all of them where the look finds one, else
-    those of the best that it has found."""
+    """Returns the vehicles that finish by some order of moves: all of them where the look finds
+    one, else those of the best that it has found."""
     return look(ways, walls, budget).finishing
 
 
 def after_release(ways: Mapping[str, Way], vehicle: str, nodes: int) -> dict[str, Way]:
-    """The ways once the next `nodes` nodes were released to the vehicle, and it has gone over
-    them."""
+    """Returns the ways once the next `nodes` nodes were released to the vehicle, and it has gone
+    over them."""
     return {**ways, vehicle: ways[vehicle][nodes:]}

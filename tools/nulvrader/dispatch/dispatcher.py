@@ -97,8 +97,8 @@ class Dispatcher:
         self._last: Snapshot | None = None
 
     def turn(self) -> bool:
-        """One look at the desk, and what follows. Whether the desk answered; where it did not, or
-        has a fault, the next turn may."""
+        """Looks at the desk, and does what follows. Returns whether the desk answered; where it did
+        not, or has a fault, the next turn may."""
         try:
             self._turn()
         except (NoAnswer, Refused) as fault:
@@ -112,8 +112,8 @@ class Dispatcher:
         return True
 
     def waits(self) -> Mapping[str, str]:
-        """Why each vehicle and job waits that does, as of the last turn. A job is called `job
-        J1`."""
+        """Returns why each vehicle and job waits that does, as of the last turn. A job is called
+        `job J1`."""
         return self._told.reasons
 
     def reasons(self) -> Mapping[str, str]:
@@ -122,12 +122,12 @@ class Dispatcher:
         return self._told.all
 
     def shut_in(self) -> Mapping[str, tuple[float, str]]:
-        """The vehicles that others shut in, as of the last turn: since when, and why."""
+        """Returns the vehicles that others shut in, as of the last turn: since when, and why."""
         return self._standstill.shut_in.told()
 
     def plans(self) -> Sequence[Plan]:
-        """The moves by which vehicles finish, as of the last turn: where nobody that stands goes
-        away, where those that do not go on do so again, and where all others get out, too."""
+        """Returns the moves by which vehicles finish, as of the last turn: where nobody that stands
+        goes away, where those that do not go on do so again, and where all others get out, too."""
         return self._plans
 
     def _turn(self) -> None:
@@ -173,7 +173,7 @@ class Dispatcher:
         }
 
     def _look(self) -> Snapshot:
-        """What the desk tells now."""
+        """Returns what the desk tells now."""
         with self.desk.kept():
             seen = take(self.desk, self._last)
         check(seen, self.layout)
@@ -182,8 +182,8 @@ class Dispatcher:
     # What people say.
 
     def _instructed(self) -> Instructions | None:
-        """What people say now; the last that could be read where that can't be. None, so that
-        nothing is released, where nothing ever could."""
+        """Returns what people say now; the last that could be read where that can't be. None, so
+        that nothing is released, where nothing ever could."""
         try:
             self._instructions = self._read()
             self.lines.once('instructions', None, over='the instructions can be read again')
@@ -193,7 +193,7 @@ class Dispatcher:
         return self._instructions
 
     def _closed(self, instructions: Instructions) -> Closures:
-        """What is closed of the layout. Names that it does not have are told."""
+        """Returns what is closed of the layout. Names that it does not have are told."""
         nodes = instructions.nodes & set(self.layout.nodes)
         edges = instructions.edges & self.layout.edges.keys()
         strange = [f'node {name}' for name in instructions.nodes - nodes]
@@ -222,7 +222,7 @@ class Dispatcher:
             memory.follow(seen, all_seen.places)
 
     def _why_still(self, seen: Seen, now: float) -> Hindrance | None:
-        """Why a vehicle does not go on, or None."""
+        """Returns why a vehicle does not go on, or None."""
         memory = self._memory[seen.name]
         if seen.row.astray:
             return Hindrance('left its order on the way', '; look where it stands, and place it')
@@ -239,7 +239,7 @@ class Dispatcher:
         return None
 
     def _out_of_use(self, seen: Seen, now: float) -> str | None:
-        """Why a vehicle without an order gets none, in short, or None."""
+        """Returns why a vehicle without an order gets none, in short, or None."""
         why = self._why_still(seen, now)
         if why is not None:
             return why.short
@@ -265,6 +265,6 @@ class Dispatcher:
 
 
 def _jobs_of(order: str, seen: Snapshot) -> tuple[Waiting, ...]:
-    """The live jobs of an order that this dispatcher has not given."""
+    """Returns the live jobs of an order that this dispatcher has not given."""
     jobs = (job for job in seen.jobs.values() if job.order == order)
     return tuple(Waiting(job.name, job.load, job.origin, job.target) for job in jobs)

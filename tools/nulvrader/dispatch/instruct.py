@@ -44,7 +44,7 @@ def add_file(words: argparse.ArgumentParser) -> None:
 
 
 def named(text: str) -> str:
-    """A name."""
+    """Returns a name."""
     try:
         return checked(text)
     except BadName as fault:
@@ -69,7 +69,7 @@ SAID = ('due', 'priority', 'truck', 'place')
 
 
 def run_job(words: Sequence[str], text: str) -> int:
-    """The command `job`."""
+    """Runs the command `job`, and returns its status."""
     parser = entry.parser(text)
     parser.add_argument('job', nargs='?', type=named, metavar='JOB')
     add = functools.partial(parser.add_argument, default=argparse.SUPPRESS)
@@ -91,7 +91,7 @@ def run_job(words: Sequence[str], text: str) -> int:
 
 
 def _desk_of(parser: argparse.ArgumentParser, said: argparse.Namespace) -> Desk:
-    """The desk that the options name. If these are wrong the program ends with status 2."""
+    """Returns the desk that the options name. If these are wrong the program ends with status 2."""
     try:
         return arguments.desk_of(said)
     except (OSError, ValueError) as fault:
@@ -138,7 +138,7 @@ def _told_urgency(job: str, one: Urgency) -> str:
 
 
 def run_close(words: Sequence[str], text: str) -> int:
-    """The command `close`."""
+    """Runs the command `close`, and returns its status."""
     parser = entry.parser(text)
     _add_names(parser)
     arguments.add_desk(parser)
@@ -148,7 +148,7 @@ def run_close(words: Sequence[str], text: str) -> int:
 
 
 def run_open(words: Sequence[str], text: str) -> int:
-    """The command `open`."""
+    """Runs the command `open`, and returns its status."""
     parser = entry.parser(text)
     _add_names(parser)
     said = parser.parse_args(words)
@@ -202,7 +202,7 @@ def _open(said: argparse.Namespace) -> None:
 def _found(
     names: Sequence[str], kinds: Sequence[str], known: Mapping[str, Collection[str]], none: str
 ) -> dict[str, set[str]]:
-    """The names by their kinds. `Unknown` where one is of none or of two."""
+    """Returns the names by their kinds. `Unknown` where one is of none or of two."""
     found: dict[str, set[str]] = {'node': set(), 'edge': set()}
     for name in names:
         of = [kind for kind in kinds if name in known[kind]]

@@ -77,12 +77,12 @@ class JobBook:
         }
 
     def forget(self, job: str) -> None:
-        """The job does not wait any more."""
+        """Forgets a job that does not wait any more."""
         self.waiting.pop(job, None)
 
 
 def _urged(one: Waiting, urgency: Urgency | None, ahead: float) -> Waiting:
-    """A job with its due time and its priority, where the book's clock is so much ahead."""
+    """Returns a job with its due time and its priority, where the book's clock is so much ahead."""
     urgency = urgency or Urgency()
     due = None if urgency.due is None else urgency.due + ahead
     if (one.due, one.priority, one.truck) == (due, urgency.priority, urgency.truck):

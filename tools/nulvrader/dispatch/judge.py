@@ -94,7 +94,7 @@ class Outlook:
         )
 
     def plans(self) -> list[Plan]:
-        """The moves that were found, to be checked."""
+        """Returns the moves that were found, to be checked."""
         return [
             Plan(ways, walls, found.moves, found.finishing, self.is_joined)
             for (ways, walls), found in zip(self.views, self.found)
@@ -160,7 +160,7 @@ class Judge:
         return found if found.finishing >= (told.finishing if wanted is None else wanted) else told
 
     def begin_turn(self) -> None:
-        """From here on who finishes is looked for anew, also where a release or an order was seen
+        """Begins a turn: who finishes is looked for anew, also where a release or an order was seen
         to keep who did."""
         self._granted, self._turn = None, self._turn + 1
 
@@ -192,7 +192,7 @@ class Judge:
         budget: int = 0,
         wanted: tuple[frozenset[str] | None, ...] = (None,) * 3,
     ) -> Outlook:
-        """What is found where the moves for now are these."""
+        """Returns what is found where the moves for now are these."""
         soon = now
         if views[SOON] is not views[NOW]:
             soon = self.extended(views, [now], budget, hints[SOON], wanted[SOON])
@@ -200,8 +200,8 @@ class Judge:
         return Outlook(views, (now, soon, later))
 
     def _planned(self, views: Views, goes_on: bool) -> Outlook | None:
-        """What the plan leads to, where by it all finish whom it was for. Where one goes on that
-        stood, what was planned for that is the plan."""
+        """Returns what the plan leads to, where by it all finish whom it was for. Where one goes on
+        that stood, what was planned for that is the plan."""
         wanted = [names & ways.keys() for names, (ways, _) in zip(self._finish, views)]
         for hints in list(self._plans):
             for moves in (hints[NOW],) if goes_on else (hints[NOW], hints[SOON]):
@@ -215,15 +215,15 @@ class Judge:
         return None
 
     def _apart(self, views: Views, now: Found, hints: Hints) -> Outlook:
-        """What is found by moves for each view that have nothing to do with one another."""
+        """Returns what is found by moves for each view that have nothing to do with one another."""
         soon = now
         if views[SOON] is not views[NOW]:
             soon = self.find(*views[SOON], 0, hints[SOON])
         return Outlook(views, (now, soon, self.find(*views[LATER], 0, hints[LATER])), False)
 
     def _anew(self, views: Views, planned: Outlook | None) -> Outlook:
-        """What a look finds. Where vehicles have not all come to stand, more that finish now come
-        before a plan for now behind which all others still can finish."""
+        """Returns what a look finds. Where vehicles have not all come to stand, more that finish
+        now come before a plan for now behind which all others still can finish."""
         most, hints = self.times * self.deep, self._plans[0]
         later = self.find(*views[LATER], most, hints[LATER])
         now = self.find(*views[NOW], most, hints[NOW])
@@ -245,14 +245,14 @@ class Judge:
         return best
 
     def _rank(self, outlook: Outlook) -> tuple[int, ...]:
-        """How good it is."""
+        """Returns how good it is."""
         now, soon, later = (len(found.finishing) for found in outlook.found)
         goes = outlook.is_joined and outlook.can_move()
         return goes if self.times > 1 else 0, later, now, soon, outlook.is_joined
 
     def _for_now(self, views: Views, now: Found, others: tuple[Found, Found]) -> Iterator[Found]:
-        """What to do now: what a look has found; or what is done soon or later, as far as it can be
-        done now, with or without moves that take nothing from anybody."""
+        """Yields what to do now: what a look has found; or what is done soon or later, as far as it
+        can be done now, with or without moves that take nothing from anybody."""
         yield now
         ways, walls = views[NOW]
         for (longer, _), found in zip(views[SOON:], others):
@@ -265,8 +265,8 @@ class Judge:
                 yield along(ways, walls, moves, self._ground, settle=settle)
 
     def outlook(self, traffic: Traffic) -> Outlook:
-        """Who finishes, and by which moves. Where nothing has changed but that vehicles have gone
-        on, no look is made for some turns for more than finish by the plan."""
+        """Returns who finishes, and by which moves. Where nothing has changed but that vehicles
+        have gone on, no look is made for some turns for more than finish by the plan."""
         if self._last is None or self._last[0] is not traffic or self._last[1] != self.times:
             views, outlook = traffic.views(), self._granted
             if outlook is None or outlook.views != views:
@@ -289,21 +289,21 @@ class Judge:
         self._finish = now.finishing, soon.finishing, later.finishing
 
     def plans(self, traffic: Traffic) -> list[Plan]:
-        """The plan for each view."""
+        """Returns the plan for each view."""
         return self.outlook(traffic).plans()
 
     def finish_now(self, traffic: Traffic) -> frozenset[str]:
-        """Who finishes though nobody that stands goes away."""
+        """Returns who finishes though nobody that stands goes away."""
         return self.outlook(traffic).now.finishing
 
     def finish_later(self, traffic: Traffic) -> frozenset[str]:
-        """Who finishes, and gets out of a dead end then, where all others do too: whom the vehicles
-        do not shut in for good."""
+        """Returns who finishes, and gets out of a dead end then, where all others do too: whom the
+        vehicles do not shut in for good."""
         return self.outlook(traffic).later.finishing
 
     def look_longer(self, traffic: Traffic, times: int) -> frozenset[str]:
-        """Who finishes later, by a look of so many times as many states. The moves that it finds
-        are tried first from here on."""
+        """Returns who finishes later, by a look of so many times as many states. The moves that it
+        finds are tried first from here on."""
         now, soon, hint = self._plans[0]
         found = self.find(*traffic.views()[LATER], max(self.times, times) * self.deep, hint)
         self._plans.appendleft((now, soon, found.moves))

@@ -78,8 +78,8 @@ class Ground:
         return lane
 
     def lane_of(self, vehicle: str, way: Way) -> tuple[Lane, int]:
-        """The lane of a vehicle, and where on it this way begins. A vehicle that has gone on keeps
-        its lane, and with it all that is kept of the pairs that it is in."""
+        """Returns the lane of a vehicle, and where on it this way begins. A vehicle that has gone
+        on keeps its lane, and with it all that is kept of the pairs that it is in."""
         way = tuple(way)
         key = vehicle, way[-1]
         lane = self._of.get(key)

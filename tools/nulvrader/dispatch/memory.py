@@ -51,20 +51,20 @@ class Memory:
         left: int = 0,
         end: str | None = None,
     ) -> None:
-        """From here on it has this order, or none. Where it is shut in the reason stays the
-        same."""
+        """Begins an order of the vehicle, or with None the time without one."""
         self.order, self.jobs, self.left, self.end = order, jobs, left, end
         self.done, self.waits, self.shut_in, self.cancelled = set(), None, None, False
 
     def follow(self, seen: Seen, places: Mapping[str, str]) -> None:
-        """What the order of this turn shows: which of its jobs are done."""
+        """Notes which jobs of the order are done, by what this turn shows."""
         assert seen.order is not None
         self.done |= {one.job for one in self.jobs if is_there(one, places)}
         self.left, self.end = seen.edges_left(), seen.order.nodes[-1].name
         self.cancelled = seen.row.pending == 'cancelOrder'
 
     def not_done(self, seen: Seen, places: Mapping[str, str]) -> list[str]:
-        """What is to be said of the jobs of an order that has ended, but those that are done."""
+        """Returns what is to be said of the jobs of an order that has ended, but those that are
+        done."""
         return [
             self._told(one, seen, places.get(one.load))
             for one in self.jobs
@@ -79,8 +79,8 @@ class Memory:
         return f'{one.job} is stopped, since {self._why(seen, action)}: its load {one.load} {where}'
 
     def _why(self, seen: Seen, action: str) -> str:
-        """Why a job was stopped whose next action was this one. Only a state or a person ends an
-        order, and who places a vehicle changes nothing of its last state."""
+        """Returns why a job was stopped whose next action was this one. Only a state or a person
+        ends an order, and who places a vehicle changes nothing of its last state."""
         if self.cancelled:
             return 'its order was cancelled'
         if not self.is_heard:

@@ -79,7 +79,8 @@ class Orders:
         turn: Turn,
         idle: Mapping[str, Seen],
     ) -> str:
-        """Why no free vehicle takes a job, where these stand at nodes, and what ends that."""
+        """Returns why no free vehicle takes a job, where these stand at nodes, and what ends
+        that."""
         ends = [self.shared.ways.node_of(name) for name in (one.origin, one.target)]
         if why := self._why_no_way(ends, turn, idle):
             return why
@@ -99,8 +100,8 @@ class Orders:
         )
 
     def _why_no_way(self, ends: list[str], turn: Turn, idle: Mapping[str, Seen]) -> str | None:
-        """Why no order may lead from a free vehicle over the pick to the drop, by the layout and by
-        what is closed."""
+        """Returns why no order may lead from a free vehicle over the pick to the drop, by the
+        layout and by what is closed."""
         ways, closed = self.shared.ways, turn.closed
         if ways.way(ends) is None:
             why = f'its way has more than {MOST_EDGES} edges, which no order may have'
@@ -126,7 +127,7 @@ def behind_others(one: Waiting) -> str:
 
 
 def _standing(traffic: Traffic) -> dict[str, list[str]]:
-    """By node the vehicles that stand there and do not go on."""
+    """Returns the vehicles that do not go on, by the nodes where they stand."""
     found: dict[str, list[str]] = {}
     for name, held in traffic.standing().items():
         for node in held:

@@ -60,7 +60,7 @@ def read_parking(text: str, layout: Layout) -> tuple[str, ...]:
 
 
 def _into(layout: Layout) -> dict[str, set[str]]:
-    """By node those from which an edge leads to it."""
+    """Returns by each node those from which an edge leads to it."""
     found: dict[str, set[str]] = {node: set() for node in layout.nodes}
     for edge in layout.edges.values():
         found[edge.finish].add(edge.start)
@@ -80,7 +80,8 @@ def _with_behind(
 
 
 def passed(layout: Layout) -> frozenset[str]:
-    """The nodes over which ways between stations lead, as a desk makes them, but for the ends."""
+    """Returns the nodes over which ways between stations lead, as a desk makes them, but for the
+    ends."""
     stations = {station.node for station in layout.stations.values()}
     out: dict[str, list[str]] = collections.defaultdict(list)
     for _, edge in sorted(layout.edges.items()):
@@ -99,9 +100,9 @@ def passed(layout: Layout) -> frozenset[str]:
 
 
 def chosen(layout: Layout) -> tuple[str, ...]:
-    """The parking places of a layout for which none are given: nodes without a station over which
-    no way between stations leads, with a way to each station and back. Where there are none, those
-    with a station: who stands there is in the way of its jobs alone."""
+    """Returns the parking places of a layout for which none are given: nodes without a station over
+    which no way between stations leads, with a way to each station and back. Where there are none,
+    those with a station: who stands there is in the way of its jobs alone."""
     over, stations = passed(layout), {one.node for one in layout.stations.values()}
     to_all, from_all = set(layout.nodes), set(layout.nodes)
     back = _turned(layout)
@@ -113,7 +114,7 @@ def chosen(layout: Layout) -> tuple[str, ...]:
 
 
 def _turned(layout: Layout) -> Layout:
-    """The layout with each edge the other way."""
+    """Returns the layout with each edge the other way."""
     edges = {name: type(edge)(name, edge.finish, edge.start) for name, edge in layout.edges.items()}
     return Layout(layout.nodes, edges, layout.stations)
 
@@ -144,11 +145,11 @@ class Parking:
         traffic: Traffic,
         now: float,
     ) -> Drive | None:
-        """A drive that may be started, or None: first for a vehicle that is in the way of another,
-        or stands where a job that waits is to be put down (`drops`); then for one that has been
-        idle for a while (`since`) and is at no parking place, or where a job that waits is to be
-        picked (`picks`): it would have taken that itself if it could. The place is the nearest for
-        the vehicle and for those jobs."""
+        """Returns a drive that may be started, or None: first for a vehicle that is in the way of
+        another, or stands where a job that waits is to be put down (`drops`); then for one that has
+        been idle for a while (`since`) and is at no parking place, or where a job that waits is to
+        be picked (`picks`): it would have taken that itself if it could. The place is the nearest
+        for the vehicle and for those jobs."""
         wanted = {*drops, *picks}
         first = [one for one in idle if one.row.node in drops or traffic.in_the_way(one.name)]
         for seen in [*first, *(one for one in idle if self._is_to_go(one, since, picks, now))]:

@@ -32,7 +32,7 @@ class Plan:
     is_joined: bool = True
 
     def fault(self) -> str | None:
-        """What is wrong with the plan, or None where it can be carried out."""
+        """Returns what is wrong with the plan, or None where it can be carried out."""
         at = {name: 0 for name in self.ways}
         on: dict[str, set[str]] = {}
         for name, way in self.ways.items():

@@ -42,8 +42,8 @@ class Releases:
         return count
 
     def with_order(self, turn: Turn, vehicle: str, way: Sequence[str]) -> int:
-        """How many edges are released with an order along this way. An edge is free where both of
-        its ends are."""
+        """Returns how many edges are released with an order along this way. An edge is free where
+        both of its ends are."""
         after = turn.traffic.started(vehicle, way)
         count = 0
         while count < min(self.shared.settings.ahead, len(way) - 1):
@@ -54,7 +54,7 @@ class Releases:
         return count
 
     def _waits_since(self, vehicle: Seen, now: float) -> float:
-        """Since when it waits; it is noted here that it does."""
+        """Returns since when it waits; it is noted here that it does."""
         memory = self.shared.memory[vehicle.name]
         if vehicle.order is None or vehicle.edges or not vehicle.edges_left():
             memory.waits = None
@@ -63,7 +63,7 @@ class Releases:
         return now if memory.waits is None else memory.waits
 
     def _edges_for(self, vehicle: Seen, turn: Turn, most: int) -> tuple[int, str]:
-        """How many edges, up to so many, may be released to a vehicle, and why no more."""
+        """Returns how many edges, up to so many, may be released to a vehicle, and why no more."""
         assert vehicle.order is not None
         ahead = [edge for edge in vehicle.order.edges if not edge.released]
         at = f'waits at {ahead[0].start}'
@@ -81,8 +81,8 @@ class Releases:
         return min(most, len(ahead)), ''
 
     def _by_whom(self, vehicle: Seen, turn: Turn) -> str:
-        """Who stands in the way of a vehicle and does not go on, or goes to where it is in the
-        way; and what is closed there."""
+        """Returns who stands in the way of a vehicle and does not go on, or goes to where it is in
+        the way; and what is closed there."""
         traffic = turn.traffic
         nodes = set(traffic.ways[vehicle.name][1:])
         found = [

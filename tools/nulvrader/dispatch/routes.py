@@ -38,9 +38,9 @@ class Ways:
         return self._far[target].get(start)
 
     def way(self, stops: Sequence[str]) -> tuple[str, ...] | None:
-        """The nodes of the way from the first of these nodes over all others: from each to the next
-        by the shortest walk, the one of the least names. None where there is none, or it is too
-        long for an order."""
+        """Returns the nodes of the way from the first of these nodes over all others: from each to
+        the next by the shortest walk, the one of the least names. None where there is none, or it
+        is too long for an order."""
         asked = tuple(stops)
         if asked not in self._kept:
             if len(self._kept) >= KEPT:
@@ -69,9 +69,9 @@ class Ways:
         return self.layout.stations[station].node
 
     def way_out(self, node: str) -> tuple[str, ...]:
-        """The nodes behind this one on the shortest walk out of a dead end: to a node from which an
-        edge leads on that does not lead back. None for a node that has such an edge itself, or
-        where there is no such node."""
+        """Returns the nodes behind this one on the shortest walk out of a dead end: to a node from
+        which an edge leads on that does not lead back. None for a node that has such an edge
+        itself, or where there is no such node."""
         before: dict[str, str] = {}
         row = [node]
         for here in row:

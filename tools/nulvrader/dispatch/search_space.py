@@ -35,7 +35,7 @@ class SearchSpace:
         self.walls = ground.bits(walls)
 
     def start(self) -> State:
-        """Each vehicle at the beginning of its way, which may be amid its lane."""
+        """Returns each vehicle at the beginning of its way, which may be amid its lane."""
         taken = 0
         for lane, at in zip(self.lanes, self.starts):
             taken |= lane.bits[at]
@@ -49,8 +49,8 @@ class SearchSpace:
         state.moves.append((vehicle, to))
 
     def others(self, state: State, vehicle: int) -> int:
-        """The nodes where others stand, and the walls. A wall stays one, though a vehicle leaves
-        it."""
+        """Returns the nodes where others stand, and the walls. A wall stays one, though a vehicle
+        leaves it."""
         return state.taken ^ self.lanes[vehicle].bits[state.at[vehicle]] | self.walls
 
     def shared(self, state: State, among: Iterable[int]) -> int:
@@ -65,8 +65,8 @@ class SearchSpace:
         return more
 
     def furthest(self, state: State, vehicle: int, shared: int) -> int:
-        """The index of the last node to which the vehicle can go over free nodes and where it is in
-        nobody's way."""
+        """Returns the index of the last node to which the vehicle can go over free nodes and where
+        it is in nobody's way."""
         lane, best = self.lanes[vehicle], state.at[vehicle]
         bits, others = lane.bits, self.others(state, vehicle)
         if bits[best + 1] & others or not lane.rest[best] & ~shared:
@@ -157,7 +157,7 @@ class SearchSpace:
         return True
 
     def together(self, state: State, goal: Iterable[int]) -> frozenset[int]:
-        """Those of the goal of which each two can both finish: of two that can't the first
+        """Returns those of the goal of which each two can both finish: of two that can't the first
         alone."""
         found: list[int] = []
         for vehicle in sorted(goal):
@@ -166,10 +166,10 @@ class SearchSpace:
         return frozenset(found)
 
     def lost(self, state: State) -> frozenset[int]:
-        """The vehicles that do not finish any more, whatever moves: those on whose way a wall or a
-        vehicle that has finished stands; and those whose next node is taken for good, by one of
-        these or in a ring of vehicles of which each waits for the next, and those that wait for
-        these."""
+        """Returns the vehicles that do not finish any more, whatever moves: those on whose way a
+        wall or a vehicle that has finished stands; and those whose next node is taken for good, by
+        one of these or in a ring of vehicles of which each waits for the next, and those that wait
+        for these."""
         ends = self.walls
         for vehicle in self.finished(state):
             ends |= self.lanes[vehicle].bits[-1]
@@ -181,8 +181,9 @@ class SearchSpace:
         return frozenset(shut_in | self.waiting_for_good(state))
 
     def waiting_for_good(self, state: State) -> set[int]:
-        """The vehicles whose next node is taken for good: by a wall, by one that has finished, or
-        in a ring of vehicles of which each waits for the next; and those that wait for these."""
+        """Returns the vehicles whose next node is taken for good: by a wall, by one that has
+        finished, or in a ring of vehicles of which each waits for the next; and those that wait for
+        these."""
         at, lanes = state.at, self.lanes
         on = {lane.bits[index]: vehicle for vehicle, (lane, index) in enumerate(zip(lanes, at))}
         told: dict[int, bool] = {}
@@ -221,7 +222,8 @@ class SearchSpace:
         )
 
     def goal(self, state: State) -> frozenset[int]:
-        """Those that perhaps finish: of vehicles that end at the same node one alone does."""
+        """Returns those that perhaps finish: of vehicles that end at the same node one alone
+        does."""
         found, lost = set(self.finished(state)), self.lost(state)
         ends = {self.lanes[vehicle].bits[-1] for vehicle in found}
         for vehicle, lane in enumerate(self.lanes):
@@ -231,8 +233,8 @@ class SearchSpace:
         return frozenset(found)
 
     def groups(self, state: State) -> list[list[int]]:
-        """The vehicles that have not finished, in groups of which none has a node in common with
-        another, now or later."""
+        """Returns the vehicles that have not finished, in groups of which none has a node in common
+        with another, now or later."""
         found: list[tuple[int, list[int]]] = []
         for vehicle, (lane, at) in enumerate(zip(self.lanes, state.at)):
             if at < lane.end:
@@ -244,5 +246,5 @@ class SearchSpace:
         return [sorted(members) for _, members in found]
 
     def count(self, state: State, among: Iterable[int]) -> int:
-        """How many of these have finished."""
+        """Returns how many of these have finished."""
         return sum(1 for vehicle in among if state.at[vehicle] == self.lanes[vehicle].end)

@@ -50,7 +50,7 @@ class Shared:
         self.lines.once('refusal ' + vehicle.name, f'{vehicle.name}: {what}: {refusal}')
 
     def no_refusal(self, vehicle: Seen) -> None:
-        """The desk has done what it was asked for a vehicle."""
+        """Notes that the desk has done what it was asked for a vehicle."""
         self.lines.once('refusal ' + vehicle.name, None)
 
 
@@ -71,11 +71,11 @@ class Turn:
         return self.traffic.closed
 
     def start(self, vehicle: str, way: Sequence[str], edges: int) -> None:
-        """A vehicle was given an order along this way, with so many edges."""
+        """Notes that a vehicle was given an order along this way, with so many edges."""
         self.traffic = self.traffic.started(vehicle, way).released(vehicle, edges)
         self.held.update({'node ' + node: vehicle for node in way[: edges + 1]})
 
 
 def held_in(seen: Snapshot) -> dict[str, str]:
-    """The vehicle of each node and edge that is held."""
+    """Returns the vehicle of each node and edge that is held."""
     return {f'{kind} {name}': str(key) for (kind, name), key in seen.holds.holders().items()}

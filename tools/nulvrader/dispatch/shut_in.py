@@ -51,8 +51,8 @@ def is_on_course(before: Course | None, now: Course, asked: str | None) -> bool:
 def changes(
     before: Mapping[str, Course], now: Mapping[str, Course], asked: Mapping[str, str | None]
 ) -> str:
-    """Which vehicles are not on the course that they had: by people, by what has failed, or since
-    the dispatcher has cancelled their order."""
+    """Returns which vehicles are not on the course that they had: by people, by what has failed, or
+    since the dispatcher has cancelled their order."""
     found = []
     for name, course in now.items():
         if is_on_course(before.get(name), course, asked[name]):
@@ -77,7 +77,7 @@ class ShutIn:
         self._changes = BEFORE
 
     def told(self) -> dict[str, tuple[float, str]]:
-        """The vehicles that are shut in: since when, and why."""
+        """Returns the vehicles that are shut in: since when, and why."""
         found = ((name, one.shut_in, one.shut_by) for name, one in self.memory.items())
         return {
             name: (since, why)
@@ -123,9 +123,9 @@ class ShutIn:
         )
 
     def end_turn(self, traffic: Traffic, now: float) -> list[str]:
-        """The vehicles that go on with an order, are shut in and do not get free. One that stands
-        still, or has no order, is seen to be shut in at once, not only when it goes on: what was
-        done just before is the reason."""
+        """Returns the vehicles that go on with an order, are shut in and do not get free. One that
+        stands still, or has no order, is seen to be shut in at once, not only when it goes on: what
+        was done just before is the reason."""
         self._courses = self._courses_now(traffic)
         found = self._courses.keys() - self.judge.finish_later(traffic)
         for name, one in self.memory.items():

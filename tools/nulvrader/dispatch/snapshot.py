@@ -29,7 +29,7 @@ class Seen:
         return str(self.row.key)
 
     def rest(self) -> tuple[str, ...]:
-        """Of the order's way the last node that is released, and all that are not."""
+        """Returns the last released node of the order's way, and all behind it."""
         assert self.order is not None
         return (
             self.order.base_end(),
@@ -37,14 +37,14 @@ class Seen:
         )
 
     def edges_left(self) -> int:
-        """How many edges of the order are not released."""
+        """Returns how many edges of the order are not released."""
         return 0 if self.order is None else sum(1 for edge in self.order.edges if not edge.released)
 
     def is_confirmed(self) -> bool:
         return self.row.sent == self.row.confirmed
 
     def free(self) -> int:
-        """How many loads more it can carry."""
+        """Returns how many loads more it can carry."""
         return self.row.capacity - len(self.loads)
 
 
@@ -59,7 +59,7 @@ class Snapshot:
     places: dict[str, str]
 
     def orders_of(self, rows: Iterable[Vehicle]) -> dict[VehicleKey, Order]:
-        """The messages here that are still the last ones of these vehicles."""
+        """Returns the messages here that are still the last ones of these vehicles."""
         found = {}
         for row in rows:
             seen = self.vehicles.get(str(row.key))
@@ -103,7 +103,7 @@ def take(desk: Desk, before: Snapshot | None = None) -> Snapshot:
 
 
 def differences(stock: Stock, holds: Holds, layout: Layout) -> list[str]:
-    """What of a layout is not as the desk has it, as far as its reports tell."""
+    """Returns what of a layout is not as the desk has it, as far as its reports tell."""
     there = {one.name: (one.node, one.capacity) for one in stock.stations.values()}
     here = {one.name: (one.node, one.capacity) for one in layout.stations.values()}
     names = sorted(there.keys() | here.keys())

@@ -29,7 +29,7 @@ class Standstill:
             self.judge.times = 1
 
     def untangle(self, turn: Turn) -> None:
-        """Where vehicles with orders shut one another in, cancels an order of these that has not
+        """Cancels, where vehicles with orders shut one another in, an order of these that has not
         left its first node: at once where nothing moves, else where it has been so for a while. It
         comes to that by orders that people give, or where they place a vehicle in a dead end. Where
         there is no such order it says so."""
@@ -70,7 +70,7 @@ def _is_fresh(vehicle: Seen) -> bool:
 
 
 def told_of(memory: Memory, seen: Seen) -> str:
-    """What an order is for: its jobs, or where its drive leads."""
+    """Returns what an order is for: its jobs, or where its drive leads."""
     if seen.order is not None and seen.order.is_drive():
         return f'a drive to {seen.order.nodes[-1].name}'
     return 'of ' + (', '.join(one.job for one in memory.jobs) or 'jobs that are not known')

@@ -40,7 +40,7 @@ class Traffic:
     closed: Closures = Closures()
 
     def standing(self) -> dict[str, frozenset[str]]:
-        """The nodes that each vehicle holds that does not go on."""
+        """Returns the nodes that each vehicle holds that does not go on."""
         return {**self.parked, **{name: one.held for name, one in self.still.items()}}
 
     @cached_property
@@ -58,9 +58,9 @@ class Traffic:
         return {**self.ways, **{name: one.way for name, one in self.still.items()}}
 
     def views(self) -> Views:
-        """What is looked at: the ways and the walls where nobody that stands goes away; where those
-        that do not go on do so again; and where those without an order get out, too, and all that
-        is closed is opened."""
+        """Returns what is looked at: the ways and the walls where nobody that stands goes away;
+        where those that do not go on do so again; and where those without an order get out, too,
+        and all that is closed is opened."""
         now = self._walled(self.ways), self.walls
         if not self.still:
             return now, now, (self.ways_later(), frozenset())
@@ -68,12 +68,12 @@ class Traffic:
         return now, (self._walled(self.all_ways()), walls), (self.ways_later(), frozenset())
 
     def _walled(self, ways: Mapping[str, Way]) -> Mapping[str, Way]:
-        """These ways, on which each closed edge leads to a wall."""
+        """Returns these ways, on which each closed edge leads to a wall."""
         return {name: self.closed.walled(way) for name, way in ways.items()}
 
     def ways_later(self) -> dict[str, Way]:
-        """All ways, each with that out of a dead end behind its end, and then a node of its own:
-        that of the vehicle that has left the floor. Vehicles without an order are to get out,
+        """Returns all ways, each with that out of a dead end behind its end, and then a node of its
+        own: that of the vehicle that has left the floor. Vehicles without an order are to get out,
         too."""
         ways: dict[str, Way] = {
             name: tuple(held) for name, held in self.parked.items() if len(held) == 1
@@ -85,17 +85,17 @@ class Traffic:
         }
 
     def released(self, vehicle: str, nodes: int) -> Traffic:
-        """The traffic after a release of so many nodes."""
+        """Returns the traffic after a release of so many nodes."""
         return replace(self, ways=after_release(self.ways, vehicle, nodes))
 
     def started(self, vehicle: str, way: Way) -> Traffic:
-        """The traffic after a parked vehicle was given an order along this way, of which it holds
-        the first node."""
+        """Returns the traffic after a parked vehicle was given an order along this way, of which it
+        holds the first node."""
         parked = {name: held for name, held in self.parked.items() if name != vehicle}
         return replace(self, ways={**self.ways, vehicle: way}, parked=parked)
 
     def in_the_way(self, vehicle: str) -> list[str]:
-        """The vehicles that still have to pass a node that this one holds."""
+        """Returns the vehicles that still have to pass a node that this one holds."""
         ways = self.all_ways()
         held = self.parked.get(vehicle) or {ways[vehicle][0]}
         return sorted(

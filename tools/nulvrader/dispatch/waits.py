@@ -67,7 +67,7 @@ class Waits:
             lines.once(NONE_FREE, None)
 
     def _why_none_free(self, turn: Turn) -> str:
-        """Why each vehicle without an order is of no use."""
+        """Returns why each vehicle without an order is of no use."""
         memory = self.shared.memory
         vehicles = sorted(turn.seen.vehicles.values(), key=lambda one: natural(one.name))
         without = [one for one in vehicles if one.order is None and memory[one.name].order is None]

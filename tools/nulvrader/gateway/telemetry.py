@@ -59,7 +59,7 @@ class Telemetry:
     actions: list[Members] = field(default_factory=list)
 
     def json(self) -> JsonObject:
-        """Returns it in the form of a state."""
+        """Returns what is known, in the form of a state message."""
         errors = [error.json() for error in self.errors]
         return {**self.members, **self.parts, 'errors': errors, 'actionStates': self.actions}
 

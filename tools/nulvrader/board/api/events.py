@@ -54,7 +54,7 @@ class Batch:
     more: bool
 
     def told(self) -> dict[str, Any]:
-        """Returns it as it is answered."""
+        """Returns the JSON object that is answered."""
         return {
             'record': self.kept.record,
             'first': self.kept.first,

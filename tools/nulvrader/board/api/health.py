@@ -22,7 +22,7 @@ class Reason:
     since: int | None = None
 
     def told(self) -> dict[str, Any]:
-        """Returns it as it is answered."""
+        """Returns the JSON object that is answered."""
         since = {} if self.since is None else {'since': text_of(self.since)}
         return {'reason': self.name, 'text': self.text, **since}
 
@@ -39,7 +39,7 @@ class Health:
         return not self.reasons
 
     def told(self) -> dict[str, Any]:
-        """Returns it as it is answered."""
+        """Returns the JSON object that is answered."""
         return {'healthy': self.is_well, 'reasons': [one.told() for one in self.reasons]}
 
 

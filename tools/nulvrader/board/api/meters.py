@@ -37,7 +37,7 @@ class Family:
     lines: tuple[str, ...]
 
     def text(self) -> str:
-        """Returns it as it is answered."""
+        """Returns the lines of the metric, as they are answered."""
         head = f'# HELP {FRONT}{self.name} {self.help}', f'# TYPE {FRONT}{self.name} {self.kind}'
         return ''.join(f'{line}\n' for line in (*head, *self.lines))
 

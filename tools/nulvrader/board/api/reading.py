@@ -34,7 +34,7 @@ class Reading:
 
     @contextlib.contextmanager
     def moment(self) -> Iterator[Reading]:
-        """All that is read in a block is of one moment."""
+        """Has all that is read in a block be of one moment."""
         base = self._base()
         base.execute('BEGIN')
         try:

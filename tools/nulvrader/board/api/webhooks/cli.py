@@ -26,7 +26,7 @@ def log(words: str) -> None:
 
 
 def words(text: str) -> argparse.ArgumentParser:
-    """What the line may say. `text` is the head of the help."""
+    """Returns the options of the command line. `text` is the head of the help."""
     line = entry.parser(text, 'webhooks')
     add = line.add_argument
     add(
@@ -53,7 +53,7 @@ def words(text: str) -> argparse.ArgumentParser:
 
 
 def source_of(said: argparse.Namespace) -> Source:
-    """The board that the options name."""
+    """Returns the board that the options name."""
     file, password = said.password_file, None
     if file:
         check_mode(file, shown(file))

@@ -89,7 +89,7 @@ class Sender:
         return 0.0
 
     def _begin(self) -> Position:
-        """A receiver that is new gets what happens from now on."""
+        """Notes and returns where a new receiver begins: it gets what happens from now on."""
         events = self.source.read('', 0, self.hook.kinds, 1)
         position = Position(events.record, events.last, None)
         self.ledger.put(self.hook.name, position)
