@@ -50,13 +50,14 @@ class Screen:
         self.port = port
 
     def values(self, kind: str) -> dict[str, Any]:
-        """The values of a kind."""
+        """Returns the values of a kind."""
         with urllib.request.urlopen(f'http://127.0.0.1:{self.port}/data', timeout=PATIENCE) as told:
             values = json.load(told)['values']
         return {name: value for of, name, value in values if of == kind and value is not None}
 
     def alarms(self) -> list[dict[str, Any]]:
-        """The alarms: the gravest first, and of these those first that nobody has taken on."""
+        """Returns the alarms: the gravest first, and of these those first that nobody has taken
+        on."""
 
         def rank(alarm: dict[str, Any]) -> tuple[float, float]:
             is_taken = 0.5 if alarm['taken'] else 0.0
@@ -144,7 +145,7 @@ def is_it(trouble: Trouble, alarm: dict[str, Any]) -> bool:
 
 
 def camera(night: Night, language: str, stack: contextlib.ExitStack) -> browser.Browser:
-    """The page of the board in a browser."""
+    """Returns the page of the board in a browser."""
     page = browser.Browser()
     stack.callback(page.close)
     agent = page.run('return navigator.userAgent')
@@ -155,5 +156,5 @@ def camera(night: Night, language: str, stack: contextlib.ExitStack) -> browser.
 
 
 def program() -> str:
-    """The program of the desk."""
+    """Returns the program of the desk."""
     return os.environ.get('DESK', os.path.join(TOP, 'build', 'desk'))

@@ -51,7 +51,7 @@ class Case:
     at: float = 0.0
 
     def row(self) -> str:
-        """It as a row of the table."""
+        """Returns it as a row of the table."""
         seconds = '-' if self.shown is None else f'{self.at - self.shown:.0f}'
         return f'| {self.trouble.name} | {self.words or "(nothing)"} | {seconds} |'
 
@@ -94,7 +94,7 @@ class Reading:
         self.night.wait(self.night.is_calm, 'the last one is over')
 
     def look(self) -> dict[str, Any]:
-        """The page, once it shows an alarm, or as it is after a while."""
+        """Returns the page, once it shows an alarm, or as it is after a while."""
         ends = time.monotonic() + LOOK
         while time.monotonic() < ends and not self.is_over:
             with self.turn:
@@ -109,7 +109,7 @@ class Reading:
         return {'picture': path, 'text': text, 'over': self.is_over}
 
     def say(self, words: str) -> dict[str, Any]:
-        """What the reader says of the trouble that stands."""
+        """Returns what the reader says of the trouble that stands."""
         case = self.cases[-1] if self.cases else None
         if case is None or case.said.is_set():
             return {'told': 'no trouble is planted now: look again', 'over': self.is_over}
@@ -134,7 +134,7 @@ def serve(reading: Reading, listener: socket.socket) -> None:
 
 
 def start(folder: str, language: str) -> int:
-    """The night. Its table is printed at the end."""
+    """Returns the night. Its table is printed at the end."""
     os.makedirs(folder, exist_ok=True)
     with contextlib.ExitStack() as stack:
         place = stack.enter_context(tempfile.TemporaryDirectory())
@@ -154,7 +154,7 @@ def start(folder: str, language: str) -> int:
 
 
 def ask(folder: str, question: dict[str, str]) -> dict[str, Any]:
-    """What the night answers."""
+    """Returns what the night answers."""
     with socket.socket(socket.AF_UNIX) as connection:
         try:
             connection.connect(os.path.join(folder, NAME))

@@ -104,7 +104,7 @@ def heard_of(said: argparse.Namespace) -> Heard | None:
 
 
 def plan_of(said: argparse.Namespace) -> FloorPlan | None:
-    """Where the nodes are; None where no file says so."""
+    """Returns where the nodes are; None where no file says so."""
     return None if said.positions is None else read_plan(said.positions)
 
 

@@ -165,7 +165,7 @@ class Pages:
             return refused(503, Line('record.unread', {'fault': str(fault)}))
 
     def _day(self, asked: dict[str, str]) -> Reply:
-        """The figures of a day."""
+        """Returns the figures of a day."""
         try:
             return told(figures.figures_of(self.board.record.path, asked))
         except (figures.BadDay, entries.BadQuestion) as wrong:

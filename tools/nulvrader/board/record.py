@@ -291,7 +291,7 @@ class Record:
         self._row('desk_times', {'at': text_of(at), 'answers': int(fault is None), 'fault': fault})
 
     def use(self, at: int, vehicle: str, state: str) -> None:
-        """What a vehicle does from now on."""
+        """Puts what a vehicle does from now on."""
         self._row('vehicle_uses', {'at': text_of(at), 'vehicle': vehicle, 'state': state})
 
     def event(self, at: int, event: Event) -> int:

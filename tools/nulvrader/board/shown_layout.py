@@ -38,7 +38,7 @@ class ShownLayout:
             self._put(layout, places)
 
     def _fitting(self, layout: Layout) -> FloorPlan | None:
-        """The plan, if it has a place for each node. Else the page says which it lacks."""
+        """Returns the plan, if it has a place for each node. Else the page says which it lacks."""
         if self.plan is None:
             return None
         missing = self.plan.missing(layout)
@@ -64,7 +64,7 @@ class ShownLayout:
 
 
 def drawn_plan(layout: Layout, plan: FloorPlan) -> dict[str, Any]:
-    """What the page draws of a plan: how long a metre is, and where the picture lies."""
+    """Returns what the page draws of a plan: how long a metre is, and where the picture lies."""
     box = plan.picture_box(layout)
     picture = None if box is None else [round(number, 1) for number in box]
     return {'metre': round(plan.unit(layout), 4), 'picture': picture}

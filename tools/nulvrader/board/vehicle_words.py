@@ -76,7 +76,8 @@ class Words:
         return replace(before, **values)
 
     def result_of(self, failed: FailedAction) -> str:
-        """What is said of an action that has failed: with it, or by an error that refers to it."""
+        """Returns what is said of an action that has failed: with it, or by an error that refers to
+        it."""
         named = f'actionId {failed.action}'
         about = (one.words() for one in self.errors or () if named in one.refers)
         return failed.result or next(about, '')
