@@ -13,7 +13,7 @@ class Battery:
         self.charging = False
 
     def charge(self) -> int:
-        """What is left in percent."""
+        """Returns what is left in percent."""
         return max(0, int(100 * self.left / self.lasts))
 
     def stand(self, seconds: float, charging: bool) -> bool:
@@ -24,5 +24,5 @@ class Battery:
         return self.state() != before
 
     def state(self) -> dict[str, Any]:
-        """It as a state message has it."""
+        """Returns it as a state message has it."""
         return {'batteryCharge': self.charge(), 'charging': self.charging}

@@ -51,11 +51,11 @@ class Charged(Sketch):
         )
 
     def told(self, vehicles: Collection[str]) -> Mapping[str, float]:
-        """What vehicles say of their batteries."""
+        """Returns what vehicles say of their batteries."""
         return {name: self.lies.get(name, self.charge[name]) for name in vehicles}
 
     def charging(self) -> list[str]:
-        """The vehicles that stand at a charger without an order."""
+        """Returns the vehicles that stand at a charger without an order."""
         cars = self.cars.values()
         return [one.name for one in cars if one.trip is None and one.node in self.floor.chargers]
 

@@ -66,7 +66,7 @@ class Floor:
         self.chargers.append(node)
 
     def with_chargers(self, count: int) -> Floor:
-        """The floor with so many chargers, where streets have no bay, all over it."""
+        """Returns the floor with so many chargers, where streets have no bay, all over it."""
         with_bay = {bay[:-1] for bay in self.bays}
         free = [node for node in self.nodes if node[1:].isdigit() and int(node[1:]) % 2]
         free = [node for node in free if node not in with_bay and f'{node}x0' not in self.nodes]

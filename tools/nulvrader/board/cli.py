@@ -182,7 +182,7 @@ def serve(said: argparse.Namespace) -> bool:
 
 
 def followers_of(news: News, said: argparse.Namespace) -> Followers:
-    """Those that take the answers, by what the record has."""
+    """Returns those that take the answers, by what the record has."""
     stores, fleet = Stores(news), Fleet(news, int(said.silent * 1000))
     keeper, alarms = Keeper(news), Alarms(news, int(said.late * 60_000))
     uses = Uses(news)

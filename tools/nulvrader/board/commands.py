@@ -147,14 +147,14 @@ class Commands:
         return COMMANDS[name].tell is None or self.instructions is not None
 
     def _read(self, said: Mapping[str, Any], *, is_whole: bool) -> AskedCommand:
-        """The command that was said. `NoCommand` where it is none."""
+        """Returns the command that was said. `NoCommand` where it is none."""
         asked = read_command(said, self.drawn.layout, is_whole)
         if not self.has(asked.name):
             raise wrong('command')
         return asked
 
     def look(self, said: Mapping[str, Any]) -> dict[str, Any]:
-        """What a command will do, with the values for `do`."""
+        """Returns what a command will do, with the values for `do`."""
         asked = self._read(said, is_whole=False)
         look = COMMANDS[asked.name].look(Scene(self.drawn.layout, self.shown), asked.values)
         desk = self.shown.get('desk', '')

@@ -159,19 +159,19 @@ class Waits:
     rows: dict[tuple[str, str, str], tuple[int, float]]
 
     def places(self) -> list[dict[str, Any]]:
-        """The nodes and edges for which was waited longest."""
+        """Returns the nodes and edges for which was waited longest."""
         found = self._by(lambda kind, name, _: (kind, name))
         rows = [{'kind': kind, 'name': name, **row} for (kind, name), row in found.items()]
         return sorted(rows, key=lambda row: (-row['seconds'], row['kind'], row['name']))[:PLACES]
 
     def causes(self) -> list[dict[str, Any]]:
-        """What the others did when waits for them began, the longest waits first."""
+        """Returns what the others did when waits for them began, the longest waits first."""
         found = self._by(lambda _, __, state: (state,))
         rows = [{'state': state, **row} for (state,), row in found.items()]
         return sorted(rows, key=lambda row: (-row['seconds'], row['state']))
 
     def _by(self, key: Callable[[str, str, str], tuple[str, ...]]) -> dict[Any, dict[str, Any]]:
-        """The sums by a part of the names."""
+        """Returns the sums by a part of the names."""
         found: dict[tuple[str, ...], tuple[int, float]] = {}
         for names, (count, seconds) in self.rows.items():
             before = found.get(key(*names), (0, 0.0))

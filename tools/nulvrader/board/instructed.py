@@ -55,7 +55,7 @@ class Instructed:
 
 
 def urgency_of(said: Mapping[str, str]) -> Urgency:
-    """How urgent a job is, by the values of a command; what is empty is none."""
+    """Returns how urgent a job is, by the values of a command; what is empty is none."""
     due = due_time(said['due']) if said.get('due') else None
     place = int(said.get('place') or 0)
     return Urgency(due, int(said.get('priority') or 0), said.get('truck') or None, place)

@@ -125,7 +125,7 @@ class Pages:
             return refused(503, Line('page.busy'))
 
     def _token(self, head: Head) -> Reply:
-        """The token that a program needs for its commands, where it may give any."""
+        """Returns the token that a program needs for its commands, where it may give any."""
         if not self._may_command(head):
             return refused(403, Line('page.nobody'))
         return told({'token': self.board.guard.token})

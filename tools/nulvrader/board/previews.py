@@ -227,7 +227,7 @@ def _check_not_pending(look: Look, vehicle: Mapping[str, object] | None) -> None
 
 
 def urge(scene: Scene, said: Mapping[str, str]) -> Look:
-    """What it is to say how urgent a job is."""
+    """Returns what it is to say how urgent a job is."""
     look, job = Look(dict(said)), said['job']
     look.say('urgency', job=job)
     look.say('urgency.none')
@@ -238,7 +238,7 @@ def urge(scene: Scene, said: Mapping[str, str]) -> Look:
 
 
 def close(scene: Scene, said: Mapping[str, str]) -> Look:
-    """What it is to close a node or an edge."""
+    """Returns what it is to close a node or an edge."""
     look = Look(dict(said))
     look.say('close', thing=said['thing'])
     look.warn(scene.shown.get('closed', said['thing']) is not None, 'close.is')
@@ -246,7 +246,7 @@ def close(scene: Scene, said: Mapping[str, str]) -> Look:
 
 
 def reopen(scene: Scene, said: Mapping[str, str]) -> Look:
-    """What it is to open a node or an edge."""
+    """Returns what it is to open a node or an edge."""
     look = Look(dict(said))
     look.say('open', thing=said['thing'])
     look.warn(scene.shown.get('closed', said['thing']) is None, 'open.is')

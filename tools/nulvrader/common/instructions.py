@@ -54,7 +54,7 @@ class Instructions:
         return replace(self, jobs=jobs if one == Urgency() else {**jobs, job: one})
 
     def text(self) -> str:
-        """The text that `read` takes."""
+        """Returns the text that `read` takes."""
         rows = [HEADER]
         for job, one in sorted(self.jobs.items(), key=lambda row: natural(row[0])):
             due = '' if one.due is None else moment_of(one.due).strftime(MOMENT)
@@ -66,7 +66,7 @@ class Instructions:
 
 
 def moment_of(seconds: float) -> datetime.datetime:
-    """A moment in UTC."""
+    """Returns a moment in UTC."""
     return datetime.datetime.fromtimestamp(seconds, datetime.timezone.utc)
 
 
@@ -92,7 +92,8 @@ def due_time(text: str) -> int:
 
 
 def read(text: str) -> Instructions:
-    """What a text says. Any fault in it is a `NoInstructions` with the number of its line."""
+    """Returns what a text says. Any fault in it is a `NoInstructions` with the number of its
+    line."""
     lines = text.splitlines()
     if not lines or lines[0] not in (HEADER, OLD_HEADER):
         raise NoInstructions(f'line 1: the header is not {HEADER}')
@@ -113,7 +114,7 @@ def read(text: str) -> Instructions:
 
 
 def _fields(line: str, header: str, number: int) -> list[str]:
-    """The fields of a line, as many as `HEADER` has."""
+    """Returns the fields of a line, as many as `HEADER` has."""
     fields = line.split(',')
     if len(fields) != header.count(',') + 1 or not is_name(fields[1]):
         raise NoInstructions(f'line {number}: {shown(line, 60)} is not {header}')
@@ -121,7 +122,7 @@ def _fields(line: str, header: str, number: int) -> list[str]:
 
 
 def _truck(truck: str, place: str, number: int) -> tuple[str | None, int]:
-    """The truck of a job and its place there."""
+    """Returns the truck of a job and its place there."""
     if not truck and not place:
         return None, 0
     if not is_name(truck) or not re.fullmatch('[1-9][0-9]{0,2}', place):

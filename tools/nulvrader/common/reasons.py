@@ -35,7 +35,7 @@ class Reasons:
     waits: Mapping[str, str] = field(default_factory=dict)
 
     def text(self) -> str:
-        """The text that `read` takes."""
+        """Returns the text that `read` takes."""
         waits = {name: shown(why, TEXT) for name, why in list(self.waits.items())[:MOST]}
         return json.dumps({'at': int(self.at), 'waits': waits}) + '\n'
 
@@ -60,7 +60,7 @@ def write_file(path: str, reasons: Reasons) -> None:
 
 
 def read_file(path: str) -> Reasons:
-    """What a file says. `NoReasons` where it says nothing."""
+    """Returns what a file says. `NoReasons` where it says nothing."""
     try:
         return read(plain_files.read_text(path))
     except OSError as fault:
@@ -68,7 +68,7 @@ def read_file(path: str) -> Reasons:
 
 
 def read(data: bytes) -> Reasons:
-    """What a text says, within bounds, and as a page may show it."""
+    """Returns what a text says, within bounds, and as a page may show it."""
     try:
         said = json.loads(data)
     except (ValueError, RecursionError):

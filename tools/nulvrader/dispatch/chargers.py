@@ -54,7 +54,7 @@ def read_chargers(text: str, layout: Layout) -> Chargers:
 
 
 def _vehicles(text: str, number: int) -> frozenset[str]:
-    """The vehicles that a line names."""
+    """Returns the vehicles that a line names."""
     try:
         return frozenset(str(VehicleKey.parse(name)) for name in text.split())
     except BadName:

@@ -76,7 +76,7 @@ class Charging:
         return vehicles is not None and (not vehicles or vehicle in vehicles)
 
     def _rest(self) -> Iterator[str]:
-        """The vehicles at chargers that take no job."""
+        """Yields the vehicles at chargers that take no job."""
         marks, places = self.marks, self._places()
         needed = not places and any(
             charge < marks.low for name, charge in self.charges.items() if name not in self._stays
@@ -93,14 +93,14 @@ class Charging:
                 yield name
 
     def _places(self) -> list[str]:
-        """The chargers at which no vehicle stands."""
+        """Returns the chargers at which no vehicle stands."""
         return sorted(self.chargers.keys() - {stay.node for stay in self._stays.values()})
 
     def _charge(self, vehicle: str) -> float:
         return self.charges[vehicle]
 
     def _most(self) -> int:
-        """How many charge of their own accord while jobs wait."""
+        """Returns how many charge of their own accord while jobs wait."""
         return max(1, len(self.charges) // PART)
 
     def is_flat(self, vehicle: str) -> bool:
@@ -109,7 +109,7 @@ class Charging:
         return stay is not None and stay.charge < self.marks.high and self._now - stay.since >= FLAT
 
     def rests(self, vehicle: str) -> str | None:
-        """Why a vehicle takes no job, in a few words, or None."""
+        """Returns why a vehicle takes no job, in a few words, or None."""
         charge = self.charges.get(vehicle)
         if charge is None:
             return None
@@ -158,15 +158,16 @@ class Charging:
         return found[: max(0, room)]
 
     def _count(self, traffic: Traffic) -> int:
-        """How many charge, or are on their way to a charger."""
+        """Returns how many charge, or are on their way to a charger."""
         ends = [way[-1] for way in traffic.all_ways().values()]
         return len(self._stays) + sum(1 for end in ends if end in self.chargers)
 
     def propose(
         self, wanting: Sequence[Seen], idle: Iterable[Seen], traffic: Traffic
     ) -> tuple[Drive | None, Seen | None]:
-        """A drive to a charger that may be started, for the first of these that can have one; else
-        of those without an order the vehicle that is to leave its charger for one of these."""
+        """Returns a drive to a charger that may be started, for the first of these that can have
+        one; else of those without an order the vehicle that is to leave its charger for one of
+        these."""
         left = TRIES
         leaves: Seen | None = None
         standing = {one.name: one for one in idle}
@@ -180,7 +181,8 @@ class Charging:
         return None, leaves
 
     def _free(self, seen: Seen, traffic: Traffic) -> list[str]:
-        """The chargers where a vehicle may charge and nobody is or goes to, the nearest first."""
+        """Returns the chargers where a vehicle may charge and nobody is or goes to, the nearest
+        first."""
         taken = {way[-1] for way in traffic.all_ways().values()} | traffic.walls
         rows = []
         for place in self.chargers:
@@ -190,8 +192,9 @@ class Charging:
         return [place for _, place in sorted(rows)]
 
     def _leaves(self, seen: Seen, standing: Mapping[str, Seen], traffic: Traffic) -> Seen | None:
-        """The vehicle that is to leave a charger for another one, which has no free one: it has the
-        upper mark, or the middle where the other is below the lower one, or does not charge."""
+        """Returns the vehicle that is to leave a charger for another one, which has no free one: it
+        has the upper mark, or the middle where the other is below the lower one, or does not
+        charge."""
         if self._free(seen, traffic):
             return None
         is_low = self._charge(seen.name) < self.marks.low
@@ -206,7 +209,7 @@ class Charging:
         return standing[max(found, key=self._charge)] if found else None
 
     def why_not(self, seen: Seen, traffic: Traffic) -> str:
-        """Why a vehicle that is to charge does not go to a charger, and what ends that."""
+        """Returns why a vehicle that is to charge does not go to a charger, and what ends that."""
         own = [place for place in self.chargers if self._may(seen.name, place)]
         if not any(self.ways.hops(seen.row.node, place) is not None for place in own):
             end = 'gets to no charger, until a person charges it'
@@ -217,7 +220,7 @@ class Charging:
         return f'{self._is_low()}, and {end}'
 
     def flat(self) -> dict[str, str]:
-        """What is to be said of those that stand at a charger and do not charge."""
+        """Returns what is to be said of those that stand at a charger and do not charge."""
         minutes = FLAT / 60
         return {
             name: f'stands at the charger at {stay.node}, and its battery has not risen for'

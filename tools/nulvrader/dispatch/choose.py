@@ -73,8 +73,8 @@ class Chooser:
     def propose(
         self, idle: Sequence[Seen], waiting: Sequence[Waiting], traffic: Traffic
     ) -> Proposal | None:
-        """The first order that may be started: for a vehicle that is in the way of others, else for
-        a job and a vehicle that is near, where it counts how urgent the job is."""
+        """Returns the first order that may be started: for a vehicle that is in the way of others,
+        else for a job and a vehicle that is near, where it counts how urgent the job is."""
         free = [one for one in waiting if not one.behind]
         first, others = free[:JOBS], free[JOBS:]
         jobs = [
@@ -195,9 +195,9 @@ class Chooser:
     def _inserted(
         self, start: str, stops: list[At], other: Waiting, way: Sequence[str]
     ) -> tuple[int, list[At]] | None:
-        """The stops with those of another job among them where the way is shortest, and how many
-        edges more it is than the two ways apart, a number below 0. None where it is too long. It is
-        put down behind those of its truck that come before it."""
+        """Returns the stops with those of another job among them where the way is shortest, and how
+        many edges more it is than the two ways apart, a number below 0. None where it is too long.
+        It is put down behind those of its truck that come before it."""
         pick, drop = (
             At(stop, self.ways.node_of(name))
             for stop, name in zip(_stops(other), (other.origin, other.target))

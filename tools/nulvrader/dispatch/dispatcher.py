@@ -117,8 +117,8 @@ class Dispatcher:
         return self._told.reasons
 
     def reasons(self) -> Mapping[str, str]:
-        """The same, for people: also why a vehicle without an order takes no job, and of each job
-        what ends its wait."""
+        """Returns the same, for people: also why a vehicle without an order takes no job, and of
+        each job what ends its wait."""
         return self._told.all
 
     def shut_in(self) -> Mapping[str, tuple[float, str]]:
@@ -246,7 +246,7 @@ class Dispatcher:
         return None if seen.free() > 0 else f'carries {" ".join(seen.loads)} in no job'
 
     def _takes_no_job(self, seen: Seen, now: float) -> str | None:
-        """Why a vehicle without an order gets no job, in short, or None."""
+        """Returns why a vehicle without an order gets no job, in short, or None."""
         return self._out_of_use(seen, now) or self._charging.rests(seen.name)
 
     def _traffic(self, seen: Snapshot, now: float, instructions: Instructions) -> Traffic:

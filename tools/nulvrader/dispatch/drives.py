@@ -42,7 +42,7 @@ class Drives:
         return self._charge(turn, idle, self.charging.later(may, self._idle, turn.traffic))
 
     def _may(self, turn: Turn, idle: Mapping[str, Seen]) -> list[Seen]:
-        """The vehicles that may be sent on a drive."""
+        """Returns the vehicles that may be sent on a drive."""
         if not self._drives:
             return []
         return [one for name, one in idle.items() if turn.now >= self._rests.get(name, turn.now)]
@@ -78,7 +78,8 @@ class Drives:
         return found is not None and self._drive(turn, idle, found)
 
     def _wanted(self) -> tuple[set[str], list[str]]:
-        """The nodes where jobs that wait are to be put down, and those where they are picked."""
+        """Returns the nodes where jobs that wait are to be put down, and those where they are
+        picked."""
         node_of, waiting = self.shared.ways.node_of, self.shared.book.waiting.values()
         return {node_of(one.target) for one in waiting}, [node_of(one.origin) for one in waiting]
 

@@ -52,7 +52,7 @@ def named(text: str) -> str:
 
 
 def due(text: str) -> int | None:
-    """A moment in seconds since 1970, or None for `none`."""
+    """Returns a moment in seconds since 1970, or None for `none`."""
     try:
         return None if text == 'none' else due_time(text)
     except ValueError as fault:
@@ -60,7 +60,7 @@ def due(text: str) -> int | None:
 
 
 def truck(text: str) -> str | None:
-    """The name of a truck, or None for `none`."""
+    """Returns the name of a truck, or None for `none`."""
     return None if text == 'none' else named(text)
 
 
@@ -116,7 +116,7 @@ def _job(said: argparse.Namespace, desk: Desk) -> None:
 
 
 def _said_of(said: argparse.Namespace, before: Urgency) -> Urgency:
-    """How urgent a job is, as the options say; what they do not name stays."""
+    """Returns how urgent a job is, as the options say; what they do not name stays."""
     values = {name: getattr(said, name, getattr(before, name)) for name in SAID}
     if values['truck'] is None:
         if getattr(said, 'place', None):

@@ -91,13 +91,13 @@ def _urged(one: Waiting, urgency: Urgency | None, ahead: float) -> Waiting:
 
 
 def _earlier(one: float | None, other: float | None) -> float | None:
-    """The earlier of two moments that may be missing."""
+    """Returns the earlier of two moments that may be missing."""
     return min((due for due in (one, other) if due is not None), default=None)
 
 
 def in_their_order(waiting: Sequence[Waiting], said: Mapping[str, Urgency]) -> list[Waiting]:
-    """The jobs, each with those of its truck that come before it: the live ones with the next
-    smaller place. `said` has what was said of live jobs."""
+    """Returns the jobs, each with those of its truck that come before it: the live ones with the
+    next smaller place. `said` has what was said of live jobs."""
     trucks: dict[str, dict[int, set[str]]] = {}
     for job, urgency in said.items():
         if urgency.truck is not None:
@@ -112,7 +112,7 @@ def in_their_order(waiting: Sequence[Waiting], said: Mapping[str, Urgency]) -> l
 def _of_a_truck(
     places: Mapping[int, set[str]], waiting: Mapping[str, Waiting]
 ) -> Iterator[tuple[str, Waiting]]:
-    """The jobs of a truck that wait, by their names. `places` has its live jobs."""
+    """Yields the jobs of a truck that wait, by their names. `places` has its live jobs."""
     numbers = sorted(places)
     before = {place: frozenset(places[less]) for less, place in zip(numbers, numbers[1:])}
     pulled: tuple[float | None, int] = (None, 0)
@@ -128,6 +128,6 @@ def _of_a_truck(
 
 
 def _alone(one: Waiting) -> Waiting:
-    """A job of no truck."""
+    """Returns a job of no truck."""
     is_alone = not one.behind and one.pulled == (None, 0)
     return one if is_alone else replace(one, behind=frozenset(), pulled=(None, 0))

@@ -119,7 +119,7 @@ class Orders:
 
 
 def behind_others(one: Waiting) -> str:
-    """Why a job waits that comes behind others of its truck."""
+    """Returns why a job waits that comes behind others of its truck."""
     names = sorted(one.behind, key=natural)
     more = f' and {len(names) - SHOWN} more' if len(names) > SHOWN else ''
     told = f'{", ".join(names[:SHOWN])}{more} of truck {one.truck}'

@@ -168,7 +168,7 @@ class Parking:
     def away(
         self, seen: Seen, wanted: Collection[str], picks: Sequence[str], traffic: Traffic
     ) -> Drive | None:
-        """A drive of a vehicle to the best place that is not wanted, or None."""
+        """Returns a drive of a vehicle to the best place that is not wanted, or None."""
         ends = {way[-1] for way in traffic.all_ways().values()}
         taken = ends | traffic.walls | set(wanted)
         rows = []

@@ -35,7 +35,7 @@ class Waits:
         self.all = self._all(turn)
 
     def _all(self, turn: Turn) -> dict[str, str]:
-        """Why each vehicle and job waits, and what ends that."""
+        """Returns why each vehicle and job waits, and what ends that."""
         found = {
             name: self.out_of_use(one, turn.now)
             for name, one in turn.seen.vehicles.items()
