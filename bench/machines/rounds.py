@@ -326,6 +326,7 @@ class Drill:
         assert self.traffic is not None
         self.traffic.check()
         self.end()
+        self.start_again()
         self.volume.heal(60)
         self.records.lost += [f'the copies of {name} differ' for name in self.differing()]
         for machine in self.machines.all:
@@ -338,6 +339,16 @@ class Drill:
                 self.records.lost.append(f'the file in {machine.name}: {done.stderr.decode()}')
             else:
                 self.records.lost += missing(done.stdout, self.records.loads)
+
+    def start_again(self) -> None:
+        """Starts the machines that were reset while all was ended, with their copies and mounts."""
+        for machine in self.machines.all:
+            if machine.was_reset or not machine.is_up():
+                machine.end()
+                self.power_on(machine)
+                for _ in until():
+                    if self.volume.try_to_mount(machine):
+                        break
 
     def differing(self) -> list[str]:
         """Returns the names of the desk's files whose copies differ."""
