@@ -190,6 +190,22 @@ class Turns(unittest.TestCase):
         self.assertEqual(len(self.times('stock')), 2)
         self.assertGreater(len(self.times('vehicles')), 36)
 
+    def test_an_answer_that_the_board_takes_long_to_read(self) -> None:
+        """What the board takes for itself makes the questions rarer only where it is much: a third
+        of a second of each leaves the stock report its turn in each second, a whole one in every
+        three."""
+        taken = self.asker.stores.take_stock
+        for own, every in ((0.3, 1.0), (1.0, 3.0)):
+
+            def take(stock: Any, own: float = own) -> None:
+                taken(stock)
+                self.clock.at += own
+
+            self.desk.asked.clear()
+            with mock.patch.object(self.asker.stores, 'take_stock', take):
+                self.run_for(30)
+            self.assertAlmostEqual(len(self.times('stock')), 30 / every, delta=2, msg=own)
+
     def test_a_command(self) -> None:
         """All that has turns is asked right after it."""
         self.run_for(1.3)

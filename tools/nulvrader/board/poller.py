@@ -34,7 +34,8 @@ from .words_socket import Heard
 
 SLOT = 0.05  # seconds from one request to the next, at least: at most 20 a second
 OFTEN, SOMETIMES, RARELY = 0.5, 1.0, 10.0  # seconds from one question of a kind to the next
-SHARE = 10  # times as long as an answer took, the board waits until it asks for it again
+SHARE = 10  # times as long as the desk took for an answer, the board waits until it asks again
+OWN = 2  # the same of how long the board itself took for the answer
 AGAIN = 1.0  # seconds from a question that was not answered to the next
 WRITE_AGAIN = 2.0  # seconds from one attempt to write to the record to the next
 OLD_EVERY, OLD_ON = 60.0, 1.0  # seconds until old rows are removed again, and while there are more
@@ -56,18 +57,21 @@ def now() -> int:
 @dataclass
 class TimedQuestion:
     """A question that is asked in turn: at most every so many seconds, and less often where the
-    answer takes long. `due` is of `time.monotonic`."""
+    answer takes long. `waited` returns how many seconds the desk was waited for so far; `due` is of
+    `time.monotonic`."""
 
     question: Question
     every: float
+    waited: Callable[[], float]
     due: float = 0.0
 
     def ask(self) -> None:
-        """Asks it, and notes how long that took."""
-        begun = time.monotonic()
+        """Asks it, and notes how long that took the desk and the board."""
+        begun, before = time.monotonic(), self.waited()
         self.question()
-        ended = time.monotonic()
-        self.due = max(begun + self.every, ended + SHARE * (ended - begun))
+        ended, waited = time.monotonic(), self.waited() - before
+        rest = max(SHARE * waited, OWN * (ended - begun - waited))
+        self.due = max(begun + self.every, ended + rest)
 
 
 class ShownFile(Protocol):
@@ -115,14 +119,14 @@ class Asker(threading.Thread):
         self._take_up()
         # Jobs come before the stock report, by which it is known how one has ended.
         self.turns = (
-            TimedQuestion(self.ask_vehicles, OFTEN),
-            TimedQuestion(self.ask_holds, OFTEN),
-            TimedQuestion(self.ask_jobs, SOMETIMES),
-            TimedQuestion(self.ask_stock, SOMETIMES),
+            self._timed(self.ask_vehicles, OFTEN),
+            self._timed(self.ask_holds, OFTEN),
+            self._timed(self.ask_jobs, SOMETIMES),
+            self._timed(self.ask_stock, SOMETIMES),
         )
-        self.layout, self.export = TimedQuestion(self.ask_layout, RARELY), TimedQuestion(
-            self.ask_export, RARELY
-        )
+        self.layout = self._timed(self.ask_layout, RARELY)
+        self.export = self._timed(self.ask_export, RARELY)
+        self.waited = 0.0  # how many seconds the desk has taken for its answers
         self.asking: int | None = None  # since when the desk is asked what it has not yet answered
         self.asked = 0  # how many requests the last turn took
         self.up: bool | None = None
@@ -132,6 +136,9 @@ class Asker(threading.Thread):
         self.old_due = 0.0
         self.over = threading.Event()
         self._woken = threading.Event()
+
+    def _timed(self, question: Question, every: float) -> TimedQuestion:
+        return TimedQuestion(question, every, lambda: self.waited)
 
     def _take_up(self) -> None:
         self.drawn.show()
@@ -274,7 +281,9 @@ class Asker(threading.Thread):
     def _told(self, question: Callable[[], T]) -> T:
         """Returns what the desk answers. From now on the news are of this moment."""
         self.asked += 1
+        begun = time.monotonic()
         answer = question()
+        self.waited += time.monotonic() - begun
         if self.over.is_set():
             raise Ended
         self.news.at = now()
