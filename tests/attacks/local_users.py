@@ -16,10 +16,11 @@ from collections.abc import Iterator
 from unittest import mock
 
 from tests.support.attacked_file import AT, DESK, ROWS, Attack, ran
-from tests.support.programs import ROOT
+from tests.support.networks import said
+from tests.support.programs import ROOT, TOOLS
 
-NOBODY, MEMBER, BOARD = 65534, 64001, 64003  # a user without rights, the dispatcher, the board
-AS_NOBODY = ['setpriv', f'--reuid={NOBODY}', f'--regid={NOBODY}', '--clear-groups']
+NOBODY = 65534  # a user without rights
+MEMBER, BOARD, GATEWAY = 64001, 64003, 64004  # the dispatcher, the board, the gateway
 TMPFILES = os.path.join(ROOT, 'examples', 'systemd', 'tmpfiles.conf')
 PLACE = '/var/lib/nulvrader'
 CLOSED = 'kind,name,due,priority\nnode,N7,,\n'
@@ -38,6 +39,14 @@ while os.dup(file) < each:
 os.write(1, b'.')
 time.sleep(600)
 """
+# The dispatcher tells why a job waits.
+TELLS = """
+import os, sys
+sys.path.insert(0, sys.argv[1])
+from nulvrader.dispatch.published import Published
+os.umask(0o077)
+Published(sys.argv[2], sys.exit).tell({'job J1': 'no vehicle is free'})
+"""
 HOLDS = "import os, sys, time; file = open(sys.argv[1]); os.write(1, b'.'); time.sleep(600)"
 DESCRIPTORS = 4_000_000
 SECONDS = 15  # of a processor, that a search through them may take
@@ -48,6 +57,16 @@ def missing(*names: str) -> str:
     if os.geteuid() != 0:
         return 'root alone becomes another user'
     return ''.join(f'no {name} here' for name in names if shutil.which(name) is None)
+
+
+def as_user(user: int, group: int | None = None, more: int | None = None) -> list[str]:
+    """Returns the beginning of a command of another user, in its own group if none is named, and in
+    one more."""
+    groups = '--clear-groups' if more is None else f'--groups={more}'
+    return ['setpriv', f'--reuid={user}', f'--regid={group or user}', groups]
+
+
+AS_NOBODY = as_user(NOBODY)
 
 
 @unittest.skipIf(missing('setpriv'), missing('setpriv'))
@@ -118,21 +137,29 @@ class LocalUsers(Attack):
     def test_a_lock_of_the_instructions(self) -> None:
         """It locks the folder of the dispatcher's instructions, or reads them: who opens a node has
         not to wait, the dispatcher reads them, and the board writes there by its user alone."""
-        self.write('passwd', f'root:x:0:0::/:/\ndesk-board:x:{BOARD}:{BOARD}::/:/\n')
-        self.write('group', f'root:x:0:\ndesk-dispatch:x:{MEMBER}:\n')
+        places = {PLACE, f'{PLACE}/instructions'}
+        with self.made(places) as root:
+            self.check_instructions(root + PLACE + '/instructions')
+
+    @contextlib.contextmanager
+    def made(self, folders: set[str]) -> Iterator[str]:
+        """Another root, in which systemd has made folders of tmpfiles.conf for the users above."""
+        users = {'desk-board': BOARD, 'desk-dispatch': MEMBER, 'desk-gateway': GATEWAY}
+        rows = [f'{name}:x:{user}:{user}::/:/\n' for name, user in users.items()]
+        self.write('passwd', 'root:x:0:0::/:/\n' + ''.join(rows))
+        rows = [f'{name}:x:{user}:\n' for name, user in users.items()]
+        self.write('group', 'root:x:0:\n' + ''.join(rows))
         with tempfile.TemporaryDirectory() as root, open(TMPFILES, encoding='utf-8') as file:
             os.chmod(root, 0o755)
             os.mkdir(os.path.join(root, 'etc'))
             for name in ('passwd', 'group'):
                 shutil.copy(self.path(name), os.path.join(root, 'etc'))
-            lines = [
-                row for row in file if row.startswith((f'd {PLACE} ', f'd {PLACE}/instructions '))
-            ]
-            self.assertEqual(len(lines), 2)
+            lines = [row for row in file if row.startswith('d ') and row.split()[1] in folders]
+            self.assertEqual(len(lines), len(folders))
             self.write('conf', ''.join(lines))
             line = ['systemd-tmpfiles', f'--root={root}', '--create', self.path('conf')]
             subprocess.run(line, check=True)
-            self.check_instructions(root + PLACE + '/instructions')
+            yield root
 
     def check_instructions(self, folder: str) -> None:
         """Who may do what with the instructions in a folder."""
@@ -152,10 +179,7 @@ class LocalUsers(Attack):
             with contextlib.suppress(ProcessLookupError):
                 os.killpg(locker.pid, 9)
         self.assertEqual((told.status, told.text), (0, 'node N7 is open\n'))
-        member, board = (
-            ['setpriv', f'--reuid={user}', f'--regid={group}', '--clear-groups']
-            for user, group in ((MEMBER, MEMBER), (BOARD, NOBODY))
-        )
+        member, board = as_user(MEMBER), as_user(BOARD, NOBODY)
         for who, what, status in (
             (AS_NOBODY, ['cat', path], 1),
             (member, ['cat', path], 0),
@@ -164,6 +188,31 @@ class LocalUsers(Attack):
         ):
             done = subprocess.run([*who, *what], capture_output=True, check=False)
             self.assertEqual(done.returncode, status, (who, what))
+
+    @unittest.skipIf(missing('systemd-tmpfiles'), missing('systemd-tmpfiles'))
+    def test_why_jobs_wait(self) -> None:
+        """It reads what the dispatcher tells the board of jobs and vehicles, or sees that there is
+        something; the board alone reads it, in the groups of its unit."""
+        words = said('nulvrader-dispatch.service', 'ExecStart').split()
+        told = words[words.index('--waits') + 1]
+        folder = os.path.dirname(told)
+        self.assertIn(f' --waits {told} ', said('nulvrader-board.service', 'ExecStart'))
+        with self.made({folder, '/run/desk-dispatch'}) as root:
+            tools = shutil.copytree(TOOLS, os.path.join(root, 'tools'), symlinks=True)
+            line = [*as_user(MEMBER), '/usr/bin/python3', '-c', TELLS, tools, root + told]
+            subprocess.run(line, check=True)
+            self.assertIn(b'no vehicle', self.read(root + told))
+            groups = said('nulvrader-board.service', 'SupplementaryGroups').split()
+            board = as_user(BOARD, NOBODY, BOARD if 'desk-board' in groups else NOBODY)
+            for who, wanted in (
+                (AS_NOBODY, [1, 1, 1]),
+                (as_user(GATEWAY), [1, 1, 0]),
+                (board, [0, 0, 1]),
+            ):
+                asked = (['cat', told], ['ls', folder], ['ls', '/run/desk-dispatch'])
+                lines = [[*who, what, root + path] for what, path in asked]
+                ends = [subprocess.run(one, capture_output=True, check=False) for one in lines]
+                self.assertEqual([min(end.returncode, 1) for end in ends], wanted, who)
 
     def test_a_package_that_is_there_already(self) -> None:
         """It makes the package first, in the folder where root will put it, and may then write into

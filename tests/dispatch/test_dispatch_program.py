@@ -159,8 +159,9 @@ class Unit(unittest.TestCase):
         again."""
         folder = self.enterContext(tempfile.TemporaryDirectory())
         here = {'--desk': '127.0.0.1:1'}
-        for name in ('--words', '--waits'):
-            self.assertEqual(os.path.dirname(self.options[name]), '/run/desk-dispatch')
+        for name, place in (('--words', '/run/desk-dispatch'), ('--waits', '/run/desk-waits')):
+            self.assertEqual(os.path.dirname(self.options[name]), place)
+            self.assertIn(place, self.said('ReadWritePaths').split())
             here[name] = os.path.join(folder, os.path.basename(self.options[name]))
         self.assertEqual(here.keys(), self.options.keys())
         words = [word for option in self.options for word in (option, here[option])]

@@ -37,13 +37,13 @@ class Files(unittest.TestCase):
         self.path = os.path.join(self.folder, 'waits.json')
 
     def test_what_is_written_is_read(self) -> None:
-        """All may read it, and nothing else is left in the folder."""
+        """The group may read it, and nobody else; nothing else is left in the folder."""
         before = os.umask(0o077)
         self.addCleanup(os.umask, before)
         for n in range(3):
             write_file(self.path, Reasons(n, WAITS))
             self.assertEqual(read_file(self.path), Reasons(n, WAITS))
-        self.assertEqual(stat.S_IMODE(os.stat(self.path).st_mode), 0o644)
+        self.assertEqual(stat.S_IMODE(os.stat(self.path).st_mode), 0o640)
         self.assertEqual(os.listdir(self.folder), ['waits.json'])
 
     def test_what_says_nothing(self) -> None:

@@ -19,7 +19,15 @@ from tests.support.first_schema import BEGUN, FIRST
 from tests.support.programs import ROOT, until
 
 PLANT = os.path.join(ROOT, 'examples')
-NEEDS = ('dpkg-buildpackage', 'help2man', 'lintian', 'mmdebstrap', 'systemd-nspawn', 'nsenter')
+NEEDS = (
+    'dpkg-buildpackage',
+    'dh_python3',
+    'help2man',
+    'lintian',
+    'mmdebstrap',
+    'systemd-nspawn',
+    'nsenter',
+)
 MISSING = [name for name in NEEDS if shutil.which(name) is None]
 INCLUDED = 'python3,systemd,systemd-sysv,dbus,man-db,bash-completion,procps'
 # A ring with four sidings, and a station at the end of each.

@@ -41,7 +41,7 @@ class Reasons:
 
 
 def write_file(path: str, reasons: Reasons) -> None:
-    """Puts a new file in the place of the old one. All may read it."""
+    """Puts a new file in the place of the old one. The group of the folder may read it."""
     plain_files.check(path)
     new = f'{path}.new'
     with contextlib.suppress(FileNotFoundError):
@@ -50,7 +50,7 @@ def write_file(path: str, reasons: Reasons) -> None:
     handle = os.open(new, flags, 0o600)
     try:
         with os.fdopen(handle, 'w', encoding='ascii') as file:
-            os.fchmod(handle, 0o644)
+            os.fchmod(handle, 0o640)
             file.write(reasons.text())
         os.rename(new, path)
     except BaseException:
