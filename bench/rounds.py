@@ -89,6 +89,7 @@ class Rounds:
         )
         yield 'correct a load', calls.correct(load, f'C{n:06d}')
         yield 'get a load', calls.get_load(load)
+        yield 'get the phase of a job', calls.get_job(back)
         yield 'get a vehicle', calls.get_vehicle()
         yield 'a load leaves', calls.leave(load, f'D{n:06d}')
         yield 'place a vehicle', calls.place(f'E{n:06d}', 'N1')
@@ -104,6 +105,9 @@ class Rounds:
         yield 'begin anew', calls.resync()
         yield 'a state without an order', self.next_state()
         yield 'stocktake of two stations', calls.stocktake(f'F{n:06d}', [('A', ''), ('B', '')])
+        for order, to in (f'V{n:06d}', 'N2'), (f'W{n:06d}', 'N1'):
+            yield 'start a drive', calls.drive(order, to, 1)
+            yield 'a state: the drive ends', self.next_state(order, 0, to, 2)
 
 
 def fill(name: str, count: int) -> None:

@@ -5,6 +5,7 @@ import json
 import random
 from typing import Any
 
+from tests.support import calls
 from tests.support.answers import REFUSALS, refusal
 from tests.support.calls import request, state
 from tests.support.whole_answers import CALLS, EXPORTS
@@ -47,6 +48,9 @@ class Broken:
                 self.bad_csv,
                 self.export,
                 self.unknown_thing,
+                self.drive,
+                self.bad_drive,
+                self.phase,
             )
         )()
 
@@ -194,6 +198,45 @@ class Broken:
                 ),
             )
         )
+
+    def drive(self) -> tuple[bytes, Answer]:
+        """A drive of a vehicle that is not there, of which no member more is read."""
+        chance = self.chance
+        call = calls.drive(self.word(), self.word(), chance.randint(1, 200), self.word())
+        more = {self.word(): chance.choice((None, self.word(), [1], {}))}
+        return request(call.line, json.dumps({**more, **call.body})), refusal('NoVehicle')
+
+    def bad_drive(self) -> tuple[bytes, Answer]:
+        """A drive without a member, or with one of another type."""
+        chance = self.chance
+        body = dict(calls.drive(self.word(), self.word(), 1).body)
+        name = chance.choice(list(body))
+        wrong = chance.choice(('', 'a b', 'x' * 33, None, True, [], {}, -1, 2**32))
+        if chance.randint(0, 2):
+            body[name] = wrong
+        else:
+            del body[name]
+        return request('POST /drives', json.dumps(body)), refusal('BadBody')
+
+    def phase(self) -> tuple[bytes, Answer]:
+        """The phase of a job that is not there, or a path or a method beside it."""
+        chance, job = self.chance, self.word()
+        line, name = chance.choice(
+            (
+                (f'GET /jobs/{job}/phase', 'NoJob'),
+                (f'GET /jobs/{job}/phase?{self.word()}', 'NoJob'),
+                (
+                    f'{chance.choice(("PUT", "POST", "DELETE", "PHASE"))} /jobs/{job}/phase',
+                    'BadMethod',
+                ),
+                (f'{chance.choice(("GET", "PUT", "DELETE"))} /drives', 'BadMethod'),
+                (f'GET /jobs/{job}/phases', 'NoPath'),
+                (f'GET /jobs/{"x" * 33}/phase', 'NoPath'),
+                ('GET /jobs//phase', 'NoPath'),
+                (f'POST /drives/{job}', 'NoPath'),
+            )
+        )
+        return request(line, self.junk()), refusal(name)
 
     def ends(self) -> Any:
         """The last bytes of a stream: nothing, a request that ends it, or what is no request."""
