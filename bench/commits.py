@@ -8,11 +8,15 @@ import os
 import re
 import shutil
 import subprocess
+import sys
 import tempfile
 import time
 from collections.abc import Callable
 
-from loads import AT, DESK, HERE, load
+HERE = os.path.dirname(os.path.abspath(__file__))
+sys.path[:0] = [os.path.join(HERE, '..', folder) for folder in ('', 'tools', 'examples')]
+
+from loads import AT, DESK, load  # noqa: E402
 
 
 def copied(source: str, name: str) -> str:

@@ -2,15 +2,12 @@
 from __future__ import annotations
 
 import os
-import sys
+
+from tests.support import calls
+
+__all__ = ['AT', 'DESK', 'calls', 'load']
 
 HERE = os.path.dirname(os.path.abspath(__file__))
-sys.path.insert(0, os.path.dirname(HERE))
-
-from tests.support import calls  # noqa: E402
-
-__all__ = ['AT', 'DESK', 'HERE', 'calls', 'load']
-
 DESK = os.path.abspath(os.environ.get('DESK', os.path.join(HERE, '..', 'build', 'desk')))
 AT = '1700000000000'
 

@@ -6,10 +6,14 @@ most memory of the program. Python's standard library and `/usr/bin/time`.
 """
 import os
 import subprocess
+import sys
 import tempfile
 import time
 
-from loads import AT, DESK, load
+HERE = os.path.dirname(os.path.abspath(__file__))
+sys.path[:0] = [os.path.join(HERE, '..', folder) for folder in ('', 'tools', 'examples')]
+
+from loads import AT, DESK, load  # noqa: E402
 
 
 def timed(what: str, words: list[str], stdin: bytes = b'') -> None:

@@ -13,20 +13,17 @@ import urllib.request
 from collections.abc import Callable
 from typing import Any
 
-HERE = os.path.dirname(os.path.abspath(__file__))
-TOP = os.path.join(HERE, '..')
-sys.path[:0] = [TOP, HERE, os.path.join(TOP, 'examples'), os.path.join(TOP, 'tools')]
+from nulvrader.desk.client import Desk
+from nulvrader.gateway.log import Log
+from nulvrader.gateway.telemetry import TelemetrySender
+from simulation.desks import Served
+from simulation.plan import CALM, Line, Nature, Plan
+from simulation.plant import Plant
+from tests.support import browser
+from tests.support.programs import free_port
+from troubles import Trouble
 
-from nulvrader.desk.client import Desk  # noqa: E402
-from nulvrader.gateway.log import Log  # noqa: E402
-from nulvrader.gateway.telemetry import TelemetrySender  # noqa: E402
-from simulation.desks import Served  # noqa: E402
-from simulation.plan import CALM, Line, Nature, Plan  # noqa: E402
-from simulation.plant import Plant  # noqa: E402
-from tests.support import browser  # noqa: E402
-from tests.support.programs import free_port  # noqa: E402
-from troubles import Trouble  # noqa: E402
-
+TOP = os.path.dirname(os.path.dirname(os.path.abspath(__file__)))
 EVERY = 0.2  # seconds from one look at the board to the next
 PATIENCE = 60.0  # seconds for what has to come to be so
 LATE = 0.5  # minutes that a job may wait

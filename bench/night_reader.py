@@ -13,7 +13,6 @@ the page as a picture and as text: it waits until the page shows an alarm, for 2
 ends a trouble; the next one comes some seconds later."""
 from __future__ import annotations
 
-import argparse
 import contextlib
 import dataclasses
 import json
@@ -26,8 +25,10 @@ import threading
 import time
 from typing import Any
 
-sys.path.insert(0, os.path.dirname(os.path.abspath(__file__)))
+HERE = os.path.dirname(os.path.abspath(__file__))
+sys.path[:0] = [os.path.join(HERE, '..', folder) for folder in ('', 'tools', 'examples')]
 
+from nulvrader.common import entry  # noqa: E402
 from night_plant import EVERY, PATIENCE, Night, camera, is_it, program  # noqa: E402
 from tests.support import browser  # noqa: E402
 from troubles import TROUBLES, Trouble  # noqa: E402
@@ -166,9 +167,7 @@ def ask(folder: str, question: dict[str, str]) -> dict[str, Any]:
 
 
 def main() -> int:
-    line = argparse.ArgumentParser(
-        description=__doc__, formatter_class=argparse.RawDescriptionHelpFormatter
-    )
+    line = entry.parser(__doc__)
     line.add_argument('what', choices=('start', 'look', 'say'))
     line.add_argument('folder', metavar='FOLDER', help='where pictures of the page are put')
     line.add_argument('words', nargs='?', default='', metavar='WORDS', help='with say')

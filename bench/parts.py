@@ -10,13 +10,16 @@ and valgrind.
 import os
 import re
 import subprocess
+import sys
 import tempfile
 from typing import Any
 
-import rounds
-from tests.support import calls
-
 HERE = os.path.dirname(os.path.abspath(__file__))
+sys.path[:0] = [os.path.join(HERE, '..', folder) for folder in ('', 'tools', 'examples')]
+
+import rounds  # noqa: E402
+from tests.support import calls  # noqa: E402
+
 DESK = os.path.abspath(os.environ.get('DESK', os.path.join(HERE, '..', 'build', 'desk')))
 PARTS = [
     ('which call it is', r'agv_face::call::call_in'),

@@ -11,7 +11,8 @@ import socket
 import sys
 from typing import Any
 
-sys.path.insert(0, os.path.dirname(os.path.dirname(os.path.abspath(__file__))))
+HERE = os.path.dirname(os.path.abspath(__file__))
+sys.path[:0] = [os.path.join(HERE, '..', folder) for folder in ('', 'tools', 'examples')]
 
 from tests.model.desk import AT, Model  # noqa: E402
 

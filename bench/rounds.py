@@ -2,16 +2,11 @@
 from station A to B and gone, so that the desk ends a round as it began it, but for names that are
 used and the count of what has ended. Each request is answered 200, a question for a message that
 isn't there 204."""
-import os
 import sqlite3
-import sys
-from collections.abc import Iterator
-from collections.abc import Sequence
+from collections.abc import Iterator, Sequence
 from typing import Any
 
-sys.path.insert(0, os.path.dirname(os.path.dirname(os.path.abspath(__file__))))
-
-from tests.support import calls  # noqa: E402
+from tests.support import calls
 
 AT = '1700000000000'
 LAYOUT = (

@@ -22,9 +22,11 @@ import sys
 import tempfile
 import time
 
-import rounds
-
 HERE = os.path.dirname(os.path.abspath(__file__))
+sys.path[:0] = [os.path.join(HERE, '..', folder) for folder in ('', 'tools', 'examples')]
+
+import rounds  # noqa: E402
+
 DESK = os.path.abspath(os.environ.get('DESK', os.path.join(HERE, '..', 'build', 'desk')))
 TURNS = int(os.environ.get('TURNS', '40'))
 TABLES = (

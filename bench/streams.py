@@ -12,7 +12,10 @@ import sys
 import tempfile
 import time
 
-from loads import AT, DESK, HERE, calls, load
+HERE = os.path.dirname(os.path.abspath(__file__))
+sys.path[:0] = [os.path.join(HERE, '..', folder) for folder in ('', 'tools', 'examples')]
+
+from loads import AT, DESK, calls, load  # noqa: E402
 
 PLAIN = os.path.join(HERE, 'plain_desk.py')
 LAYOUT = (

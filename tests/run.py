@@ -320,7 +320,7 @@ def main() -> int:
         help='a module without its folder, or a class or a test of it',
     )
     given = line.parse_args()
-    sys.path[0] = ROOT
+    sys.path[:1] = [ROOT, *(os.path.join(ROOT, name) for name in ('tools', 'examples', 'bench'))]
     sys.dont_write_bytecode = True
     if given.notes:
         run_here(given.names, given.notes)

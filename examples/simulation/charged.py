@@ -2,7 +2,7 @@
 stand at a charger without an order."""
 from __future__ import annotations
 
-from collections.abc import Callable, Collection, Mapping
+from collections.abc import Collection, Mapping
 
 from nulvrader.dispatch.chargers import Marks
 from nulvrader.dispatch.shared import Settings
@@ -15,28 +15,19 @@ SERVICE = 90.0
 """A vehicle whose battery is empty stands for so many seconds, until a person has changed it."""
 
 
+LASTS, TAKES = 1200.0, 300.0
+"""A battery lasts so many seconds of driving and acting, and a charger fills it in so many."""
+
+
 class Charged(Sketch):
-    """A sketch with batteries: `lasts` seconds of driving and acting each, which a charger gives
-    back in `takes` seconds. All begin with `begins` percent. `lies` has what some say instead.
-    Where `knows` is false, the dispatcher has no chargers."""
+    """A sketch with batteries, which are full at first. `lies` has what some vehicles say of theirs
+    instead. Where `knows` is false, the dispatcher has no chargers."""
 
     def __init__(
-        self,
-        floor: Floor,
-        vehicles: int,
-        loads: int,
-        seed: int = 1,
-        *,
-        lasts: float = 1200.0,
-        takes: float = 300.0,
-        begins: float = 100.0,
-        lies: Mapping[str, float] = {},
-        knows: bool = True,
-        say: Callable[[str], None] = lambda line: None,
+        self, floor: Floor, vehicles: int, loads: int, lies: Mapping[str, float], knows: bool
     ) -> None:
-        super().__init__(floor, vehicles, loads, seed)
-        self.spent, self.gained = 100 / lasts, 100 / takes
-        self.charge = {name: begins for name in self.cars}
+        super().__init__(floor, vehicles, loads)
+        self.charge = dict.fromkeys(self.cars, 100.0)
         self.least = dict(self.charge)
         self.lies = lies
         self.dispatcher = OverASketch(
@@ -46,7 +37,7 @@ class Charged(Sketch):
             chargers={node: frozenset() for node in floor.chargers} if knows else {},
             marks=Marks(),
             batteries=self.told,
-            say=lambda line: say(f'{self.clock.now:8.1f}  {line}'),
+            say=lambda line: None,
             clock=lambda: self.clock.now,
         )
 
@@ -60,13 +51,13 @@ class Charged(Sketch):
         return [one.name for one in cars if one.trip is None and one.node in self.floor.chargers]
 
     def measure(self) -> None:
-        """What a second costs and gives."""
+        """Measures the plant, and charges and drains the batteries by a second."""
         super().measure()
         for name in self.charging():
-            self.charge[name] = min(100.0, self.charge[name] + self.gained)
+            self.charge[name] = min(100.0, self.charge[name] + 100 / TAKES)
         for car in self.cars.values():
             if car.busy:
-                self.charge[car.name] -= self.spent
+                self.charge[car.name] -= 100 / LASTS
                 self.least[car.name] = min(self.least[car.name], self.charge[car.name])
             if self.charge[car.name] <= 0 and not car.paused:
                 self._empty(car)
@@ -76,7 +67,7 @@ class Charged(Sketch):
         self.figures.counts['most at chargers'] = most
 
     def _empty(self, car: Car) -> None:
-        """Its battery is empty. A person changes it."""
+        """Stops a vehicle whose battery is empty, until a person has changed it."""
         self.figures.counts['empty'] += 1
         car.paused = True
 

@@ -118,7 +118,7 @@ class FirstCome:
                 continue
             try:
                 stops = (Stop('pick', job.job), Stop('drop', job.job))
-                self.desk.start_order(
+                self.desk.start_order_of_stops(
                     new_reference(), vehicle.row.key, stops=stops, edges=len(way) - 1
                 )
             except Refused as refusal:

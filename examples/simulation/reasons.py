@@ -120,19 +120,11 @@ class Mortal(Wired):
             raise Killed(True)
         return told
 
-    def start_order(
-        self,
-        order: str,
-        vehicle: VehicleKey,
-        *,
-        job: str | None = None,
-        stops: Sequence[Stop] | None = None,
-        edges: int,
+    def start_order_of_stops(
+        self, order: str, vehicle: VehicleKey, *, stops: Sequence[Stop], edges: int
     ) -> int:
-        self.reasons.give(
-            order, [Stop('pick', job), Stop('drop', job)] if job is not None else stops or ()
-        )
-        return super().start_order(order, vehicle, job=job, stops=stops, edges=edges)
+        self.reasons.give(order, stops)
+        return super().start_order_of_stops(order, vehicle, stops=stops, edges=edges)
 
     def cancel(self, vehicle: VehicleKey) -> str:
         order = Wired(self.wire).vehicle(vehicle).order

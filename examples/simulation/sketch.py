@@ -28,9 +28,6 @@ from .truth import Wrong
 FOLLOWS = 60.0
 
 
-"""Where nothing has moved for so many seconds, though something can by the plan, it is wrong."""
-
-
 class Sketch(Sketched):
     """A desk over a floor, and all that goes on there. After each turn the dispatcher's plan is
     checked."""
@@ -147,18 +144,12 @@ class Sketch(Sketched):
             if job in self.jobs_open
         )
 
-    def start_order(
-        self,
-        order: str,
-        vehicle: VehicleKey,
-        *,
-        job: str | None = None,
-        stops: Sequence[Stop] | None = None,
-        edges: int,
+    def start_order_of_stops(
+        self, order: str, vehicle: VehicleKey, *, stops: Sequence[Stop], edges: int
     ) -> int:
         car, acts = self.cars[str(vehicle)], dict[int, Acts]()
         way = [car.node]
-        assert stops is not None and car.trip is None
+        assert car.trip is None
         for stop in stops:
             one = self.jobs_open[stop.job]
             assert one.order is None
@@ -174,7 +165,7 @@ class Sketch(Sketched):
         return 0
 
     def start_drive(self, order: str, vehicle: VehicleKey, to: str, edges: int) -> int:
-        """Returns an order without actions, to a node."""
+        """Gives a vehicle an order without actions, to a node."""
         car = self.cars[str(vehicle)]
         assert car.trip is None
         way = self.ways.way((car.node, to))

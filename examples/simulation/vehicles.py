@@ -351,6 +351,12 @@ class Vehicle:
 
     # Its state.
 
+    def nodes_ahead(self) -> list[dict[str, Any]]:
+        """Returns the nodes of its order that it has not reached, as a state lists them."""
+        ahead = (self.nodes[at] for at in sorted(self.nodes) if at > self.sequence)
+        names = 'nodeId', 'sequenceId', 'released'
+        return [{name: node[name] for name in names} for node in ahead]
+
     def state(self) -> dict[str, Any]:
         """Returns the next state message."""
         self.header += 1
@@ -373,11 +379,7 @@ class Vehicle:
             'lastNodeSequenceId': self.sequence,
             'driving': self.node_is_left(),
             'paused': self.paused,
-            'nodeStates': [
-                {'nodeId': node['nodeId'], 'sequenceId': at, 'released': node['released']}
-                for at, node in sorted(self.nodes.items())
-                if at > self.sequence
-            ],
+            'nodeStates': self.nodes_ahead(),
             'edgeStates': [],
             'actionStates': actions,
             'batteryState': self.battery.state(),

@@ -56,9 +56,13 @@ class WrongValues(Attack):
             lambda bad: desk.add_job('J1', 'L1', bad),
             lambda bad: desk.start_order(bad, KIT, job='J1', edges=1),
             lambda bad: desk.start_order('O1', KIT, job=bad, edges=1),
-            lambda bad: desk.start_order('O1', KIT, stops=[client.Stop('pick', bad)], edges=1),
-            lambda bad: desk.start_order('O1', KIT, stops=[client.Stop(bad, 'J1')], edges=1),
-            lambda bad: desk.start_order('O1', KIT, stops=[bad], edges=1),
+            lambda bad: desk.start_order_of_stops(
+                'O1', KIT, stops=[client.Stop('pick', bad)], edges=1
+            ),
+            lambda bad: desk.start_order_of_stops(
+                'O1', KIT, stops=[client.Stop(bad, 'J1')], edges=1
+            ),
+            lambda bad: desk.start_order_of_stops('O1', KIT, stops=[bad], edges=1),
             lambda bad: desk.start_drive(bad, KIT, 'N1', 1),
             lambda bad: desk.start_drive('O1', KIT, bad, 1),
             lambda bad: desk.start_drive('O1', VehicleKey('KIT', bad), 'N1', 1),
@@ -87,7 +91,9 @@ class WrongValues(Attack):
 
     def test_10_000_stops(self) -> None:
         stops = 10_000 * [client.Stop('pick', 'J1')]
-        self.refuses(lambda bad: self.desk.start_order('O1', KIT, stops=bad, edges=1), [stops])
+        self.refuses(
+            lambda bad: self.desk.start_order_of_stops('O1', KIT, stops=bad, edges=1), [stops]
+        )
 
     def test_bodies(self) -> None:
         nested: list[Any] = []

@@ -18,6 +18,7 @@ from typing import Any
 from unittest import mock
 
 from tests.support.board_page import Page
+from tests.support.board_record import Recorded
 from tests.support.board_run import Watching
 from nulvrader.board import entries
 from nulvrader.board.entries import PAGE, BadQuestion, csv_of, page_of
@@ -27,13 +28,9 @@ from nulvrader.board.record import Record
 BEGUN = 1_796_000_000_000  # 2026-11-30T00:53:20Z
 
 
-class Finds(unittest.TestCase):
+class Finds(Recorded):
     def setUp(self) -> None:
-        folder = tempfile.TemporaryDirectory()
-        self.addCleanup(folder.cleanup)
-        self.path = os.path.join(folder.name, 'board.db')
-        self.record = Record(self.path)
-        self.addCleanup(self.record.close)
+        super().setUp()
         self.add('load', 'load.picked', VEHICLE, before='station A', load='L1', vehicle='KIT/0001')
         self.add(
             'load', 'load.left', Cause('person', 'anna', 'leave', 1), before='station B', load='L2'

@@ -5,12 +5,12 @@ from __future__ import annotations
 import base64
 import json
 import os
-import tempfile
 import time
 import unittest
 from typing import Any
 
 from tests.support.board_page import Page
+from tests.support.board_record import Recorded
 from tests.support.board_run import ONE, Watching, until
 from tests.support.programs import ROOT
 
@@ -18,7 +18,7 @@ from nulvrader.board.fleet import Fleet
 from nulvrader.board.figures import HOUR, BadDay, figures_of
 from nulvrader.board.news import News
 from nulvrader.board.page_state import Shown
-from nulvrader.board.record import Record, moment_of, text_of
+from nulvrader.board.record import moment_of, text_of
 from nulvrader.board.uses import EVERY, Uses
 
 DAY = moment_of('2026-11-29T23:00:00.000Z')  # where the page is, a day may begin so
@@ -31,15 +31,8 @@ def at(hours: float) -> int:
     return DAY + round(hours * HOUR)
 
 
-class Kept(unittest.TestCase):
+class Kept(Recorded):
     """A record in a file."""
-
-    def setUp(self) -> None:
-        folder = tempfile.TemporaryDirectory()
-        self.addCleanup(folder.cleanup)
-        self.path = os.path.join(folder.name, 'board.db')
-        self.record = Record(self.path)
-        self.addCleanup(self.record.close)
 
     def figures(self, begin: int = DAY, end: int = at(24)) -> dict[str, Any]:
         self.record.commit()

@@ -151,16 +151,21 @@ class DeskKilled(Watching):
         until(lambda: self.board.all('hold') == held, 'what is held')
         self.wait('vehicle', 'KIT/0001', order_name=None, node='N1', loads=[])
 
-    def test_while_a_command_of_the_page_is_on_its_way(self) -> None:
-        """Killed before the command has come to it, and killed once it has carried it out, before
-        its answer has come: the page is told that it may have been done or not. Asked once more it
-        is carried out, or refused as done; the load has moved once."""
+    def relay(self) -> Relay:
+        """Has the board ask the desk through a relay, which may lose an answer."""
         relay = Relay(self.plant)
         relay.start()
         self.addCleanup(relay.listener.close)
         self.board.stop()
         self.board = self.plant.board('--desk', f'127.0.0.1:{relay.port}')
         self.board.has_looked(2)
+        return relay
+
+    def test_while_a_command_of_the_page_is_on_its_way(self) -> None:
+        """Killed before the command has come to it, and killed once it has carried it out, before
+        its answer has come: the page is told that it may have been done or not. Asked once more it
+        is carried out, or refused as done; the load has moved once."""
+        relay = self.relay()
         for load, kill, station in (('L1', 'before', 'B'), ('L2', 'after', 'C')):
             look = self.board.post('/look', 'correct', load=load, station=station)
             before = time.time_ns() // 1_000_000
@@ -191,12 +196,7 @@ class DeskKilled(Watching):
 
     def test_while_a_drive_is_on_its_way(self) -> None:
         """Where its answer is lost, the page is told the name of its order."""
-        relay = Relay(self.plant)
-        relay.start()
-        self.addCleanup(relay.listener.close)
-        self.board.stop()
-        self.board = self.plant.board('--desk', f'127.0.0.1:{relay.port}')
-        self.board.has_looked(2)
+        relay = self.relay()
         values = {'vehicle': 'KIT/0001', 'node': 'N2', 'edges': 'all', 'order': 'G1'}
         look = self.board.post('/look', 'drive', **values)
         relay.kill = 'after'

@@ -11,15 +11,13 @@ import unittest
 from typing import Any
 
 from tests.support.desks import DESK, over_sockets
-from tests.support.programs import ROOT, matched, module
+from tests.support.programs import ROOT, TOOLS, matched, module
 from tests.support.records import FOLDER
 
 SOAK = os.path.join(ROOT, 'bench', 'soak')
 SECONDS = os.environ.get('SOAK', '5')
-STAND_IN = '''#!%s
+STAND_IN = '''#!/usr/bin/env -S PYTHONPATH=%s:%s %s -B
 import socket, sys
-sys.dont_write_bytecode = True
-sys.path.insert(0, %r)
 from tests.model.desk import Model
 words = sys.argv[1:]
 model = Model(words[words.index('--db') + 1])
@@ -99,7 +97,7 @@ class OverAStandIn(Soak):
     def over(self, fault: str, vehicles: Any, seconds: Any) -> Any:
         program = os.path.join(self.folder.name, 'desk')
         with open(program, 'w') as file:
-            file.write(STAND_IN % (sys.executable, ROOT, fault))
+            file.write(STAND_IN % (ROOT, TOOLS, sys.executable, fault))
         os.chmod(program, 0o755)
         return run(
             '--program',

@@ -255,7 +255,7 @@ class OverASketch(unittest.TestCase):
     def run_with(
         self, knows: bool = True, lies: Mapping[str, float] = {}, minutes: float = 40.0
     ) -> Charged:
-        sketch = Charged(small().with_chargers(2), 5, 30, lies=lies, knows=knows)
+        sketch = Charged(small().with_chargers(2), 5, 30, lies, knows)
         sketch.clock.every(1.0, lambda: sketch.keep_backlog(10))
         sketch.run(60 * minutes)
         return sketch

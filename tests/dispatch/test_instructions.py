@@ -163,7 +163,6 @@ class File(InAFolder):
         self.write(FULL)
         program = (
             'import resource, signal, sys\n'
-            f'sys.path.insert(0, {TOOLS!r})\n'
             'from nulvrader.common.instructions import Instructions\n'
             'from nulvrader.common.instructions_file import changing\n'
             'signal.signal(signal.SIGXFSZ, signal.SIG_IGN)\n'
@@ -171,7 +170,9 @@ class File(InAFolder):
             f'with changing({self.path!r}) as (before, write):\n'
             '    write(Instructions({}, frozenset(f"N{n}" for n in range(1000))))\n'
         )
-        done = subprocess.run([sys.executable, '-c', program], capture_output=True, text=True)
+        done = subprocess.run(
+            [sys.executable, '-c', program], cwd=TOOLS, capture_output=True, text=True
+        )
         self.assertIn('File too large', done.stderr)
         self.assertEqual(read_file(self.path), FULL)
         self.assertEqual(os.listdir(self.folder.name), ['instructions.csv'])
@@ -182,7 +183,6 @@ class File(InAFolder):
         texts = FULL, Instructions({f'J{n}': Urgency(DUE, 1) for n in range(2000)})
         program = (
             'import sys\n'
-            f'sys.path.insert(0, {TOOLS!r})\n'
             'from nulvrader.common.instructions import read\n'
             'from nulvrader.common.instructions_file import changing\n'
             'texts = [read(text) for text in sys.argv[1:]]\n'
@@ -195,7 +195,7 @@ class File(InAFolder):
         chance = random.Random(5)
         for _ in range(12):
             words = [sys.executable, '-c', program, *(text.text() for text in texts)]
-            with subprocess.Popen(words, stdout=subprocess.PIPE) as process:
+            with subprocess.Popen(words, cwd=TOOLS, stdout=subprocess.PIPE) as process:
                 assert process.stdout is not None
                 process.stdout.readline()
                 begun = os.stat(self.folder.name).st_mtime_ns

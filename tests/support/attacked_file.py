@@ -11,10 +11,10 @@ import sqlite3
 import subprocess
 import sys
 import tempfile
-import unittest
 from collections.abc import Iterator
 from typing import IO
 
+from tests.support.filled_file import FilledFile
 from tests.support.records import checkpoint
 from tests.support.hostile_tables import LONG, SHORT
 from tests.support.programs import ROOT, TOOLS, until
@@ -86,7 +86,7 @@ def ran(name: str, *words: str, stdin: int | IO[bytes] = subprocess.DEVNULL) -> 
     return ended(started(name, *words, stdin=stdin))
 
 
-class Attack(unittest.TestCase):
+class Attack(FilledFile):
     """Each test has a folder, in which `db` may be made: a file with three vehicles at work."""
 
     above: tempfile.TemporaryDirectory[str]
@@ -94,19 +94,14 @@ class Attack(unittest.TestCase):
 
     @classmethod
     def setUpClass(cls) -> None:
-        cls.above = tempfile.TemporaryDirectory()
-        cls.filled = os.path.join(cls.above.name, 'filled.db')
+        super().setUpClass()
         with open(ROWS, 'rb') as file:
             line = [DESK, 'replay', '--db', cls.filled, '--at', AT]
             subprocess.run(line, stdin=file, stdout=subprocess.DEVNULL, check=True)
         checkpoint(cls.filled)
 
-    @classmethod
-    def tearDownClass(cls) -> None:
-        cls.above.cleanup()
-
     def setUp(self) -> None:
-        self.folder = tempfile.mkdtemp(dir=self.above.name)
+        super().setUp()
         self.db = self.path('warehouse.db')
         self.victim = self.path('victim')
         self.write('victim', SECRET)

@@ -17,10 +17,10 @@ from collections.abc import Callable
 from typing import Any
 from unittest import mock
 
+from nulvrader.file import machine
+
 ROOT = os.path.dirname(os.path.dirname(os.path.dirname(os.path.abspath(__file__))))
 TOOLS = os.path.join(ROOT, 'tools')
-
-from nulvrader.file import machine  # noqa: E402
 
 PATIENCE = 120.0  # seconds until what is waited for has to be so, however busy the machine is
 

@@ -8,11 +8,11 @@ import shutil
 import sqlite3
 import subprocess
 import sys
-import tempfile
 import unittest
 from typing import Any
 
 from tests.support.programs import TOOLS
+from tests.support.filled_file import FilledFile
 from tests.support.records import FOLDER, checkpoint
 from tests.support.damages import FILLED, asked
 from tests.support.desks import AT, DESK, run
@@ -28,19 +28,17 @@ def told(path: str, port: int | None = None, user: Any = ME) -> Any:
     return reasons.find_reasons(path, port, user, 10**9)
 
 
-class WhyTest(unittest.TestCase):
+class WhyTest(FilledFile):
     """Each test has a folder of its own, in which a file with a row of each kind may be made."""
 
-    above: tempfile.TemporaryDirectory[str]
-    filled: str
     log: str
+    place = FOLDER
     script = FILLED
 
     @classmethod
     def setUpClass(cls) -> None:
-        cls.above = tempfile.TemporaryDirectory(dir=FOLDER)
+        super().setUpClass()
         os.chmod(cls.above.name, 0o755)
-        cls.filled = os.path.join(cls.above.name, 'filled.db')
         status, _, said = run('replay', '--db', cls.filled, '--at', AT, stdin=asked(cls.script))
         assert (status, said) == (0, b''), said
         cls.log = cls.filled + '-wal'
@@ -48,12 +46,8 @@ class WhyTest(unittest.TestCase):
         shutil.copyfile(cls.log, cls.log + '.before')
         checkpoint(cls.filled)
 
-    @classmethod
-    def tearDownClass(cls) -> None:
-        cls.above.cleanup()
-
     def setUp(self) -> None:
-        self.folder = tempfile.mkdtemp(dir=self.above.name)
+        super().setUp()
         os.chmod(self.folder, 0o755)
         self.db = os.path.join(self.folder, 'warehouse.db')
 

@@ -26,7 +26,6 @@ MEASURED = """
 import os, re, resource, runpy, sys
 resource.setrlimit(resource.RLIMIT_AS, (2 << 30, 2 << 30))
 sys.argv = sys.argv[1:]
-sys.path[0] = os.path.dirname(sys.argv[0])
 try:
     runpy.run_path(sys.argv[0], run_name='__main__')
 finally:
@@ -140,7 +139,7 @@ def asks(*words: str, address: str, env: dict[str, str] | None = None) -> tuple[
                 capture_output=True,
                 timeout=SECONDS,
                 pass_fds=[write],
-                env={**os.environ, 'MEASURE': str(write), **(env or {})},
+                env={**os.environ, 'MEASURE': str(write), 'PYTHONPATH': TOOLS, **(env or {})},
             )
         finally:
             os.close(write)

@@ -86,7 +86,7 @@ class OverADesk(WithADesk):
         desk.place(KIT1, 'R3', 'N2')
         desk.add_job('J2', 'L1', 'A')
         stops = [client.Stop('pick', 'J2'), client.Stop('drop', 'J2')]
-        self.assertEqual(desk.start_order('O2', KIT1, stops=stops, edges=1), 0)
+        self.assertEqual(desk.start_order_of_stops('O2', KIT1, stops=stops, edges=1), 0)
         self.assertEqual(desk.cancel(KIT1), 'instant-3')
         desk.resync(KIT1)
         self.assertIsNone(desk.vehicle(KIT1).header)
@@ -250,7 +250,7 @@ class FarBehind(WithADesk):
         stops = [
             client.Stop(*words.split()) for words in ('pick J1', 'drop J1', 'pick J2', 'drop J2')
         ]
-        desk.start_order('O1', KIT1, stops=stops, edges=2)
+        desk.start_order_of_stops('O1', KIT1, stops=stops, edges=2)
         for update in (1, 2):
             desk.post_state(KIT1, told(1 + update, 'O1', update - 1))
             desk.advance(KIT1, 'O1', update, 1)

@@ -39,8 +39,7 @@ LAYOUT = 'kind,id,from,to\n' + ''.join(
 # Two vehicles, and people who for a minute have four loads carried from station to station. At the
 # end each load is where it was to be. It prints how many jobs there were.
 MINUTE = """
-import sys, time
-sys.path.insert(0, '/usr/lib/nulvrader/tools')
+import time
 from nulvrader.common.names import VehicleKey
 from nulvrader.desk.client import Desk
 desk, ends, jobs = Desk('unix:/run/nulvrader/desk.sock', timeout=60), time.monotonic() + 60, 0
@@ -258,7 +257,9 @@ class Package(unittest.TestCase):
             self.done(
                 f'systemd-run --property=Restart=always --unit=vehicle{serial} {vehicle} {words}'
             )
-        self.assertGreaterEqual(int(self.done("python3 -", MINUTE)), 4)
+        self.assertGreaterEqual(
+            int(self.done("PYTHONPATH=/usr/lib/nulvrader/tools python3 -", MINUTE)), 4
+        )
         self.done('systemctl stop "vehicle*"')
         log = self.done('journalctl -o cat -u nulvrader-dispatch')
         self.assertNotIn('Traceback', log)

@@ -31,15 +31,10 @@ class Places(unittest.TestCase):
 
     def plain_box(self, node: Any, width: Any, height: Any, at: Any, edges: Any, boxes: Any) -> Any:
         """The box beside a node, chosen by looking at all edges, nodes and boxes."""
-        radius, (x, y) = svg.RADIUS, at[node]
+        radius = svg.RADIUS
         best: Any = None
-        for turn, (right, down) in enumerate(
-            ((0, 1), (0, -1), (1, 0), (-1, 0), (1, 1), (-1, 1), (1, -1), (-1, -1))
-        ):
-            gap = radius + 7 if right == 0 or down == 0 else radius * 0.75
-            left = x - width / 2 if right == 0 else x + gap if right > 0 else x - gap - width
-            top = y - height / 2 if down == 0 else y + gap if down > 0 else y - gap - height
-            box = (left, top, left + width, top + height)
+        for turn, box in enumerate(svg.boxes_beside(at[node], width, height)):
+            left, top = box[:2]
             price = sum(3 * svg.crosses(box, at[edge.start], at[edge.finish]) for edge in edges)
             price += 10 * sum(
                 left - radius <= u <= box[2] + radius and top - radius <= v <= box[3] + radius

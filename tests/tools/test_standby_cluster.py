@@ -2,26 +2,20 @@
 does as Pacemaker asks."""
 from __future__ import annotations
 
-import importlib
 import os
 import re
 import shutil
 import signal
 import subprocess
-import sys
 import unittest
-from typing import Any
-from unittest import mock
 
+from machines import volume
 from nulvrader.desk.client import Desk, NoAnswer
 from nulvrader.standby import checks, cluster, gluster, lock, status
 from nulvrader.standby.gluster import Brick, Client, Unknown, Volume
 from tests.support.desks import DESK
-from tests.support.programs import PATIENCE, ROOT, until
+from tests.support.programs import PATIENCE, until
 from tests.support.standing_by import EXAMPLES, Folder, STANDBY
-
-with mock.patch.object(sys, 'path', [os.path.join(ROOT, 'bench'), *sys.path]):
-    volume: Any = importlib.import_module('machines.volume')
 
 QUORUM = """Quorum information
 ------------------

@@ -3,7 +3,6 @@ desk is cut off, and killed, with Pacemaker too. And what it says of answers, wh
 hand here, and its watchdog."""
 from __future__ import annotations
 
-import importlib
 import os
 import subprocess
 import sys
@@ -11,21 +10,15 @@ import tempfile
 import threading
 import unittest
 from typing import Any
-from unittest import mock
 
+from machines import cluster, drill, records, volume, watchdog
+from machines.desks import Term
+from machines.records import Answered
 from tests.support.desks import DESK
 from tests.support.programs import PATIENCE, ROOT, until
 
 BENCH = os.path.join(ROOT, 'bench')
 SECONDS = 900  # until the rounds are over; on a machine that is idle they take one minute
-with mock.patch.object(sys, 'path', [BENCH, *sys.path]):
-    records: Any = importlib.import_module('machines.records')
-    desks: Any = importlib.import_module('machines.desks')
-    drill: Any = importlib.import_module('machines.drill')
-    cluster: Any = importlib.import_module('machines.cluster')
-    volume: Any = importlib.import_module('machines.volume')
-    watchdog: Any = importlib.import_module('machines.watchdog')
-Answered, Term = records.Answered, desks.Term
 
 
 class Judged(unittest.TestCase):
@@ -135,13 +128,14 @@ class Marks(unittest.TestCase):
     def setUp(self) -> None:
         folder = tempfile.TemporaryDirectory()
         self.addCleanup(folder.cleanup)
-        self.machines = []
+        self.machines: list[Any] = []
         for number in (1, 2):
             machine = Machine(os.path.join(folder.name, str(number)))
             machine.number = number
             os.makedirs(os.path.dirname(self.copy(machine)))
             self.machines.append(machine)
-        self.volume = volume.Volume(None, {})
+        no_machines: Any = None
+        self.volume = volume.Volume(no_machines, {})
         try:
             os.setxattr(folder.name, 'trusted.afr.desk', b'1')
         except OSError as fault:
@@ -158,7 +152,8 @@ class Marks(unittest.TestCase):
                 file.write(content)
         if mark:
             os.setxattr(self.copy(self.machines[0]), 'trusted.afr.desk-client-1', mark)
-        return bool(self.volume.unmarked(*self.machines, 'file'))
+        one, other = self.machines
+        return bool(self.volume.unmarked(one, other, 'file'))
 
     def test_marks(self) -> None:
         """The first four bytes of a mark are about the content; the others about names."""
@@ -176,7 +171,7 @@ class Watchdogs(unittest.TestCase):
         folder = tempfile.TemporaryDirectory()
         self.addCleanup(folder.cleanup)
         os.mkdir(os.path.join(folder.name, 'run'))
-        self.machine = Machine(folder.name)
+        self.machine: Any = Machine(folder.name)
         self.dog = watchdog.Watchdog([self.machine], 0.5)
         self.addCleanup(self.dog.close)
         self.dog.serve(self.machine)

@@ -16,6 +16,7 @@ PYTHON = '#!/usr/bin/env python3\n'
 MOST_LINES = 50  # of a function
 MOST_OF_A_FILE = 400
 NAMED = re.compile(r'(?<![\w./-])(?:tools|dev|tests|bench|examples)/[\w/.-]*\w(?![\w/*<{-]|\.\*)')
+PATH = re.compile(r'^[ \t]*sys\.path\b', re.M)
 MODULE = re.compile(r'(?<![\w./*-])\w+\.py\b')
 
 
@@ -98,6 +99,15 @@ class Form(unittest.TestCase):
             if os.path.relpath(path, ROOT).startswith('tests'):
                 taken = re.findall(r'^ *(?:from|import) (?:\S+\.)?test_\w+', text_of(path), re.M)
                 self.assertEqual(taken, [], path)
+
+    def test_programs_alone_say_where_packages_are(self) -> None:
+        """One line of a program of `bench` or `examples`, which people start from a checkout, and
+        of tests/run.py sets `sys.path`; nothing else does."""
+        for path in files():
+            name, text = os.path.relpath(path, ROOT), text_of(path)
+            starts = text.startswith(PYTHON) or '__main__' in text or f'python3 {name}' in text
+            is_one = starts and name.startswith(('bench/', 'examples/', 'tests/run.py'))
+            self.assertLessEqual(len(PATH.findall(text)), int(is_one), name)
 
 
 class Names(unittest.TestCase):

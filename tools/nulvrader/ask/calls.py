@@ -186,9 +186,11 @@ def order(desk: Desk, args: argparse.Namespace) -> Output:
     """Gives a vehicle an order of one job, or of several by their stops."""
     if bool(args.stops) == bool(args.job):
         raise UsageError('give the order either --job, or --pick and --drop for each job')
-    update = desk.start_order(
-        args.order, args.vehicle, job=args.job, stops=args.stops, edges=args.edges
-    )
+    named = args.order, args.vehicle
+    if args.stops:
+        update = desk.start_order_of_stops(*named, stops=args.stops, edges=args.edges)
+    else:
+        update = desk.start_order(*named, job=args.job, edges=args.edges)
     text = f'vehicle {args.vehicle} has the order {args.order}; edges released: {args.edges}'
     return Output(text, {'orderUpdateId': update})
 

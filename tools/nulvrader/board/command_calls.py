@@ -67,7 +67,7 @@ def start_order(desk: Desk, said: Values) -> Done:
         Stop(stop.action, checked(stop.job, 'job'))
         for stop in order_previews.stops_of(said['stops'])
     ]
-    desk.start_order(said['order'], key_of(said), stops=stops, edges=int(said['edges']))
+    desk.start_order_of_stops(said['order'], key_of(said), stops=stops, edges=int(said['edges']))
     return done('order', vehicle=said['vehicle'], order=said['order'])
 
 

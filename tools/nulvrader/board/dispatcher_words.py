@@ -5,7 +5,7 @@ import time
 from collections.abc import Callable
 
 from ..common.reasons import OLD, NoReasons, Reasons, read_file
-from .journal import log
+from .journal import FaultLog
 from .page_state import Shown
 
 EVERY = 1.0  # seconds from one look at the file to the next
@@ -18,7 +18,7 @@ class DispatcherWords:
     def __init__(self, shown: Shown, path: str, wall: Callable[[], float] = time.time) -> None:
         self.shown, self.path, self.wall = shown, path, wall
         self.due = 0.0
-        self.fault: str | None = None
+        self.faults = FaultLog('the dispatcher tells nothing')
 
     def turn(self) -> None:
         """Looks at the file, where that is due."""
@@ -36,7 +36,5 @@ class DispatcherWords:
             found, fault = read_file(self.path), None
         except NoReasons as wrong:
             found, fault = Reasons(), str(wrong)
-        if fault is not None and fault != self.fault:
-            log(f'the dispatcher tells nothing: {fault}')
-        self.fault = fault
+        self.faults.tell(fault)
         return found if abs(self.wall() - found.at) <= OLD else Reasons()

@@ -8,7 +8,7 @@ from dataclasses import asdict, replace
 from ..common.instructions import Instructions, NoInstructions, Urgency, due_time
 from ..common.instructions_file import changing, read_file
 from ..desk.client import Desk
-from .journal import log
+from .journal import FaultLog
 from .messages import Line
 from .page_state import Shown
 
@@ -29,7 +29,7 @@ class Instructed:
     def __init__(self, shown: Shown, path: str) -> None:
         self.shown, self.path = shown, path
         self.due = 0.0
-        self.fault: str | None = None
+        self.faults = FaultLog('what people say to the dispatcher can not be read')
 
     def turn(self) -> None:
         """Looks at the file, where that is due. What is wrong is a line of the log, once, and shows
@@ -41,9 +41,7 @@ class Instructed:
             found, fault = read_file(self.path), None
         except NoInstructions as wrong:
             found, fault = Instructions(), str(wrong)
-        if fault is not None and fault != self.fault:
-            log(f'what people say to the dispatcher can not be read: {fault}')
-        self.fault = fault
+        self.faults.tell(fault)
         live = self.shown.all('job')
         jobs = {job: asdict(one) for job, one in found.jobs.items() if job in live}
         closed = {f'node {name}' for name in found.nodes} | {f'edge {name}' for name in found.edges}

@@ -80,7 +80,9 @@ def changing(path: str) -> Iterator[tuple[Instructions, Callable[[Instructions],
     handle = os.open(folder, os.O_RDONLY | os.O_DIRECTORY | os.O_CLOEXEC)
     try:
         _lock(handle, folder)
-        yield read_file(path), lambda changed: _write(path, handle, changed)
+        yield read_file(path), lambda changed: plain_files.write_text(
+            path, changed.text(), 0o644, handle
+        )
     finally:
         os.close(handle)
 
@@ -96,25 +98,3 @@ def _lock(handle: int, folder: str) -> None:
             if time.monotonic() > ends:
                 raise BlockingIOError(errno.EAGAIN, 'another command writes there', folder)
             time.sleep(0.05)
-
-
-def _write(path: str, folder: int, changed: Instructions) -> None:
-    """Puts a new file in the place of the old one, whose mode it has. A link is not followed."""
-    plain_files.check(path)
-    new = f'{path}.new'
-    with contextlib.suppress(FileNotFoundError):
-        os.unlink(new)
-    flags = os.O_WRONLY | os.O_CREAT | os.O_EXCL | os.O_NOFOLLOW | os.O_CLOEXEC
-    handle = os.open(new, flags, 0o600)
-    try:
-        with os.fdopen(handle, 'w', encoding='ascii') as file:
-            os.fchmod(handle, 0o644)
-            file.write(changed.text())
-            file.flush()
-            os.fsync(handle)
-        os.rename(new, path)
-        os.fsync(folder)
-    except BaseException:
-        with contextlib.suppress(OSError):
-            os.unlink(new)
-        raise

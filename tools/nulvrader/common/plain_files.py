@@ -1,7 +1,8 @@
 """Opens regular files, and nothing else: opening a FIFO waits for a writer, and a device such as
-/dev/zero has no end."""
+/dev/zero has no end. Writes a text in the place of a regular file."""
 from __future__ import annotations
 
+import contextlib
 import errno
 import os
 import re
@@ -88,3 +89,29 @@ def check_mode(path: str, mode: int) -> None:
     if not stat.S_ISREG(mode):
         kind = KINDS.get(stat.S_IFMT(mode), 'something else')
         raise NotPlain(path, f'it is {kind}, and not a regular file')
+
+
+def write_text(path: str, text: str, mode: int, folder: int | None = None) -> None:
+    """Puts a file with an ASCII text in the place of another one: a reader finds the old or the new
+    one, whole. A link is not followed. With `folder`, the handle of the file's folder, both are on
+    the disk at the end."""
+    check(path)
+    new = f'{path}.new'
+    with contextlib.suppress(FileNotFoundError):
+        os.unlink(new)
+    flags = os.O_WRONLY | os.O_CREAT | os.O_EXCL | os.O_NOFOLLOW | os.O_CLOEXEC
+    handle = os.open(new, flags, 0o600)
+    try:
+        with os.fdopen(handle, 'w', encoding='ascii') as file:
+            os.fchmod(handle, mode)
+            file.write(text)
+            if folder is not None:
+                file.flush()
+                os.fsync(handle)
+        os.rename(new, path)
+        if folder is not None:
+            os.fsync(folder)
+    except BaseException:
+        with contextlib.suppress(OSError):
+            os.unlink(new)
+        raise

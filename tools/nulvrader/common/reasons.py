@@ -3,9 +3,7 @@ reads, `{"at": 1798122600, "waits": {"KIT/0001": "charges", "job J1": "no vehicl
 is put in place whole, so a reader finds the old one or the new one."""
 from __future__ import annotations
 
-import contextlib
 import json
-import os
 from collections.abc import Mapping
 from dataclasses import dataclass, field
 
@@ -42,21 +40,7 @@ class Reasons:
 
 def write_file(path: str, reasons: Reasons) -> None:
     """Puts a new file in the place of the old one. The group of the folder may read it."""
-    plain_files.check(path)
-    new = f'{path}.new'
-    with contextlib.suppress(FileNotFoundError):
-        os.unlink(new)
-    flags = os.O_WRONLY | os.O_CREAT | os.O_EXCL | os.O_NOFOLLOW | os.O_CLOEXEC
-    handle = os.open(new, flags, 0o600)
-    try:
-        with os.fdopen(handle, 'w', encoding='ascii') as file:
-            os.fchmod(handle, 0o640)
-            file.write(reasons.text())
-        os.rename(new, path)
-    except BaseException:
-        with contextlib.suppress(OSError):
-            os.unlink(new)
-        raise
+    plain_files.write_text(path, reasons.text(), 0o640)
 
 
 def read_file(path: str) -> Reasons:

@@ -107,25 +107,25 @@ class Desk(Transport):
         """Stops a job that waits."""
         self._do('DELETE', f'/jobs/{checked(job, "job")}')
 
-    def start_order(
-        self,
-        order: str,
-        vehicle: VehicleKey,
-        *,
-        job: str | None = None,
-        stops: Sequence[Stop] | None = None,
-        edges: int,
+    def start_order(self, order: str, vehicle: VehicleKey, *, job: str, edges: int) -> int:
+        """Gives a vehicle an order of one job, with so many edges released. Returns the number of
+        its update."""
+        return self._start_order(order, vehicle, edges, 'job', checked(job, 'job'))
+
+    def start_order_of_stops(
+        self, order: str, vehicle: VehicleKey, *, stops: Sequence[Stop], edges: int
     ) -> int:
-        """Gives a vehicle an order, of one job or of stops, with so many edges released. Returns
-        the number of its update."""
-        body = {**_key(vehicle), 'order': checked(order, 'order')}
-        named = None if job is None else checked(job, 'job')
-        listed = None if stops is None else [_stop(stop) for stop in stops]
-        count = checked_number(edges, 'edges')
-        members = self._members(
-            'POST', '/orders', _present(body, edges=count, job=named, stops=listed)
-        )
-        return members.number('orderUpdateId')
+        """Gives a vehicle an order of stops, with so many edges released. Returns the number of its
+        update."""
+        return self._start_order(order, vehicle, edges, 'stops', [_stop(stop) for stop in stops])
+
+    def _start_order(
+        self, order: str, vehicle: VehicleKey, edges: int, member: str, value: object
+    ) -> int:
+        """Sends an order with what it is of, a job or stops."""
+        named = {**_key(vehicle), 'order': checked(order, 'order')}
+        body = {**named, 'edges': checked_number(edges, 'edges'), member: value}
+        return self._members('POST', '/orders', body).number('orderUpdateId')
 
     def start_drive(self, order: str, vehicle: VehicleKey, to: str, edges: int) -> int:
         """Gives a vehicle an order without actions, to a node, with so many edges released. Returns

@@ -51,7 +51,7 @@ class Orders:
         shared, memory = self.shared, self.shared.memory[vehicle.name]
         order = memory.ask()
         try:
-            shared.desk.start_order(order, vehicle.row.key, stops=found.stops, edges=edges)
+            shared.desk.start_order_of_stops(order, vehicle.row.key, stops=found.stops, edges=edges)
         except Refused as refusal:
             jobs = ', '.join(one.job for one in found.jobs)
             shared.tell_refusal(vehicle, f'no order for {jobs}', refusal)

@@ -4,7 +4,7 @@ from __future__ import annotations
 
 import collections
 import math
-from collections.abc import Iterable
+from collections.abc import Iterable, Iterator
 from dataclasses import dataclass
 from typing import Generic, TypeVar
 from xml.sax.saxutils import escape, quoteattr
@@ -106,18 +106,23 @@ class Drawn:
     boxes: Grid[tuple[str, Box]]
 
 
-def box_for(node: str, width: float, height: float, at: dict[str, Point], drawn: Drawn) -> Box:
-    """Returns the box beside a node, of eight, that covers the least of edges, nodes and other
-    boxes."""
-    x, y = at[node]
-    found = []
-    for turn, (right, down) in enumerate(
-        ((0, 1), (0, -1), (1, 0), (-1, 0), (1, 1), (-1, 1), (1, -1), (-1, -1))
-    ):
+def boxes_beside(point: Point, width: float, height: float) -> Iterator[Box]:
+    """Returns the boxes of a label at a node: below, above, to the right, to the left, and in the
+    corners."""
+    x, y = point
+    for right, down in ((0, 1), (0, -1), (1, 0), (-1, 0), (1, 1), (-1, 1), (1, -1), (-1, -1)):
         gap = RADIUS + 7 if right == 0 or down == 0 else RADIUS * 0.75
         left = x - width / 2 if right == 0 else x + gap if right > 0 else x - gap - width
         top = y - height / 2 if down == 0 else y + gap if down > 0 else y - gap - height
-        box = (left, top, left + width, top + height)
+        yield left, top, left + width, top + height
+
+
+def box_for(node: str, width: float, height: float, at: dict[str, Point], drawn: Drawn) -> Box:
+    """Returns the box beside a node, of eight, that covers the least of edges, nodes and other
+    boxes."""
+    found = []
+    for turn, box in enumerate(boxes_beside(at[node], width, height)):
+        left, top = box[:2]
         price = sum(
             3 * crosses(box, at[edge.start], at[edge.finish]) for edge in drawn.edges.near(box)
         )
