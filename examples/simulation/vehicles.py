@@ -243,8 +243,7 @@ class Vehicle:
     def finish(self, action: dict[str, Any]) -> None:
         """Ends a pick or a drop, each of which fails at times. A load that is not where it is to be
         picked is wrong. So is one that is to be put down and is not on the vehicle, but where its
-        pick in this order has failed: then the drop fails too.
-        """
+        pick in this order has failed: then the drop fails too."""
         name, said = action['actionId'], _said(action)
         load, station = said['loadId'], said['stationName']
         places = ['station ' + station, 'vehicle ' + self.name]

@@ -42,10 +42,9 @@ time.sleep(600)
 # The dispatcher tells why a job waits.
 TELLS = """
 import os, sys
-sys.path.insert(0, sys.argv[1])
 from nulvrader.dispatch.published import Published
 os.umask(0o077)
-Published(sys.argv[2], sys.exit).tell({'job J1': 'no vehicle is free'})
+Published(sys.argv[1], sys.exit).tell({'job J1': 'no vehicle is free'})
 """
 HOLDS = "import os, sys, time; file = open(sys.argv[1]); os.write(1, b'.'); time.sleep(600)"
 DESCRIPTORS = 4_000_000
@@ -199,8 +198,8 @@ class LocalUsers(Attack):
         self.assertIn(f' --waits {told} ', said('nulvrader-board.service', 'ExecStart'))
         with self.made({folder, '/run/desk-dispatch'}) as root:
             tools = shutil.copytree(TOOLS, os.path.join(root, 'tools'), symlinks=True)
-            line = [*as_user(MEMBER), '/usr/bin/python3', '-c', TELLS, tools, root + told]
-            subprocess.run(line, check=True)
+            line = [*as_user(MEMBER), '/usr/bin/python3', '-c', TELLS, root + told]
+            subprocess.run(line, cwd=tools, check=True)
             self.assertIn(b'no vehicle', self.read(root + told))
             groups = said('nulvrader-board.service', 'SupplementaryGroups').split()
             board = as_user(BOARD, NOBODY, BOARD if 'desk-board' in groups else NOBODY)
