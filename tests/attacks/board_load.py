@@ -20,6 +20,7 @@ from unittest import mock
 
 from nulvrader.board import page_state as shown_module
 from nulvrader.board.page_state import Shown
+from nulvrader.board.shown_rows import LOAD, ShownLoad
 from tests.support.attacked_board import STATUS, connections, read_all
 from tests.support.board_run import ONE, Plant, Watching, has_loopback, until
 
@@ -191,14 +192,14 @@ class MadeOnce(unittest.TestCase):
         with mock.patch.object(shown_module, 'json_of', wraps=shown_module.json_of) as written:
             shown = Shown()
             for number in range(1000):
-                shown.put('load', f'L{number}', {'place': 'checking'})
+                shown.put(LOAD, f'L{number}', ShownLoad(place='checking', since=None))
             first = {shown.newer('', 0) for _ in range(40)}
-            shown.put('load', 'L7', {'place': 'left'})
+            shown.put(LOAD, 'L7', ShownLoad(place='left', since=None))
             second = {shown.newer(shown.run, 1000) for _ in range(40)}
         self.assertEqual(written.call_count, 1001)
         told = [json.loads(b'{%s}' % text) for text in (*first, *second)]
         self.assertEqual([len(one['values']) for one in told], [1000, 1])
-        self.assertEqual(told[1]['values'], [['load', 'L7', {'place': 'left'}]])
+        self.assertEqual(told[1]['values'], [['load', 'L7', {'place': 'left', 'since': None}]])
 
 
 class FullDisk(Watching):

@@ -260,7 +260,7 @@ class Health(unittest.TestCase):
 
     def test_states(self) -> None:
         """A vehicle is in the worst of its states."""
-        vehicle: dict[str, Any] = {'silent': None, 'astray': 0, 'ready': 1, 'paused': 0}
+        vehicle: Any = {'silent': None, 'astray': 0, 'ready': 1, 'paused': 0}
         vehicle['order_name'] = None
         found = [state_of(vehicle, False)]
         changes: tuple[dict[str, Any], ...] = (
@@ -270,8 +270,9 @@ class Health(unittest.TestCase):
             vehicle = {**vehicle, **changed}
             found.append(state_of(vehicle, False))
         self.assertEqual(found, ['free', 'busy', 'paused', 'not_ready', 'astray', 'silent'])
-        self.assertEqual(state_of({**vehicle, **{'silent': None, 'astray': 0}}, True), 'not_ready')
-        waits = {'silent': None, 'astray': 0, 'ready': 1, 'paused': 0, 'order_name': 'O1'}
+        vehicle |= {'silent': None, 'astray': 0}
+        self.assertEqual(state_of(vehicle, True), 'not_ready')
+        waits: Any = {'silent': None, 'astray': 0, 'ready': 1, 'paused': 0, 'order_name': 'O1'}
         self.assertEqual(state_of(waits, True), 'waiting')
         self.assertEqual(set(STATES), {*found, 'waiting'})
 

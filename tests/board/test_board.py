@@ -13,6 +13,7 @@ from nulvrader.board.fleet import Fleet
 from nulvrader.board.news import News
 from nulvrader.board.record import Record
 from nulvrader.board.page_state import Shown
+from nulvrader.board import shown_rows
 from nulvrader.desk.client import VehicleRow
 
 PICKED = ('O1.0', 'FINISHED')
@@ -292,7 +293,7 @@ class Silent(Watching):
                     1 + second // every,
                 )
                 fleet.take_vehicles({ONE: VehicleRow(*row, None, None, None, None)})
-                silent.append(shown.get('vehicle', 'KIT/0001')['silent'])
+                silent.append(shown.all(shown_rows.VEHICLE)['KIT/0001']['silent'])
             wanted = [
                 begun + 1000 * second - 2000 if second % every == 2 else None
                 for second in range(60)

@@ -18,6 +18,7 @@ from nulvrader.board.page_state import Shown
 from nulvrader.board.news import News
 from nulvrader.board.vehicle_words import Error, FailedAction, Words
 from nulvrader.board.waits import Wait
+from nulvrader.board.shown_rows import ALARM, DESK, ShownDesk
 from nulvrader.desk.client import Job
 
 
@@ -149,7 +150,7 @@ class OfVehicles(Alarmed):
         ):
             self.fleet.holders = {('node', 'N1'): 'KIT/0001', ('node', 'N2'): holder}
             waits()
-            (alarm,) = self.news.shown.all('alarm').values()
+            (alarm,) = self.news.shown.all(ALARM).values()
             self.assertIn(todo, alarm['todo'])
             goes_on()
             self.turn()
@@ -193,16 +194,18 @@ class OfThePlant(Alarmed):
 
     def test_the_desk(self) -> None:
         """While it is away the alarms of vehicles stay as they are."""
-        down = {'up': False, 'other': False, 'since': 5, 'fault': 'no program listens there'}
+        fault = 'no program listens there'
+        down = ShownDesk(up=False, since=5, fault=fault, other=False)
         self.is_so(astray=True)
         self.turn()
-        self.news.shown.put('desk', '', down)
+        self.news.shown.put(DESK, '', down)
         self.row = vehicle(header=9)
         self.turn()
         words = 'The desk has not answered: what is seen here is old. no program listens there'
         self.assertEqual(self.kinds()['desk'], words)
         self.assertEqual(self.kinds().keys(), {'desk', 'astray'})
-        self.news.shown.put('desk', '', {**down, 'other': True, 'fault': 'It is another one.'})
+        other = ShownDesk(up=False, since=5, fault='It is another one.', other=True)
+        self.news.shown.put(DESK, '', other)
         self.turn()
         self.assertEqual(self.kinds().keys(), {'other', 'astray'})
 
@@ -229,17 +232,18 @@ class Kept(Alarmed):
         """It has the alarm with its moment and who has taken it on, and raises it once."""
         self.is_so(astray=True)
         self.turn()
-        (before,) = self.news.shown.all('alarm').values()
+        (before,) = self.news.shown.all(ALARM).values()
         self.record._put(
             "UPDATE alarms SET taken_by = 'anna', taken_at = '2026-11-28T06:15:00.123Z'"
         )
         self.news.commit()
         self.news = News(Shown(), self.record)
-        self.news.shown.put('desk', '', {'up': True, 'other': False, 'since': 1, 'fault': None})
+        self.news.shown.put(DESK, '', ShownDesk(up=True, since=1, fault=None, other=False))
         self.alarms = Alarms(self.news, LATE)
         self.turn()
-        (after,) = self.news.shown.all('alarm').values()
+        (after,) = self.news.shown.all(ALARM).values()
         self.assertEqual((after['n'], after['since']), (before['n'], before['since']))
+        assert after['taken'] is not None
         self.assertEqual(after['taken']['who'], 'anna')
         self.assertEqual(self.record.rows('SELECT count(*) FROM alarms'), [(1,)])
 

@@ -20,6 +20,8 @@ from nulvrader.board.news import News
 from nulvrader.board.page_state import Shown
 from nulvrader.board.record import moment_of, text_of
 from nulvrader.board.uses import EVERY, Uses
+from nulvrader.board import shown_rows as rows
+from nulvrader.board.shown_rows import DESK, WAIT, ShownDesk
 
 DAY = moment_of('2026-11-29T23:00:00.000Z')  # where the page is, a day may begin so
 VEHICLE = {'silent': None, 'astray': 0, 'ready': 1, 'paused': 0, 'order_name': None}
@@ -160,8 +162,9 @@ class Does(Kept):
         self.show(up=True)
 
     def show(self, up: bool, other: bool = False, **vehicle: object) -> None:
-        self.news.shown.put('desk', '', {'up': up, 'other': other})
-        self.news.shown.put('vehicle', 'KIT/1', {**VEHICLE, **vehicle})
+        row: Any = {**VEHICLE, **vehicle}
+        self.news.shown.put(DESK, '', ShownDesk(up=up, since=1, fault=None, other=other))
+        self.news.shown.put(rows.VEHICLE, 'KIT/1', row)
 
     def kept(self) -> list[tuple[Any, ...]]:
         rows = self.record.rows('SELECT at, state FROM vehicle_uses ORDER BY at, n')
@@ -170,7 +173,7 @@ class Does(Kept):
     def test_each_change(self) -> None:
         """Only changes are kept, and nothing is known while the desk is away or another one."""
         waits = {'stands': True}
-        steps: tuple[tuple[dict[str, Any], dict[str, Any] | None], ...] = (
+        steps: tuple[tuple[dict[str, Any], Any], ...] = (
             ({'up': True}, None),
             ({'up': True}, None),
             ({'up': True, 'order_name': 'O1'}, None),
@@ -182,7 +185,7 @@ class Does(Kept):
         )
         for second, (shown, wait) in enumerate(steps):
             self.show(**shown)
-            self.news.shown.put('wait', 'KIT/1', wait)
+            self.news.shown.put(WAIT, 'KIT/1', wait)
             self.uses.turn(DAY + 1000 * second)
         states = ['free', 'busy', 'waiting', 'not_ready', 'unseen', 'silent']
         self.assertEqual(self.kept(), list(zip((0, 2, 3, 4, 5, 7), states)))

@@ -18,6 +18,7 @@ from nulvrader.board.page_state import Shown
 from nulvrader.board.record import EVENT, event_row
 from nulvrader.board.vehicle_words import Error, FailedAction, Words
 from nulvrader.board.words_keeper import MOST, SPAN, Keeper
+from nulvrader.board.shown_rows import DESK, ShownDesk
 
 LOW, FULL = Words(battery=10.0, charging=False), Words(battery=90.0, charging=False)
 ALWAYS = (
@@ -148,7 +149,7 @@ class Alike(Alarmed):
         self.turn()
         kinds = self.kinds()
         self.news = News(Shown(), self.record)
-        self.news.shown.put('desk', '', {'up': True, 'other': False, 'since': 1, 'fault': None})
+        self.news.shown.put(DESK, '', ShownDesk(up=True, since=1, fault=None, other=False))
         for kind in ('vehicles', 'jobs', 'stock'):
             self.news.at = self.clock.at
             self.news.look(kind)
@@ -197,8 +198,9 @@ class Alike(Alarmed):
     def test_the_desk(self) -> None:
         """It is told at once that it answers, however often it has not."""
         for is_up in (False, True) * 3:
-            told = {'up': is_up, 'other': False, 'since': 5, 'fault': None if is_up else 'none'}
-            self.news.shown.put('desk', '', told)
+            fault = None if is_up else 'none'
+            told = ShownDesk(up=is_up, since=5, fault=fault, other=False)
+            self.news.shown.put(DESK, '', told)
             self.turn()
             self.assertEqual(self.kinds().keys(), set() if is_up else {'desk'})
 
@@ -238,7 +240,7 @@ class Long(Alarmed):
         event = Event('refused', 'command.stocktake', cause, {'station': 'A'}, None, None, more)
         row = dict(zip(EVENT[1:], event_row(self.news.at, event)))
         self.assertLess(self.size(row.values()), 2000)
-        entry = told(1, self.news.at, event)
+        entry: Any = told(1, self.news.at, event)
         self.assertEqual(json.loads(row['more']), entry['more'])
         self.assertEqual((entry['more']['ref'], entry['text']), ('R1', row['words']))
         self.assertTrue(entry['more']['answer'].startswith('No load of this name: L1, L1, '))

@@ -19,6 +19,7 @@ from nulvrader.board.record import Record
 from nulvrader.board.vehicle_words import Error, NoWords, Words, read_words
 from nulvrader.board.words_keeper import MOST, Keeper
 from nulvrader.board.words_socket import Heard, hearing_in
+from nulvrader.board.shown_rows import WORDS
 
 BEGUN = 1_700_000_000_000
 SCANNER = {
@@ -136,9 +137,8 @@ class Keeps(unittest.TestCase):
         self.record._put('DELETE FROM events')
         return [(what, words) for what, words in rows]
 
-    def shown(self) -> dict[str, Any]:
-        found: dict[str, Any] = self.news.shown.get('said', 'KIT/0001')
-        return found
+    def shown(self) -> Any:
+        return self.news.shown.get(WORDS, 'KIT/0001')
 
     def test_each_change(self) -> None:
         """Old and new of each; what stays the same is said once; and since when it is so."""

@@ -13,6 +13,7 @@ import unittest
 
 from nulvrader.board.dispatcher_words import DispatcherWords
 from nulvrader.board.page_state import Shown
+from nulvrader.board.shown_rows import WHY
 from nulvrader.common.reasons import (
     MOST,
     OLD,
@@ -119,13 +120,13 @@ class Files(unittest.TestCase):
             write_file(self.path, Reasons(now, waits))
             words.due = 0.0
             words.turn()
-            self.assertEqual(shown.all('why'), waits)
+            self.assertEqual(shown.all(WHY), waits)
         ages: tuple[tuple[float, dict[str, str]], ...] = ((OLD, WAITS), (1.0, {}))
         for seconds, left in ages:
             now += seconds
             words.due = 0.0
             words.turn()
-            self.assertEqual(shown.all('why'), left)
+            self.assertEqual(shown.all(WHY), left)
 
 
 @over_sockets

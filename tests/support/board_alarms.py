@@ -11,6 +11,7 @@ from nulvrader.board import alarms as module
 from nulvrader.board.alarms import Alarms
 from nulvrader.board.vehicle_words import Words
 from nulvrader.board.words_keeper import Keeper
+from nulvrader.board.shown_rows import ALARM, DESK, ShownDesk
 
 LATE = 600_000
 
@@ -42,7 +43,7 @@ class Alarmed(Followed):
         self.free: str | None = None
         self.fleet.silent_after = 10**9
         self.alarms, self.keeper = Alarms(self.news, LATE), Keeper(self.news)
-        self.news.shown.put('desk', '', {'up': True, 'other': False, 'since': 1, 'fault': None})
+        self.news.shown.put(DESK, '', ShownDesk(up=True, since=1, fault=None, other=False))
         self.turn()
         self.assertEqual(self.kinds(), {})
 
@@ -55,7 +56,7 @@ class Alarmed(Followed):
 
     def kinds(self) -> dict[str, str]:
         """The open alarms: of each kind its sentence."""
-        found = self.news.shown.all('alarm').values()
+        found = self.news.shown.all(ALARM).values()
         return {alarm['kind']: alarm['words'] for alarm in found}
 
     def raised(
@@ -66,7 +67,7 @@ class Alarmed(Followed):
         self.turn()
         self.turn()
         self.assertEqual(self.kinds(), {kind: words})
-        (alarm,) = self.news.shown.all('alarm').values()
+        (alarm,) = self.news.shown.all(ALARM).values()
         self.assertTrue(alarm['todo'])
         rows = self.record.rows('SELECT kind, words, ended FROM alarms ORDER BY n DESC LIMIT 1')
         self.assertEqual(rows, [(kind, words, None)])

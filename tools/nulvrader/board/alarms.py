@@ -16,6 +16,7 @@ from .messages import Line, say, told, words_of
 from .news import News
 from .progress import Thing
 from .record import moment_of
+from .shown_rows import ALARM, DESK, STATION, ShownAlarm, Taken
 from .stock import Stores
 from .vehicle_words import FailedAction
 from .words_keeper import Keeper
@@ -110,7 +111,7 @@ class Alarms:
         at = time.time_ns() // 1_000_000
         self.begun = self.begun or at
         found = {one.key: one for one in self._of_the_machine(at)}
-        desk = self.news.shown.get('desk', '')
+        desk = self.news.shown.get(DESK, '')
         has_looked = all(self.news.looked(kind) for kind in ('vehicles', 'jobs', 'stock'))
         if desk is None or not desk['up'] or not has_looked:
             kept = {
@@ -177,7 +178,7 @@ class Alarms:
         alarm.gone = alarm.gone or at
         if alarm.stands(at) and found.key not in MACHINE:
             return
-        self.news.shown.put('alarm', found.key, None)
+        self.news.shown.put(ALARM, found.key, None)
         if self._may_tell(found, keeper):
             self._end(self.open.pop(found.key))
             self._ended = {key: end for key, end in self._ended.items() if abs(at - end) < STAYS}
@@ -203,7 +204,7 @@ class Alarms:
 
     def _show(self, alarm: Alarm) -> None:
         found = alarm.found
-        row = {
+        row: ShownAlarm = {
             'n': alarm.number,
             'kind': found.kind,
             'level': found.level,
@@ -211,13 +212,13 @@ class Alarms:
             'words': found.words(),
             'todo': found.todo(),
             'since': alarm.began,
-            'taken': alarm.taken and {'who': alarm.taken[0], 'at': alarm.taken[1]},
+            'taken': alarm.taken and Taken(who=alarm.taken[0], at=alarm.taken[1]),
         }
-        self.news.shown.put('alarm', found.key, row)
+        self.news.shown.put(ALARM, found.key, row)
 
     def _of_the_machine(self, at: int) -> Iterator[Condition]:
         """Yields the desk, the clock and the disk."""
-        desk = self.news.shown.get('desk', '')
+        desk = self.news.shown.get(DESK, '')
         if desk is not None and not desk['up']:
             kind = 'other' if desk['other'] else 'desk'
             values = {'fault': desk['fault'], 'says': desk.get('says', [])}
@@ -330,7 +331,7 @@ class Alarms:
         """Yields the stations in which no place is free, all in one alarm."""
         full = []
         for name, station in layout.stations.items():
-            row = self.news.shown.get('station', name)
+            row = self.news.shown.get(STATION, name)
             if row is not None and row['taken'] >= station.capacity:
                 full.append(name)
         if full:

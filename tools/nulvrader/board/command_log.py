@@ -8,9 +8,8 @@ import sqlite3
 import threading
 from collections.abc import Callable, Mapping
 from dataclasses import dataclass
-from typing import Any
 
-from .events import Cause, Event, told
+from .events import Cause, Event, ToldEvent, told
 from .record import INSERT_EVENT, NoRecord, event_row, opened, text_of
 
 WAIT = 5.0  # seconds for another program that writes to the file
@@ -43,7 +42,7 @@ class CommandLog:
     """Writes commands by a connection of its own, so that each is on the disk at once. Threads may
     use it at the same time. `told` takes each entry that was written, as pages have it."""
 
-    def __init__(self, path: str, told: Callable[[dict[str, Any]], None] = lambda entry: None):
+    def __init__(self, path: str, told: Callable[[ToldEvent], None] = lambda entry: None):
         self.told = told
         self._lock = threading.Lock()
         self._late: list[tuple[int, Outcome]] = []  # outcomes that could not be written

@@ -4,7 +4,6 @@ from __future__ import annotations
 import re
 from collections.abc import Mapping
 from dataclasses import dataclass
-from typing import Any
 
 from ..common.instructions import MOST_PLACE, MOST_PRIORITY, due_time
 from ..common.layouts import Layout
@@ -48,7 +47,7 @@ def wrong(name: str, /, **values: object) -> NoCommand:
     return NoCommand(Line(f'wrong.{name}', values))
 
 
-def read_command(said: Mapping[str, Any], layout: Layout, is_whole: bool) -> AskedCommand:
+def read_command(said: Mapping[str, object], layout: Layout, is_whole: bool) -> AskedCommand:
     """Returns the command that was said. `is_whole` says that it has to have what the look adds."""
     name, told = said.get('command'), said.get('values')
     if not isinstance(name, str) or name not in COMMANDS or not isinstance(told, dict):

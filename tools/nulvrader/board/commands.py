@@ -25,6 +25,8 @@ from .news import News
 from .poller import now
 from .record import NoRecord
 from .scene import Scene
+from .shown_rows import DESK
+from .told_commands import ListedCommand, TakenOn, ToldLook, ToldOutcome
 
 TEXT = 20_000  # characters of what is wrong with a value
 UNSAID = '–'  # of what may be said of a job, and was not
@@ -70,12 +72,17 @@ class Answered:
         """Returns what is said of it, in English."""
         return words_of(self.says)
 
-    def told(self) -> dict[str, Any]:
+    def told(self) -> ToldOutcome:
         """Returns the outcome as the page has it."""
-        lines = {'says': told(self.says), 'advice': told(self.advice)}
-        text = {'text': self.text(), 'advice': words_of(self.advice), 'lines': lines}
-        refusal = {'refusal': self.refusal} if self.refusal else {}
-        return {'done': self.done, **text, **refusal}
+        found: ToldOutcome = {
+            'done': self.done,
+            'text': self.text(),
+            'advice': words_of(self.advice),
+            'lines': {'says': told(self.says), 'advice': told(self.advice)},
+        }
+        if self.refusal:
+            found['refusal'] = self.refusal
+        return found
 
 
 def event_of(given: Command, cause: Cause, answered: Answered) -> Event:
@@ -121,7 +128,7 @@ class Commands:
         self.desk, self.drawn, self.shown, self.calls = desk, drawn, news.shown, news.calls
         self.log, self.asker, self.instructions = log, asker, instructions
 
-    def listed(self) -> list[dict[str, Any]]:
+    def listed(self) -> list[ListedCommand]:
         """Returns the commands, as the page makes its forms of them."""
         return [
             {
@@ -146,18 +153,18 @@ class Commands:
         """Whether there is such a command here."""
         return COMMANDS[name].tell is None or self.instructions is not None
 
-    def _read(self, said: Mapping[str, Any], *, is_whole: bool) -> AskedCommand:
+    def _read(self, said: Mapping[str, object], *, is_whole: bool) -> AskedCommand:
         """Returns the command that was said. `NoCommand` where it is none."""
         asked = read_command(said, self.drawn.layout, is_whole)
         if not self.has(asked.name):
             raise wrong('command')
         return asked
 
-    def look(self, said: Mapping[str, Any]) -> dict[str, Any]:
+    def look(self, said: Mapping[str, object]) -> ToldLook:
         """Returns what a command will do, with the values for `do`."""
         asked = self._read(said, is_whole=False)
         look = COMMANDS[asked.name].look(Scene(self.drawn.layout, self.shown), asked.values)
-        desk = self.shown.get('desk', '')
+        desk = self.shown.get(DESK, '')
         down = [Line('look.down')]
         warns = look.warns if desk is None or desk['up'] else down + look.warns
         return {
@@ -168,13 +175,13 @@ class Commands:
             'values': look.values,
         }
 
-    def do(self, said: Mapping[str, Any], who: str) -> dict[str, Any]:
+    def do(self, said: Mapping[str, object], who: str) -> ToldOutcome:
         """Carries a command out. What is told says whether it was done, what is to be said of it,
         and what to do. `NotSent` where it can't be recorded, or another desk answers."""
         asked = self._read(said, is_whole=True)
         if asked.values.get('edges') in order_previews.WAYS:
             raise wrong('edges')
-        desk = self.shown.get('desk', '')
+        desk = self.shown.get(DESK, '')
         if desk is not None and desk.get('other'):
             raise NotSent('unsent.other')
         try:
@@ -223,7 +230,7 @@ class Commands:
         event = event_of(given, cause, answered)
         self.log.answered(given.number, Outcome(done, answered.text(), now(), event))
 
-    def take(self, said: Mapping[str, Any], user: str) -> dict[str, Any]:
+    def take(self, said: Mapping[str, object], user: str) -> TakenOn:
         """Notes that somebody has taken an alarm on, or has it no more. `NotSent` where that can't
         be recorded."""
         number, who = said.get('alarm'), user or printable(str(said.get('name') or ''), NAME)
@@ -252,7 +259,7 @@ class Commands:
 def unanswered(asked: AskedCommand, fault: NoAnswer) -> Answered:
     """Returns what came of a command to which the desk has not answered."""
     why = fault_of(fault.fault if isinstance(fault, NotAll) else fault)
-    values: dict[str, Any] = {'fault': why.words(), 'says': [why.told()]}
+    values: dict[str, object] = {'fault': why.words(), 'says': [why.told()]}
     name = 'fault.down'
     if isinstance(fault, NotAll):
         name = 'fault.down.all' if fault.vehicles else 'fault.down.none'

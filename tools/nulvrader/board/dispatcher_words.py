@@ -7,6 +7,7 @@ from collections.abc import Callable
 from ..common.reasons import OLD, NoReasons, Reasons, read_file
 from .journal import FaultLog
 from .page_state import Shown
+from .shown_rows import WHY
 
 EVERY = 1.0  # seconds from one look at the file to the next
 
@@ -26,10 +27,10 @@ class DispatcherWords:
             return
         self.due = time.monotonic() + EVERY
         waits = self._read().waits
-        for name in self.shown.all('why').keys() - waits.keys():
-            self.shown.put('why', name, None)
+        for name in self.shown.all(WHY).keys() - waits.keys():
+            self.shown.put(WHY, name, None)
         for name, why in waits.items():
-            self.shown.put('why', name, why)
+            self.shown.put(WHY, name, why)
 
     def _read(self) -> Reasons:
         try:

@@ -5,7 +5,7 @@ from __future__ import annotations
 import json
 from collections.abc import Mapping
 from dataclasses import dataclass, field, replace
-from typing import Any
+from typing import NotRequired, TypedDict, cast
 
 from .messages import say
 
@@ -23,7 +23,7 @@ def cut(text: str, most: int = LONG) -> str:
     return data.decode()
 
 
-def values_cut(values: Mapping[str, Any]) -> dict[str, Any]:
+def values_cut(values: Mapping[str, object]) -> dict[str, object]:
     """Values whose texts and lists are cut, the long ones first, until they have no more than
     `MORE` bytes as JSON."""
     found = dict(values)
@@ -34,7 +34,7 @@ def values_cut(values: Mapping[str, Any]) -> dict[str, Any]:
     return found
 
 
-def _value_cut(value: Any, long: int, many: int) -> Any:
+def _value_cut(value: object, long: int, many: int) -> object:
     if isinstance(value, str):
         return cut(value, long)
     if isinstance(value, Mapping):
@@ -44,7 +44,7 @@ def _value_cut(value: Any, long: int, many: int) -> Any:
     return value
 
 
-def json_of(values: Mapping[str, Any]) -> str:
+def json_of(values: Mapping[str, object]) -> str:
     """Values as the record has them."""
     return json.dumps(dict(values), ensure_ascii=False)
 
@@ -78,11 +78,12 @@ class Event:
     about: Mapping[str, str | None] = field(default_factory=dict)
     before: str | None = None
     after: str | None = None
-    more: Mapping[str, Any] = field(default_factory=dict)
+    more: Mapping[str, object] = field(default_factory=dict)
 
-    def values(self) -> dict[str, Any]:
+    def values(self) -> dict[str, object]:
         """Returns what its sentence is made of."""
-        found = {**self.about, 'before': self.before, 'after': self.after, **self.more}
+        ends = {'before': self.before, 'after': self.after}
+        found: dict[str, object] = {**self.about, **ends, **self.more}
         return {name: value for name, value in found.items() if value is not None}
 
     def cut(self) -> Event:
@@ -95,9 +96,32 @@ class Event:
         return say(f'event.{self.what}', self.values(), language)
 
 
-def told(number: int, at: int, event: Event) -> dict[str, Any]:
-    """Returns an entry as the page and other programs have it: `n` is its number, `text` its
-    sentence in English."""
+class ToldEvent(TypedDict):
+    """An entry as pages and other programs get it: `n` is its number, and `text` its sentence in
+    English. What isn't known of it is left out."""
+
+    n: int
+    at: int
+    kind: str
+    what: str
+    text: str
+    cause: NotRequired[str]
+    who: NotRequired[str]
+    call: NotRequired[str]
+    command: NotRequired[int]
+    vehicle: NotRequired[str]
+    load: NotRequired[str]
+    job: NotRequired[str]
+    order_name: NotRequired[str]
+    station: NotRequired[str]
+    node: NotRequired[str]
+    before: NotRequired[str]
+    after: NotRequired[str]
+    more: NotRequired[dict[str, object]]
+
+
+def told(number: int, at: int, event: Event) -> ToldEvent:
+    """Returns an entry as pages and other programs get it."""
     event = event.cut()
     cause = event.cause
     found = {
@@ -115,4 +139,4 @@ def told(number: int, at: int, event: Event) -> dict[str, Any]:
         'after': event.after,
         'more': dict(event.more) or None,
     }
-    return {name: value for name, value in found.items() if value is not None}
+    return cast(ToldEvent, {name: value for name, value in found.items() if value is not None})

@@ -3,18 +3,19 @@ come, and who waits for whom, by the export of vehicles, the hold report and ord
 from __future__ import annotations
 
 from collections.abc import Mapping
-from dataclasses import dataclass, field, replace
+from dataclasses import dataclass, replace
 from typing import Any
 
 from ..desk.client import NotADesk, VehicleRow
 from ..common.names import VehicleKey, natural
 from ..desk.reports import Holds, Stock
-from . import sentences
+from . import sentences, shown_rows
 from .events import BOARD, UNSEEN, VEHICLE, Cause
 from .messages import Line, told, words_of
 from .news import News, OrderEnd
 from .progress import Thing, Way
 from .record import moment_of
+from .shown_rows import CIRCLES, HOLD, WAIT, WAY, Rest, VehicleColumns
 from .uses import last_look
 from .waits import Wait, circles_of, wait_of
 
@@ -37,7 +38,7 @@ class KnownVehicle:
     heard: int | None = None
     silent: int | None = None
     unready: int | None = None
-    kept: dict[str, Any] = field(default_factory=dict)
+    kept: VehicleColumns | None = None
 
 
 class Fleet:
@@ -53,7 +54,7 @@ class Fleet:
         self.circles: list[list[str]] = []
         for kind, name, vehicle in news.record.rows('SELECT kind, name, vehicle FROM holds'):
             self.holders[kind, name] = vehicle
-            news.shown.put('hold', f'{kind} {name}', vehicle)
+            news.shown.put(HOLD, f'{kind} {name}', vehicle)
         rows = news.record.rows(
             'SELECT vehicle, order_name FROM vehicles WHERE order_name IS NOT NULL'
         )
@@ -84,7 +85,7 @@ class Fleet:
         told |= {('edge', name): str(key) for name, key in holds.edges.items()}
         for kind, name in {thing for thing, _ in self.holders.items() ^ told.items()}:
             self.news.record.hold(self.news.at, kind, name, told.get((kind, name)))
-            self.news.shown.put('hold', f'{kind} {name}', told.get((kind, name)))
+            self.news.shown.put(HOLD, f'{kind} {name}', told.get((kind, name)))
         self.holders = told
         self._wait()
 
@@ -285,11 +286,16 @@ class Fleet:
             self.news.record.vehicle(self.news.at, name, values, seen.heard)
         if row.ready or seen.unready is None:
             seen.unready = None if row.ready else self._unready_since(name)
-        rest = None if row.rest is None else {'edge': row.rest[0], 'node': row.rest[1]}
-        told = {**values, 'loads': self.loads.get(name, ()), 'rest': rest, 'silent': seen.silent}
-        told |= {'heard': row.header is not None, 'unready': seen.unready}
-        self.news.shown.put('vehicle', name, told)
-        self.news.shown.put('way', name, None if seen.way is None else sentences.way(seen.way))
+        told = sentences.shown_vehicle(
+            values,
+            loads=self.loads.get(name, ()),
+            rest=None if row.rest is None else Rest(edge=row.rest[0], node=row.rest[1]),
+            silent=seen.silent,
+            heard=row.header is not None,
+            unready=seen.unready,
+        )
+        self.news.shown.put(shown_rows.VEHICLE, name, told)
+        self.news.shown.put(WAY, name, None if seen.way is None else sentences.way(seen.way))
 
     def _unready_since(self, name: str) -> int:
         """Returns since when a vehicle is not ready, as far as the record reaches."""
@@ -314,7 +320,7 @@ class Fleet:
                 more = {'vehicles': circle}
                 self.news.event('wait.circle', BOARD, {'vehicle': circle[0]}, more=more)
         self.circles = circles
-        self.news.shown.put('circles', '', circles or None)
+        self.news.shown.put(CIRCLES, '', circles or None)
 
     def _change_wait(self, name: str, before: Wait | None, after: Wait | None) -> None:
         if before == after:
@@ -324,10 +330,10 @@ class Fleet:
             thing, by = (None, None) if after is None else (after.thing, after.by)
             self.news.record.wait(at, name, thing, by)
         told = None if after is None else sentences.wait(after, self.waits_since[name])
-        self.news.shown.put('wait', name, told)
+        self.news.shown.put(WAIT, name, told)
 
 
-def why_of(reasons: list[Line]) -> dict[str, Any]:
+def why_of(reasons: list[Line]) -> dict[str, object]:
     """Returns why a vehicle is not ready, as its entry says it; nothing where that is not known."""
     if not reasons:
         return {}

@@ -3,7 +3,7 @@ from __future__ import annotations
 
 import time
 from collections.abc import Mapping
-from dataclasses import asdict, replace
+from dataclasses import replace
 
 from ..common.instructions import Instructions, NoInstructions, Urgency, due_time
 from ..common.instructions_file import changing, read_file
@@ -11,6 +11,7 @@ from ..desk.client import Desk
 from .journal import FaultLog
 from .messages import Line
 from .page_state import Shown
+from .shown_rows import CLOSED, JOB, URGENCY, Kind, RowT, ShownClosed, ShownUrgency
 
 EVERY = 1.0  # seconds from one look at the file to the next
 
@@ -42,14 +43,24 @@ class Instructed:
         except NoInstructions as wrong:
             found, fault = Instructions(), str(wrong)
         self.faults.tell(fault)
-        live = self.shown.all('job')
-        jobs = {job: asdict(one) for job, one in found.jobs.items() if job in live}
+        live = self.shown.all(JOB)
+        self._show(
+            URGENCY, {job: shown_urgency(one) for job, one in found.jobs.items() if job in live}
+        )
         closed = {f'node {name}' for name in found.nodes} | {f'edge {name}' for name in found.edges}
-        for kind, rows in (('urgency', jobs), ('closed', dict.fromkeys(closed, {'closed': True}))):
-            for name in self.shown.all(kind).keys() - rows.keys():
-                self.shown.put(kind, name, None)
-            for name, row in rows.items():
-                self.shown.put(kind, name, row)
+        self._show(CLOSED, {name: ShownClosed(closed=True) for name in closed})
+
+    def _show(self, kind: Kind[RowT], rows: Mapping[str, RowT]) -> None:
+        """Shows these rows of a kind, and no others."""
+        for name in self.shown.all(kind).keys() - rows.keys():
+            self.shown.put(kind, name, None)
+        for name, row in rows.items():
+            self.shown.put(kind, name, row)
+
+
+def shown_urgency(one: Urgency) -> ShownUrgency:
+    """Returns how urgent a job is, as the page has it."""
+    return {'due': one.due, 'priority': one.priority, 'truck': one.truck, 'place': one.place}
 
 
 def urgency_of(said: Mapping[str, str]) -> Urgency:

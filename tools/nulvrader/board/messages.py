@@ -17,12 +17,14 @@ import os
 import re
 from collections.abc import Mapping, Sequence
 from dataclasses import dataclass, field
-from typing import Any
 
 FILE = os.path.join(os.path.dirname(__file__), 'page', 'messages.json')
 LANGUAGES = ('en', 'de')
 JOINED = {'said': ' ', 'list': ', ', 'parts': ': '}  # what stands between sentences
 VALUE = re.compile(r'\{(\w+)(?:\|(\w+)(?::(\w+))?)?\}')
+
+# A sentence as pages get it: the name of its row, and its values.
+ToldLine = list[str | dict[str, object]]
 
 
 @dataclass(frozen=True)
@@ -30,24 +32,24 @@ class Line:
     """A sentence of the table, with its values. The page says it in its language."""
 
     name: str
-    values: Mapping[str, Any] = field(default_factory=dict)
+    values: Mapping[str, object] = field(default_factory=dict)
 
     def words(self, language: str = 'en') -> str:
         """Returns the sentence."""
         return say(self.name, self.values, language)
 
-    def told(self) -> list[Any]:
+    def told(self) -> ToldLine:
         """Returns the sentence as the page has it: its name and its values."""
         return [self.name, dict(self.values)]
 
 
-def told(lines: Sequence[Line]) -> list[Any]:
-    """Sentences as the page has them."""
+def told(lines: Sequence[Line]) -> list[ToldLine]:
+    """Returns sentences as the page has them."""
     return [line.told() for line in lines]
 
 
 def words_of(lines: Sequence[Line], between: str = ' ') -> str:
-    """Sentences in English."""
+    """Returns sentences in English."""
     return between.join(line.words() for line in lines)
 
 
@@ -64,7 +66,7 @@ def has(name: str) -> bool:
     return name in table()
 
 
-def say(name: str, values: Mapping[str, Any] | None = None, language: str = 'en') -> str:
+def say(name: str, values: Mapping[str, object] | None = None, language: str = 'en') -> str:
     """Returns the text of a row with these values. Where there is no such row it is its name."""
     row = table().get(name)
     if row is None:
@@ -75,15 +77,15 @@ def say(name: str, values: Mapping[str, Any] | None = None, language: str = 'en'
         member, how, of = found.groups()
         if how == 'text':
             return say(f'{of}.{known.get(member)}', known, language)
-        says = known.get(of or 'says') if how in JOINED else None
-        if how in JOINED and says:
+        says = known.get(of or 'says')
+        if how in JOINED and isinstance(says, list) and says:
             return JOINED[how].join(say(name, parts, language) for name, parts in says)
         return _value(known.get(member, ''), how, of, language)
 
     return VALUE.sub(put, row[language])
 
 
-def _value(value: Any, how: str | None, of: str | None, language: str) -> str:
+def _value(value: object, how: str | None, of: str | None, language: str) -> str:
     """Returns a value as a text has it."""
     if how == 'place':
         return place(str(value), language)

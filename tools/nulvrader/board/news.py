@@ -5,10 +5,9 @@ from __future__ import annotations
 from collections import OrderedDict
 from collections.abc import Mapping
 from dataclasses import dataclass
-from typing import Any
 
 from .causes import Calls, Matches
-from .events import Cause, Event, told
+from .events import Cause, Event, ToldEvent, told
 from .messages import Line
 from .page_state import EVENTS, Shown
 from .record import Record
@@ -43,7 +42,7 @@ class News:
         self.cancelling: set[str] = set()  # the open orders that are being cancelled
         self.reasons: dict[str, list[Line]] = {}  # by vehicle why it is not ready, in its words
         self._looked: dict[str, int] = {}
-        self._waiting: list[dict[str, Any]] = []
+        self._waiting: list[ToldEvent] = []
         for event in record.last_events(EVENTS):
             shown.event(event)
 
@@ -55,7 +54,7 @@ class News:
         *,
         before: str | None = None,
         after: str | None = None,
-        more: Mapping[str, Any] | None = None,
+        more: Mapping[str, object] | None = None,
     ) -> None:
         """Notes what happened: `what`, as `load.picked`, whose first part is its family; `about`
         names the things."""

@@ -5,12 +5,12 @@ from __future__ import annotations
 import time
 from collections.abc import Mapping, Sequence
 from dataclasses import dataclass
-from typing import Any
 
 from ..common.layouts import Layout
 from .messages import Line
 from .previews import Look, vehicle_here
 from .scene import Scene
+from .shown_rows import ShownVehicle
 
 Walk = list[tuple[str, str]]  # edges, each with the node that it leads to
 
@@ -119,12 +119,12 @@ def advance(scene: Scene, said: Mapping[str, str]) -> Look:
         look.warn(True, 'no.order')
         look.values['edges'] = said['edges'] if said['edges'] not in WAYS else '0'
         return look
-    look.values |= {'order': vehicle['order_name'], 'update': str(vehicle['sent'] + 1)}
-    base, first = vehicle['base'], way['first']
-    walk = list(zip(way['edges'][base - first :], way['nodes'][base - first + 1 :]))
+    # A vehicle with an order has both numbers.
+    update, base = (vehicle['sent'] or 0) + 1, (vehicle['base'] or 0) - way['first']
+    look.values |= {'order': vehicle['order_name'], 'update': str(update)}
+    walk = list(zip(way['edges'][base:], way['nodes'][base + 1 :]))
     edges = released(scene, look, name, walk, None)
     look.warn(edges == 0, 'none.free')
-    update = vehicle['sent'] + 1
     look.say('advance', vehicle=name, order=vehicle['order_name'], update=update)
     _say_way(look, walk, edges)
     look.warn(edges > len(walk), 'edges.left', count=len(walk))
@@ -182,7 +182,7 @@ def _say_begin(look: Look, walk: Walk, edges: int) -> None:
     look.warn(len(walk) > LONGEST, 'order.long', count=len(walk))
 
 
-def _check_can_begin(look: Look, name: str, vehicle: Mapping[str, Any]) -> None:
+def _check_can_begin(look: Look, name: str, vehicle: ShownVehicle) -> None:
     """Warns where the desk would refuse this vehicle any order: it is not ready, has an order, or
     is astray."""
     order = vehicle['order_name']

@@ -7,14 +7,17 @@ import secrets
 import threading
 from collections import OrderedDict, deque
 from dataclasses import dataclass
-from typing import Any
+from typing import cast
+
+from .events import ToldEvent
+from .shown_rows import Kind, RowT
 
 EVENTS = 300  # that a page is told at most
 KEPT = 32  # texts that were made for pages of different versions
 GONE = 10_000  # names that were taken away, of which pages are still told so
 
 
-def json_of(what: Any) -> str:
+def json_of(what: object) -> str:
     """Returns what pages are told, as JSON."""
     return json.dumps(what, separators=(',', ':'))
 
@@ -24,7 +27,7 @@ class Value:
     """A value, the version at which it came to be so, and how pages are told of it."""
 
     version: int
-    value: Any
+    value: object
     text: str
 
 
@@ -46,7 +49,7 @@ class Shown:
         self._gone: deque[tuple[int, tuple[str, str]]] = deque()
         self._least = 0  # a page with an older version is told all
 
-    def put(self, kind: str, name: str, value: Any) -> bool:
+    def put(self, kind: Kind[RowT], name: str, value: RowT | None) -> bool:
         """Puts a value, where it differs from the one that stands. None takes the name away, and
         pages are told so."""
         with self._lock:
@@ -75,25 +78,25 @@ class Shown:
             self._values.clear()
             self._gone.clear()
 
-    def event(self, event: dict[str, Any]) -> None:
+    def event(self, event: ToldEvent) -> None:
         """Adds a line to what happened."""
         with self._lock:
             self._version += 1
             self._events.append((self._version, json_of(event)))
 
-    def get(self, kind: str, name: str) -> Any:
+    def get(self, kind: Kind[RowT], name: str) -> RowT | None:
         """Returns the value, or None."""
         with self._lock:
             found = self._values.get((kind, name))
-            return None if found is None else found.value
+            return None if found is None else cast(RowT | None, found.value)
 
-    def all(self, kind: str) -> dict[str, Any]:
+    def all(self, kind: Kind[RowT]) -> dict[str, RowT]:
         """Returns all values of a kind, by their names."""
         with self._lock:
             found = [
                 (name, value.value) for (of, name), value in self._values.items() if of == kind
             ]
-        return {name: value for name, value in found if value is not None}
+        return {name: cast(RowT, value) for name, value in found if value is not None}
 
     def newer(self, run: str, version: int) -> bytes:
         """Returns what is newer than a version of a run, of another run all that is, as the members

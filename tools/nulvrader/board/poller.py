@@ -8,9 +8,9 @@ import functools
 import sqlite3
 import threading
 import time
-from collections.abc import Callable, Mapping, Sequence
+from collections.abc import Callable, Sequence
 from dataclasses import dataclass
-from typing import Any, Protocol, TypeVar
+from typing import Protocol, TypeVar
 
 from ..desk.client import Desk, NoAnswer, NotADesk, Refused
 from ..common.names import VehicleKey
@@ -26,6 +26,7 @@ from .journal import log
 from .messages import Line, told
 from .news import News
 from .same_desk import OtherDesk, Same
+from .shown_rows import DESK, FAULT, ShownDesk, ShownFault
 from .stock import Stores
 from .uses import Uses
 from .progress import way_of
@@ -208,7 +209,7 @@ class Asker(threading.Thread):
         log(line.words())
         while True:
             self.news.roll_back()
-            self.news.shown.put('fault', 'record', {'words': line.words(), 'says': [line.told()]})
+            self.news.shown.put(FAULT, 'record', ShownFault(words=line.words(), says=[line.told()]))
             if self.over.wait(WRITE_AGAIN):
                 return
             try:
@@ -307,20 +308,20 @@ class Asker(threading.Thread):
         """Shows that the desk does not answer, or that another one does. Where that is new, it is
         an entry of the record too, and a line of the log where the answers are to blame."""
         words, other = printable(str(fault), MOST), isinstance(fault, OtherDesk)
-        more = {'fault': words, 'says': told([fault_of(fault)])}
+        says = told([fault_of(fault)])
+        more = {'fault': words, 'says': says}
         if self.up is not False or self.other != other:
             self.news.at = self.since = now()
             self.news.event(f'desk.{"other" if other else "down"}', BOARD, {}, more=more)
             self.news.record.desk(self.since, words)
             if other or isinstance(fault, NotADesk):
                 log(f'Another desk answers: {words} {ASIDE}' if other else words)
-        self._show_desk(False, more, other)
+        self._show_desk(ShownDesk(up=False, since=self.since, fault=words, other=other, says=says))
 
-    def _show_desk(self, up: bool, more: Mapping[str, Any], other: bool = False) -> None:
-        """Shows whether the desk answers; `more` says why it does not."""
-        self.up, self.other = up, other
-        row = {'up': up, 'since': self.since, 'fault': None, 'other': other, **more}
-        self.news.shown.put('desk', '', row)
+    def _show_desk(self, row: ShownDesk) -> None:
+        """Shows whether the desk answers, and why it does not."""
+        self.up, self.other = row['up'], row['other']
+        self.news.shown.put(DESK, '', row)
 
     def ask_first(self) -> None:
         """Asks a desk that has not answered whether it is the one of the record, and then what it
@@ -336,7 +337,7 @@ class Asker(threading.Thread):
             self.news.event('desk.up', BOARD, {})
         self.since = self.news.at
         self.news.record.desk(self.since, None)
-        self._show_desk(True, {})
+        self._show_desk(ShownDesk(up=True, since=self.since, fault=None, other=False))
         self.stores.needs_export = True
         self.fleet.again()
 

@@ -4,11 +4,11 @@ from __future__ import annotations
 
 from collections.abc import Mapping
 from dataclasses import dataclass, field
-from typing import Any
 
 from ..common.names import natural, new_reference
 from .scene import Scene
 from .messages import Line
+from .shown_rows import CLOSED, VEHICLE, ShownLoad, ShownVehicle
 
 Values = dict[str, str]
 
@@ -138,7 +138,7 @@ def resume_all(scene: Scene, said: Mapping[str, str]) -> Look:
 
 def _instant_all(scene: Scene, said: Mapping[str, str], what: str, paused: bool) -> Look:
     """Returns what all vehicles are told that are so, and which of them can't be told now."""
-    vehicles = scene.shown.all('vehicle')
+    vehicles = scene.shown.all(VEHICLE)
     names = [
         name for name in sorted(vehicles, key=natural) if bool(vehicles[name]['paused']) == paused
     ]
@@ -189,7 +189,7 @@ def place_of(station: str) -> str:
     return f'station {station}' if station else 'checking'
 
 
-def vehicle_here(scene: Scene, look: Look, name: str) -> dict[str, Any] | None:
+def vehicle_here(scene: Scene, look: Look, name: str) -> ShownVehicle | None:
     """Returns a vehicle of the desk; where there is none of that name, None and a warning."""
     vehicle = scene.vehicle(name)
     look.warn(vehicle is None, 'no.vehicle', vehicle=name)
@@ -207,7 +207,7 @@ def _check_room(scene: Scene, look: Look, station: str) -> None:
         look.warn(scene.room(station) == 0, 'full', **scene.room_of(station))
 
 
-def _load_here(scene: Scene, look: Look, load: str) -> dict[str, Any] | None:
+def _load_here(scene: Scene, look: Look, load: str) -> ShownLoad | None:
     """Returns a load that is in the warehouse; where none of that name is, None and a warning."""
     known = scene.load(load)
     look.warn(known is None, 'no.load', load=load)
@@ -221,7 +221,7 @@ def _check_no_job(scene: Scene, look: Look, load: str) -> None:
     look.warn(job is not None, 'in.job', load=load, job=job)
 
 
-def _check_not_pending(look: Look, vehicle: Mapping[str, object] | None) -> None:
+def _check_not_pending(look: Look, vehicle: ShownVehicle | None) -> None:
     pending = str(vehicle['pending']) if vehicle and vehicle['pending'] else None
     look.warn(pending is not None, 'pending', action=pending)
 
@@ -241,7 +241,7 @@ def close(scene: Scene, said: Mapping[str, str]) -> Look:
     """Returns what it is to close a node or an edge."""
     look = Look(dict(said))
     look.say('close', thing=said['thing'])
-    look.warn(scene.shown.get('closed', said['thing']) is not None, 'close.is')
+    look.warn(scene.shown.get(CLOSED, said['thing']) is not None, 'close.is')
     return look
 
 
@@ -249,5 +249,5 @@ def reopen(scene: Scene, said: Mapping[str, str]) -> Look:
     """Returns what it is to open a node or an edge."""
     look = Look(dict(said))
     look.say('open', thing=said['thing'])
-    look.warn(scene.shown.get('closed', said['thing']) is None, 'open.is')
+    look.warn(scene.shown.get(CLOSED, said['thing']) is None, 'open.is')
     return look

@@ -13,10 +13,10 @@ import sqlite3
 import threading
 import time
 from collections.abc import Mapping, Sequence
-from typing import Any, Protocol
+from typing import Any, Protocol, cast
 
 from ..common.text import shown
-from .events import ABOUT, Event, cut, json_of, values_cut
+from .events import ABOUT, Event, ToldEvent, cut, json_of, values_cut
 from .record_tables import MOST, MOVES, OLD, PORTION, SCHEMA, VERSION
 
 # The columns of an entry, without its number, and with it.
@@ -60,13 +60,13 @@ def event_row(at: int, event: Event) -> list[Any]:
     return [*row, event.before, event.after, json_of(event.more) if event.more else None]
 
 
-def entry_of(row: Sequence[Any]) -> dict[str, Any]:
+def entry_of(row: Sequence[Any]) -> ToldEvent:
     """Returns an entry as the page has it, of a row by `EVENT`."""
     found = dict(zip(EVENT, row))
     found['at'], found['text'] = moment_of(found['at']), found.pop('words')
     if found['more'] is not None:
         found['more'] = json.loads(found['more'])
-    return {name: value for name, value in found.items() if value is not None}
+    return cast(ToldEvent, {name: value for name, value in found.items() if value is not None})
 
 
 def opened(path: str, wait: float = 10.0) -> sqlite3.Connection:
@@ -301,7 +301,7 @@ class Record:
             self._put(INSERT_EVENT, event_row(at, event))
             return int(self.rows('SELECT last_insert_rowid()')[0][0])
 
-    def last_events(self, count: int) -> list[dict[str, Any]]:
+    def last_events(self, count: int) -> list[ToldEvent]:
         """Returns the last entries, the newest last, as the page has them."""
         question = f'SELECT {", ".join(EVENT)} FROM events ORDER BY n DESC LIMIT ?'
         return [entry_of(row) for row in self.rows(question, (count,))][::-1]

@@ -1,21 +1,29 @@
 """What changes, as the page and the record are told: rows, and parts of sentences."""
 from __future__ import annotations
 
-from typing import Any
+from collections.abc import Sequence
+from typing import cast
 
 from ..desk.client import VehicleRow
 from .live_jobs import LiveJob
 from .messages import Line
 from .progress import Way
+from .shown_rows import Rest, ShownAct, ShownJob, ShownVehicle, ShownWait, ShownWay, VehicleColumns
 from .waits import Wait
 
-# The members of a job that the page is told.
-JOB = ('load', 'origin', 'target', 'phase', 'order', 'vehicle', 'added', 'began')
 
-
-def job(told: LiveJob) -> dict[str, Any]:
+def job(told: LiveJob) -> ShownJob:
     """Returns a job as the page has it."""
-    return {name: getattr(told, name) for name in JOB}
+    return {
+        'load': told.load,
+        'origin': told.origin,
+        'target': told.target,
+        'phase': told.phase,
+        'order': told.order,
+        'vehicle': told.vehicle,
+        'added': told.added,
+        'began': told.began,
+    }
 
 
 def stops(told: Way) -> list[Line]:
@@ -26,7 +34,7 @@ def stops(told: Way) -> list[Line]:
     return acts or [Line('stop.drive', {'node': told.nodes[-1]})]
 
 
-def vehicle(row: VehicleRow) -> dict[str, Any]:
+def vehicle(row: VehicleRow) -> VehicleColumns:
     """Returns how a vehicle is, by the columns of `vehicles`."""
     return {
         'node': row.node,
@@ -44,9 +52,23 @@ def vehicle(row: VehicleRow) -> dict[str, Any]:
     }
 
 
-def way(told: Way) -> dict[str, Any]:
+def shown_vehicle(
+    values: VehicleColumns,
+    *,
+    loads: Sequence[str],
+    rest: Rest | None,
+    silent: int | None,
+    heard: bool,
+    unready: int | None,
+) -> ShownVehicle:
+    """Returns how a vehicle is, as the page has it."""
+    more = {'loads': loads, 'rest': rest, 'silent': silent, 'heard': heard, 'unready': unready}
+    return cast(ShownVehicle, {**values, **more})
+
+
+def way(told: Way) -> ShownWay:
     """Returns the way of an order as the page draws it."""
-    acts = [
+    acts: list[ShownAct] = [
         {'kind': act.kind, 'load': act.load, 'station': act.station, 'at': act.at}
         for act in told.acts
     ]
@@ -59,7 +81,7 @@ def way(told: Way) -> dict[str, Any]:
     }
 
 
-def wait(told: Wait, at: int) -> dict[str, Any]:
+def wait(told: Wait, at: int) -> ShownWait:
     """Returns which thing a vehicle waits for, and who holds it."""
     return {
         'kind': told.thing[0],

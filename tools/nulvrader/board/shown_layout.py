@@ -1,7 +1,6 @@
 """The layout as the page draws it, which is kept, so that it is there while no desk answers."""
 from __future__ import annotations
 
-from typing import Any
 
 from ..common.layouts import Layout, read_layout
 from ..common.names import natural
@@ -10,6 +9,7 @@ from ..drawing.positions import Point, positions
 from .journal import log
 from .messages import Line
 from .news import News
+from .shown_rows import FAULT, LAYOUT, DrawnLayout, ShownFault
 
 NONE = Layout((), {}, {})
 
@@ -43,12 +43,11 @@ class ShownLayout:
             return None
         missing = self.plan.missing(layout)
         if not missing:
-            self.news.shown.put('fault', 'plan', None)
+            self.news.shown.put(FAULT, 'plan', None)
             return self.plan
         line = Line('plan.lacks', {'path': self.plan.path, 'nodes': missing})
         log(line.words())
-        told = {'words': line.words(), 'says': [line.told()]}
-        self.news.shown.put('fault', 'plan', told)
+        self.news.shown.put(FAULT, 'plan', ShownFault(words=line.words(), says=[line.told()]))
         return None
 
     def _put(self, layout: Layout, places: dict[str, Point]) -> None:
@@ -56,26 +55,26 @@ class ShownLayout:
         self.layout = layout
         plan = self._fitting(layout)
         if plan is not None:
-            told = {**drawn(layout, plan.places(layout)), **drawn_plan(layout, plan)}
+            told = drawn(layout, plan.places(layout))
+            told['metre'], told['picture'] = round(plan.unit(layout), 4), drawn_box(layout, plan)
         else:
             is_whole = places.keys() >= set(layout.nodes)
             told = drawn(layout, places if is_whole else positions(layout))
-        self.news.shown.put('layout', '', told)
+        self.news.shown.put(LAYOUT, '', told)
 
 
-def drawn_plan(layout: Layout, plan: FloorPlan) -> dict[str, Any]:
-    """Returns what the page draws of a plan: how long a metre is, and where the picture lies."""
+def drawn_box(layout: Layout, plan: FloorPlan) -> list[float] | None:
+    """Returns where the page draws the picture of a plan, if it has one."""
     box = plan.picture_box(layout)
-    picture = None if box is None else [round(number, 1) for number in box]
-    return {'metre': round(plan.unit(layout), 4), 'picture': picture}
+    return None if box is None else [round(number, 1) for number in box]
 
 
-def drawn(layout: Layout, places: dict[str, Point]) -> dict[str, Any]:
+def drawn(layout: Layout, places: dict[str, Point]) -> DrawnLayout:
     """Returns the layout as the page draws it, each kind in the order of the names."""
     stations = [layout.stations[name] for name in sorted(layout.stations, key=natural)]
     nodes = sorted(layout.nodes, key=natural)
     return {
-        'nodes': [[node, round(places[node][0], 1), round(places[node][1], 1)] for node in nodes],
-        'edges': [[edge.name, edge.start, edge.finish] for edge in layout.edges.values()],
-        'stations': [[station.name, station.node, station.capacity] for station in stations],
+        'nodes': [(node, round(places[node][0], 1), round(places[node][1], 1)) for node in nodes],
+        'edges': [(edge.name, edge.start, edge.finish) for edge in layout.edges.values()],
+        'stations': [(station.name, station.node, station.capacity) for station in stations],
     }

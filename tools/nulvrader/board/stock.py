@@ -11,6 +11,7 @@ from .events import UNSEEN, VEHICLE, Cause
 from .live_jobs import Jobs, LiveJob
 from .news import News
 from .record import moment_of, text_of
+from .shown_rows import COUNTS, JOB, LOAD, STATION, ShownCounts, ShownLoad, ShownStation
 
 HANDS = ('correct', 'stocktake')  # the calls that move a load in the records
 STOPPED = {'cancelled': 'cancelled', 'placed': 'placed', 'broken': 'cancelled', 'ended': 'failed'}
@@ -34,7 +35,7 @@ class Stores:
         for name, place, since in loads:
             self.places[name] = place
             self.since[name] = None if since is None else moment_of(since)
-            self.news.shown.put('load', name, {'place': place, 'since': self.since[name]})
+            self.news.shown.put(LOAD, name, ShownLoad(place=place, since=self.since[name]))
         self.left = record.rows("SELECT count(*) FROM loads WHERE place = 'left'")[0][0]
         self.first = not (self.places or self.left or record.has_look('stock'))
         times = 'added, began, ended, picked, dropped'
@@ -43,7 +44,7 @@ class Stores:
         moments = ([None if at is None else moment_of(at) for at in row[7:]] for row in rows)
         self.jobs.restore(LiveJob(*row[:7], *times) for row, times in zip(rows, moments))
         for job in self.jobs.live.values():
-            self.news.shown.put('job', job.name, sentences.job(job))
+            self.news.shown.put(JOB, job.name, sentences.job(job))
 
     def take_stock(self, stock: Stock) -> None:
         """Takes the stock report."""
@@ -58,11 +59,16 @@ class Stores:
         self.first = False
         for station in stock.stations.values():
             taken, row = len(station.loads), (station.name, station.node, station.capacity)
-            told = {'taken': taken, 'reserved': station.reserved}
-            if self.news.shown.put('station', station.name, told):
+            told = ShownStation(taken=taken, reserved=station.reserved)
+            if self.news.shown.put(STATION, station.name, told):
                 self.news.record.station(*row, taken, station.reserved)
-        counts = {'loads': len(places), 'checking': len(stock.checking), 'left': stock.left}
-        self.news.shown.put('counts', '', {**counts, 'jobs': stock.live_jobs()})
+        counts = ShownCounts(
+            loads=len(places),
+            checking=len(stock.checking),
+            left=stock.left,
+            jobs=stock.live_jobs(),
+        )
+        self.news.shown.put(COUNTS, '', counts)
         self.needs_export = self.needs_export or stock.left != self.left
         self.jobs.take_places(places, self.news.looked('vehicles'))
 
@@ -76,10 +82,10 @@ class Stores:
         if place == 'left':
             del self.places[load], self.since[load]
             self.left += 1
-            self.news.shown.put('load', load, None)
+            self.news.shown.put(LOAD, load, None)
         else:
             self.places[load], self.since[load] = place, since
-            self.news.shown.put('load', load, {'place': place, 'since': since})
+            self.news.shown.put(LOAD, load, ShownLoad(place=place, since=since))
 
     def _tell_move(self, load: str, before: str | None, after: str, is_unseen: bool) -> None:
         """Tells of a move by what may have caused it: a load with a live job is moved by its
@@ -149,13 +155,13 @@ class Stores:
         self.jobs.take(jobs, self.news.at, self.first, is_unseen)
 
     def _job(self, job: LiveJob) -> None:
-        before = self.news.shown.get('job', job.name)
+        before = self.news.shown.get(JOB, job.name)
         is_live = job.ended is None
         is_new = before is None and job.added is not None
         told: tuple[str, Cause] | None = None
         if is_new or (before is not None and before['phase'] != job.phase):
             told = self._tell_job(job, is_new)
-        self.news.shown.put('job', job.name, sentences.job(job) if is_live else None)
+        self.news.shown.put(JOB, job.name, sentences.job(job) if is_live else None)
         row = {'job': job.name, 'load': job.load, 'origin': job.origin, 'target': job.target}
         times = {'added': job.added, 'began': job.began, 'ended': job.ended}
         times |= {'picked': job.picked, 'dropped': job.dropped}

@@ -10,6 +10,7 @@ from ..common.tables import Fault, Text
 from .messages import Line
 from .previews import Look
 from .scene import Scene
+from .shown_rows import JOB, LOAD, STATION
 
 MOST = 20  # lines of one kind that are told
 
@@ -53,7 +54,7 @@ def records_of(scene: Scene) -> Records:
     """Returns what the board knows of what the desk has."""
     return Records(
         capacities={station.name: station.capacity for station in scene.layout.stations.values()},
-        places={load: row['place'] for load, row in scene.shown.all('load').items()},
-        jobs={job['load']: name for name, job in scene.shown.all('job').items()},
-        reserved={station: row['reserved'] for station, row in scene.shown.all('station').items()},
+        places={load: row['place'] for load, row in scene.shown.all(LOAD).items()},
+        jobs={job['load']: name for name, job in scene.shown.all(JOB).items()},
+        reserved={station: row['reserved'] for station, row in scene.shown.all(STATION).items()},
     )

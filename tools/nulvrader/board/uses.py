@@ -2,10 +2,9 @@
 on, and `unseen` while nobody looked."""
 from __future__ import annotations
 
-from typing import Any
-
 from .news import News
 from .record import Record, moment_of, text_of
+from .shown_rows import DESK, VEHICLE, WAIT, ShownVehicle
 
 STATES = ('free', 'busy', 'waiting', 'paused', 'not_ready', 'astray', 'silent')
 UNSEEN = 'unseen'
@@ -13,7 +12,7 @@ EVERY = 10_000  # milliseconds from one note of the last look to the next
 UNTIL = 'seen until'  # the row of the table `meta` with the last look
 
 
-def state_of(vehicle: dict[str, Any], waits: bool) -> str:
+def state_of(vehicle: ShownVehicle, waits: bool) -> str:
     """Returns the one of `STATES` in which a vehicle is, the worst one."""
     if vehicle['silent'] is not None:
         return 'silent'
@@ -50,10 +49,10 @@ class Uses:
 
     def turn(self, at: int) -> None:
         """Looks at all vehicles, at a moment."""
-        desk = self.news.shown.get('desk', '')
+        desk = self.news.shown.get(DESK, '')
         is_seen = bool(desk and desk['up'] and not desk['other'])
-        waits = {name for name, wait in self.news.shown.all('wait').items() if wait['stands']}
-        for name, vehicle in self.news.shown.all('vehicle').items():
+        waits = {name for name, wait in self.news.shown.all(WAIT).items() if wait['stands']}
+        for name, vehicle in self.news.shown.all(VEHICLE).items():
             state = state_of(vehicle, name in waits) if is_seen else UNSEEN
             if self.states.get(name) != state:
                 self._change(at, name, state)

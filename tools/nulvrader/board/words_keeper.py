@@ -10,6 +10,7 @@ from typing import Any
 from .events import BOARD, VEHICLE
 from .news import News
 from .record import moment_of
+from .shown_rows import WORDS, ShownWords
 from .vehicle_words import Error, FailedAction, Words
 
 KEEP = 10_000  # milliseconds from one writing of words that say nothing new to the next
@@ -86,8 +87,8 @@ class Keeper:
         said, at = self.said.setdefault(vehicle, KnownWords()), self.news.at
         before, words = said.words, told.over(said.words)
         changes = list(changes_of(before, words))
-        for what, old, new, more in changes:
-            self._tell(vehicle, said, what, (old, new), more)
+        for change in changes:
+            self._tell(vehicle, said, change)
         said.failures &= {one.action for one in words.failed or ()}
         self._note_since(said, words)
         said.words, said.at = words, at
@@ -98,26 +99,20 @@ class Keeper:
             self.news.record.words(at, vehicle, row_of(said))
             self._show(vehicle)
 
-    def _tell(
-        self,
-        vehicle: str,
-        said: KnownWords,
-        what: str,
-        values: tuple[Any, Any],
-        more: Mapping[str, Any],
-    ) -> None:
+    def _tell(self, vehicle: str, said: KnownWords, change: Change) -> None:
         """Makes an entry of a change, unless there were too many of this vehicle."""
-        if what == 'action' and self._is_cancelled(more['id']):
-            return
-        if what == 'action':
-            said.failures |= {more['id']}
+        failed = change.failed
+        if failed is not None:
+            if self._is_cancelled(failed.action):
+                return
+            said.failures |= {failed.action}
         if not self.may_tell(vehicle):
             return
-        if what == 'action':
-            self.news.fails_action(vehicle, more['id'], more['result'])
+        if failed is not None:
+            self.news.fails_action(vehicle, failed.action, failed.result)
+        ends = {'before': change.before, 'after': change.after}
         about = {'vehicle': vehicle}
-        before, after = (None if value is None else str(value) for value in values)
-        self.news.event(f'said.{what}', VEHICLE, about, before=before, after=after, more=more)
+        self.news.event(f'said.{change.what}', VEHICLE, about, **ends, more=change.more)
 
     def may_tell(self, vehicle: str, count: int = 1) -> bool:
         """Counts entries and rows that a vehicle's words make. Whether they may be made; an entry
@@ -178,12 +173,18 @@ class Keeper:
     def _show(self, vehicle: str) -> None:
         said = self.said[vehicle]
         words, since = said.words, said.since
-        errors = [
+        errors: list[dict[str, object]] = [
             {**asdict(error), 'since': since.get(name_of(error))} for error in words.errors or ()
         ]
         self.news.reasons[vehicle] = words.reasons()
-        told = {
-            **{name: getattr(words, name) for name in COLUMNS},
+        told: ShownWords = {
+            'mode': words.mode,
+            'stop': words.stop,
+            'field': words.field,
+            'battery': words.battery,
+            'charging': words.charging,
+            'map': words.map,
+            'connection': words.connection,
             'position': words.position,
             'errors': errors,
             'failed': [asdict(one) for one in words.failed or ()],
@@ -191,33 +192,42 @@ class Keeper:
             'low': said.is_low,
             'at': said.at,
         }
-        self.news.shown.put('said', vehicle, told)
+        self.news.shown.put(WORDS, vehicle, told)
 
 
-Change = tuple[str, Any, Any, Mapping[str, Any]]
+@dataclass(frozen=True)
+class Change:
+    """A change of a vehicle's words that matters: its name, how it was, how it is, and what else
+    its entry says. `failed` is the action, where it is one that has failed."""
+
+    what: str
+    before: str | None = None
+    after: str | None = None
+    more: Mapping[str, object] = field(default_factory=dict)
+    failed: FailedAction | None = None
 
 
 def changes_of(before: Words, words: Words) -> Iterator[Change]:
-    """Yields what has changed that matters: its name, how it was, how it is, and what else there is
-    to say."""
+    """Yields what has changed that matters."""
     for name in ('mode', 'stop', 'connection'):
         old, new = getattr(before, name), getattr(words, name)
         if old != new and (name != 'connection' or old is not None or new != 'ONLINE'):
-            yield name, old, new, {}
+            yield Change(name, old, new)
     if before.field != words.field:
-        yield f'field.{"on" if words.field else "off"}', None, None, {}
+        yield Change(f'field.{"on" if words.field else "off"}')
     old_errors = {name_of(error): error for error in before.errors or ()}
     new_errors = {name_of(error): error for error in words.errors or ()}
     for name, error in new_errors.items():
         if name not in old_errors:
-            yield 'error', None, error.words(), asdict(error)
+            yield Change('error', None, error.words(), asdict(error))
     for name, error in old_errors.items():
         if name not in new_errors:
-            yield 'cleared', error.words(), None, asdict(error)
+            yield Change('cleared', error.words(), None, asdict(error))
     known = {one.action for one in before.failed or ()}
     for one in words.failed or ():
         if one.action not in known:
-            yield 'action', None, None, {'id': one.action, 'type': one.type, 'result': one.result}
+            more = {'id': one.action, 'type': one.type, 'result': one.result}
+            yield Change('action', more=more, failed=one)
 
 
 def row_of(said: KnownWords) -> dict[str, Any]:

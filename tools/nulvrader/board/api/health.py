@@ -5,6 +5,7 @@ from dataclasses import dataclass
 from typing import Any
 
 from ..record import text_of
+from ..shown_rows import ShownDesk
 
 SLOW = 30_000  # milliseconds for which the desk may owe an answer
 STALE = 10.0  # seconds for which the record may be read no more
@@ -51,7 +52,7 @@ class Facts:
     disk, and `newest` the moment of the last event."""
 
     now: int
-    desk: dict[str, Any] | None
+    desk: ShownDesk | None
     asking: int | None
     unwritten: str | None
     unread: str | None

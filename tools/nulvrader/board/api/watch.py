@@ -12,6 +12,7 @@ from typing import Any, Protocol
 
 from ..page_state import Shown
 from ..record import moment_of
+from ..shown_rows import CIRCLES, COUNTS, DESK, FAULT, VEHICLE, WAIT
 from ..uses import STATES, state_of
 from .feed import Feed
 from .health import Facts, Health, reasons_of
@@ -88,12 +89,13 @@ class Watch:
 
     def health(self, feed: Feed) -> Health:
         """Returns whether all is well. It reads no file, so it answers whatever the disk does."""
+        fault = self.shown.get(FAULT, 'record')
         return reasons_of(
             Facts(
                 now=time.time_ns() // 1_000_000,
-                desk=self.shown.get('desk', ''),
+                desk=self.shown.get(DESK, ''),
                 asking=self.asks.asking,
-                unwritten=(self.shown.get('fault', 'record') or {}).get('words'),
+                unwritten=None if fault is None else fault['words'],
                 unread=feed.fault,
                 looked=time.monotonic() - feed.looked,
                 free=self._free(),
@@ -123,10 +125,10 @@ class Watch:
         return ''.join(family.text() for family in families)
 
     def _of_desk(self) -> list[Family]:
-        desk = self.shown.get('desk', '') or {'up': False, 'other': False}
-        other = bool(desk.get('other'))
+        desk = self.shown.get(DESK, '')
+        up, other = (False, False) if desk is None else (desk['up'], desk['other'])
         return [
-            gauge('desk_up', 'Whether the desk answers', int(desk['up'] and not other)),
+            gauge('desk_up', 'Whether the desk answers', int(up and not other)),
             gauge('desk_other', 'Whether another desk answers than that of board.db', int(other)),
             gauge(
                 'desk_last_answer_timestamp_seconds',
@@ -138,15 +140,16 @@ class Watch:
         ]
 
     def _of_plant(self) -> list[Family]:
-        waits = self.shown.all('wait')
+        waits = self.shown.all(WAIT)
         stands = {name for name, wait in waits.items() if wait['stands']}
-        vehicles = self.shown.all('vehicle')
+        vehicles = self.shown.all(VEHICLE)
         states = Tally(state_of(value, name in stands) for name, value in vehicles.items())
-        counts = self.shown.get('counts', '') or {}
+        counts = self.shown.get(COUNTS, '')
+        loads, checking = (0, 0) if counts is None else (counts['loads'], counts['checking'])
         carried = sum(len(value['loads']) for value in vehicles.values())
-        places = {'checking': counts.get('checking', 0), 'vehicle': carried}
-        places['station'] = counts.get('loads', 0) - sum(places.values())
-        circles = self.shown.get('circles', '') or []
+        places = {'checking': checking, 'vehicle': carried}
+        places['station'] = loads - sum(places.values())
+        circles = self.shown.get(CIRCLES, '') or []
         return [
             gauge('vehicles', 'Vehicles by state', _labelled('state', STATES, states)),
             gauge('loads', 'Loads by place', _labelled('place', tuple(places), places)),
