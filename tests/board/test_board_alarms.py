@@ -60,6 +60,32 @@ class OfVehicles(Alarmed):
         words = 'KIT/0001 sends no state; it was at N1'
         self.raised(is_silent, 'silent', words, self.is_so)
 
+    def test_no_state_ever(self) -> None:
+        """A minute after the vehicle was first seen, also where the board was started meanwhile. It
+        is over with the first state; who was heard once is silent, and no alarm of this kind."""
+        for rows in ('vehicles', 'vehicle_states'):
+            self.record._put(f'DELETE FROM {rows}')
+        words = 'KIT/0001 has sent no state yet; it is registered at N1'
+
+        def begin(later: int) -> None:
+            self.row = vehicle(header=None)
+            self.start_again()
+            self.news.shown.put('desk', '', {'up': True, 'other': False, 'since': 1, 'fault': None})
+            self.alarms = Alarms(self.news, LATE)
+            self.look()
+            self.look(later)
+            self.clock.at = self.news.at
+            self.turn()
+
+        def waits() -> None:
+            begin(50_000)
+            self.assertEqual(self.kinds(), {})
+            begin(3_000)
+
+        self.raised(waits, 'unheard', words, self.is_so)
+        begin(70_000)
+        self.assertEqual(list(self.kinds()), ['silent'])
+
     def test_a_load_aboard_without_a_job(self) -> None:
         """After a cancel the vehicle is ready, and takes no order: it is an alarm."""
         self.jobs = {'J1': Job('J1', 'L1', 'A', 'B', ONE, 'O1')}

@@ -28,6 +28,7 @@ SETTLE = (
 SETTLES = ('aboard', 'action')  # the kinds of which that holds
 STAYS = 60_000  # milliseconds from the end of an alarm, in which it flaps where it comes again
 SAID = ('action', 'battery')  # the kinds that are made by what a vehicle says
+UNHEARD = 60_000  # milliseconds from a vehicle's registration, in which its first state is due
 IN_THE_WAY = 60_000  # milliseconds that a vehicle waits for one that has no order
 BLOCKED = 300_000  # and for any other
 JUMP = 5.0  # seconds by which a clock is set that is an alarm
@@ -237,7 +238,7 @@ class Alarms:
         self, stores: Stores, fleet: Fleet, keeper: Keeper | None, layout: Layout, at: int
     ) -> Iterator[Condition]:
         for name, seen in fleet.seen.items():
-            yield from self._of_a_vehicle(name, seen)
+            yield from self._of_a_vehicle(name, seen, at)
             loads = [load for load in fleet.loads.get(name, ()) if stores.jobs.of(load) is None]
             if loads:
                 values = {'vehicle': name, 'load': loads[0], 'loads': loads, 'node': seen.row.node}
@@ -251,12 +252,14 @@ class Alarms:
         yield from self._of_jobs(stores, at)
         yield from self._of_stations(layout)
 
-    def _of_a_vehicle(self, name: str, seen: KnownVehicle) -> Iterator[Condition]:
+    def _of_a_vehicle(self, name: str, seen: KnownVehicle, at: int) -> Iterator[Condition]:
         row, values = seen.row, {'vehicle': name, 'node': seen.row.node}
         if row.astray:
             yield Condition(f'astray {name}', 'astray', 'bad', values)
         elif seen.silent is not None:
             yield Condition(f'silent {name}', 'silent', 'bad', values, seen.silent)
+        elif seen.heard is None and at - seen.first >= UNHEARD:
+            yield Condition(f'unheard {name}', 'unheard', 'warn', values, seen.first)
         elif row.header is not None and not row.ready:
             why = self.news.reasons.get(name) or []
             kind = 'unready' if why else 'unready.unknown'

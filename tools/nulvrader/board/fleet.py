@@ -28,11 +28,12 @@ CALLS = {'startPause': 'pause', 'stopPause': 'resume', 'cancelOrder': 'cancel'}
 class KnownVehicle:
     """What is known of a vehicle: what the desk tells of it, and the way of its open order, None
     until the order's message has told it. `is_asked` says that it was asked for since the vehicle
-    was told of last. `heard` is when the board last saw that a state had come, and `silent` since
-    when none has come, where that is long; `unready` is since when it is not ready. `kept` is the
-    row that the record has."""
+    was told of last. `first` is when the board saw the vehicle first, `heard` when it last saw that
+    a state had come, and `silent` since when none has come, where that is long; `unready` is since
+    when it is not ready. `kept` is the row that the record has."""
 
     row: VehicleRow
+    first: int
     way: Way | None = None
     is_asked: bool = False
     heard: int | None = None
@@ -105,9 +106,7 @@ class Fleet:
     def _take_row(self, name: str, row: VehicleRow, is_unseen: bool) -> None:
         seen = self.seen.get(name)
         if seen is None:
-            seen = self.seen[name] = KnownVehicle(
-                row, heard=None if row.header is None else self.news.at
-            )
+            seen = self.seen[name] = self._met(name, row)
             self._is_new(name, row, is_unseen)
         before, seen.row, seen.is_asked = seen.row, row, False
         self._hear(name, seen, row.header not in (None, before.header))
@@ -124,6 +123,16 @@ class Fleet:
             seen.way = None
         self._tell_changes(name, before, row, is_unseen)
         self._show(name, seen)
+
+    def _met(self, name: str, row: VehicleRow) -> KnownVehicle:
+        """Returns what is known of a vehicle at its first look: since when it is there, as far as
+        the record reaches, and whether a state was ever seen."""
+        first = 'SELECT min(at) FROM vehicle_states WHERE vehicle = ?'
+        ((at,),) = self.news.record.rows(first, (name,))
+        heard = 'SELECT 1 FROM vehicles WHERE vehicle = ? AND heard IS NOT NULL'
+        is_heard = row.header is not None or bool(self.news.record.rows(heard, (name,)))
+        now = self.news.at
+        return KnownVehicle(row, moment_of(at) if at else now, heard=now if is_heard else None)
 
     def _is_new(self, name: str, row: VehicleRow, is_unseen: bool) -> None:
         """Notes a vehicle that was not there as registered, unless the board looks for the first

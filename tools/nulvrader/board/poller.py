@@ -1,7 +1,7 @@
-"""Asks the desk in turn, in a thread of its own: the export of vehicles and the hold report twice a
-second, the export of jobs and the stock report once, and the message of each order that is new.
-The layout is asked for once. A desk that has not answered is asked first whether it is still the
-same."""
+"""Asks the desk in turn, in a thread of its own: the export of vehicles and the hold report each
+half a second, the export of jobs and the stock report nearly as often, and the message of each
+order that is new. The layout is asked for once. A desk that has not answered is asked first whether
+it is still the same."""
 from __future__ import annotations
 
 import functools
@@ -34,9 +34,10 @@ from .words_keeper import Keeper
 from .words_socket import Heard
 
 SLOT = 0.05  # seconds from one request to the next, at least: at most 20 a second
-OFTEN, SOMETIMES, RARELY = 0.5, 1.0, 10.0  # seconds from one question of a kind to the next
+OFTEN, SOMETIMES, RARELY = 0.5, 0.7, 10.0  # seconds from one question of a kind to the next
 SHARE = 10  # times as long as the desk took for an answer, the board waits until it asks again
 OWN = 2  # the same of how long the board itself took for the answer
+ORDERS = 4  # messages of orders at once, where a question is always due by its turn
 AGAIN = 1.0  # seconds from a question that was not answered to the next
 WRITE_AGAIN = 2.0  # seconds from one attempt to write to the record to the next
 OLD_EVERY, OLD_ON = 60.0, 1.0  # seconds until old rows are removed again, and while there are more
@@ -135,6 +136,7 @@ class Asker(threading.Thread):
         self.since = 0  # since when it is so
         self.failed: Question | None = None  # what was not answered last, and is asked again first
         self.old_due = 0.0
+        self.in_turn = 0  # questions in a row that have turns
         self.over = threading.Event()
         self._woken = threading.Event()
 
@@ -269,15 +271,19 @@ class Asker(threading.Thread):
             self.old_due = at + (OLD_ON if is_more else OLD_EVERY)
         if self.up is not True:
             return self.ask_first
-        for turn in self.turns:
-            if at >= turn.due:
-                return turn.ask
+        due = min(self.turns, key=lambda turn: turn.due)  # the one that waits longest
+        if at >= due.due and self.in_turn < len(self.turns):
+            self.in_turn += 1
+            return due.ask
         if not self.drawn.layout.nodes and at >= self.layout.due:
             return self.layout.ask
         if self.stores.needs_export and at >= self.export.due:
             return self.export.ask
-        order = self.fleet.next_order()
-        return None if order is None else functools.partial(self.ask_order, order)
+        count = 1 if self.in_turn < len(self.turns) else ORDERS
+        self.in_turn = 0
+        if self.fleet.next_order() is not None:
+            return functools.partial(self.ask_orders, count)
+        return due.ask if at >= due.due else None
 
     def _told(self, question: Callable[[], T]) -> T:
         """Returns what the desk answers. From now on the news are of this moment."""
@@ -368,6 +374,13 @@ class Asker(threading.Thread):
         loads = read_loads(self._told(self.desk.loads_export))
         self.same.check_export(loads)
         self.stores.take_export(loads)
+
+    def ask_orders(self, count: int) -> None:
+        """Asks for the messages of so many orders that are new."""
+        for _ in range(count):
+            vehicle = self.fleet.next_order()
+            if vehicle is not None:
+                self.ask_order(vehicle)
 
     def ask_order(self, vehicle: VehicleKey) -> None:
         message = self._told(lambda: self.desk.order_message(vehicle))

@@ -23,7 +23,17 @@ from .watched_desk import DeskMeter
 ENDS = ('done', 'stopped', 'cancelled', 'placed', 'failed', 'unseen')
 KINDS = tuple('load job order vehicle said wait desk alarm command refused failed'.split())
 ALARMS = (
-    *('desk', 'other', 'clock', 'disk', 'astray', 'silent', 'unready', 'unready.unknown'),
+    *(
+        'desk',
+        'other',
+        'clock',
+        'disk',
+        'astray',
+        'silent',
+        'unheard',
+        'unready',
+        'unready.unknown',
+    ),
     *('aboard', 'action', 'battery', 'circle', 'shut', 'blocked', 'late', 'full'),
 )
 TIMES = (5, 15, 30, 60, 120, 300, 600, 1200, 1800, 3600, 7200)

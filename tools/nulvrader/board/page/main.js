@@ -12,7 +12,7 @@ import { Store } from './store.js';
 import { Vehicles } from './vehicles.js';
 import { clock, day, many, ordered, span } from './words.js';
 
-const EVERY = 400; // milliseconds from one question to the next
+const EVERY = 400; // milliseconds from one question to the next, where a quarter of them is left
 const HIDDEN = 5000; // while the page is not seen
 const TABS = ['vehicles', 'stock', 'jobs', 'events'];
 
@@ -228,6 +228,7 @@ function takeLayout(layout) {
 let askedOf = ''; // the run of the board that was asked whether commands may be given
 
 async function turn() {
+  const begun = performance.now();
   try {
     const changed = store.take(await answerOf(`data?run=${store.run}&since=${store.version}`));
     if (changed.has('layout')) takeLayout(store.get('layout', ''));
@@ -239,7 +240,8 @@ async function turn() {
   } catch {
     if (store.told) drawHeader();
   }
-  setTimeout(turn, document.hidden ? HIDDEN : EVERY);
+  const left = EVERY - (performance.now() - begun); // what has to be drawn makes it no later
+  setTimeout(turn, document.hidden ? HIDDEN : Math.max(EVERY / 4, left));
 }
 
 function listen() {
