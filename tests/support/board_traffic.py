@@ -268,7 +268,7 @@ class Traffic(threading.Thread):
         self.timed(self.desk.add_job, job, load, station(vehicle.at + vehicle.next))
         vehicle.begins(order, load, vehicle.next)
         stops = [Stop('pick', job), Stop('drop', job)]
-        if self.tried(vehicle, self.desk.start_order, order, vehicle.key, stops=stops):
+        if self.tried(vehicle, self.desk.start_order_of_stops, order, vehicle.key, stops=stops):
             vehicle.next = LENGTH
         else:
             self.desk.stop_job(job)
