@@ -33,6 +33,7 @@ class SearchSpace:
         self.lanes = [lane for lane, _ in on]
         self.starts = [at for _, at in on]
         self.walls = ground.bits(walls)
+        self._meets: list[dict[int, tuple[int, list[int]]] | None] = [None] * len(on)
 
     def start(self) -> State:
         """Returns each vehicle at the beginning of its way, which may be amid its lane."""
@@ -69,7 +70,7 @@ class SearchSpace:
         it is in nobody's way."""
         lane, best = self.lanes[vehicle], state.at[vehicle]
         bits, others = lane.bits, self.others(state, vehicle)
-        if bits[best + 1] & others or not lane.rest[best] & ~shared:
+        if bits[best + 1] & others:
             return best
         if not lane.rest[best] & others:
             return next(
@@ -92,8 +93,11 @@ class SearchSpace:
             moved, left = False, [vehicle for vehicle in left if at[vehicle] < lanes[vehicle].end]
             shared = self.shared(state, left)
             for vehicle in left:
+                lane, index = lanes[vehicle], at[vehicle]
+                if not lane.rest[index] & ~shared or lane.bits[index + 1] & state.taken:
+                    continue  # (most can't)
                 to = self.furthest(state, vehicle, shared)
-                if to > at[vehicle]:
+                if to > index:
                     self.move(state, vehicle, to)
                     moved, shared = True, self.shared(state, left)
 
@@ -147,14 +151,26 @@ class SearchSpace:
 
     def passes(self, state: State, vehicle: int, others: Iterable[int]) -> bool:
         """Whether the vehicle and each of these others can both finish, were the two alone."""
-        lane = self.lanes[vehicle]
-        left = lane.end - state.at[vehicle]
+        left, at = self.lanes[vehicle].end - state.at[vehicle], state.at
+        meets = self._meets[vehicle]
+        if meets is None:
+            meets = self._meets[vehicle] = self.meets(vehicle)
         for other in others:
-            it = self.lanes[other]
-            if other != vehicle and lane.all & it.all:
-                if not self.ground.passes(lane, it)[left] >> it.end - state.at[other] & 1:
+            if other in meets:
+                end, passes = meets[other]
+                if not passes[left] >> end - at[other] & 1:
                     return False
         return True
+
+    def meets(self, vehicle: int) -> dict[int, tuple[int, list[int]]]:
+        """Returns of each other vehicle whose lane has a node in common with that of this one its
+        last index, and from where both can finish."""
+        lane = self.lanes[vehicle]
+        return {
+            other: (it.end, self.ground.passes(lane, it))
+            for other, it in enumerate(self.lanes)
+            if other != vehicle and lane.all & it.all
+        }
 
     def together(self, state: State, goal: Iterable[int]) -> frozenset[int]:
         """Returns those of the goal of which each two can both finish: of two that can't the first
