@@ -6,7 +6,7 @@ import contextlib
 import os
 import sqlite3
 
-from tests.support import endless_pages
+from tests.support import endless_pages, long_chains
 from tests.support.attacked_file import Attack, ran
 from tests.support.hostile_tables import BESIDE, INSTEAD, more
 
@@ -70,6 +70,16 @@ class NoTables(Attack):
         endless_pages.make(self.db, 4 << 30)
         self.assertLess(512 * os.stat(self.db).st_blocks, 2 << 20)
         self.check_readers('the list of tables', 'more steps')
+
+    def test_a_long_text_of_many_rows(self) -> None:
+        """Each row of the list of tables has the same text of ten megabytes, in a file that has
+        little more: no program reads it more often than for some seconds."""
+        long_chains.make(self.db, 20_000)
+        self.assertLess(os.path.getsize(self.db), 14 << 20)
+        for words in (('why', '--db', self.db), ('map', '--db', self.db)):
+            told = ran(*words)
+            self.check_sentence(told, words)
+            self.assertIn('more time', told.text)
 
     def test_more_rows_than_a_desk_has(self) -> None:
         """A table has many more rows than README.md allows: they are not all read into memory or

@@ -26,9 +26,11 @@ PLACE = '/var/lib/nulvrader'
 CLOSED = 'kind,name,due,priority\nnode,N7,,\n'
 KIB = 1024
 LATER = 255  # the status after which systemd tries again
-# Each of so many programs has so many descriptors of one file.
+# Each of so many programs has so many descriptors of one file. Its folder in /proc is root's, since
+# no debugger may look into it.
 MANY = """
-import os, sys, time
+import ctypes, os, sys, time
+ctypes.CDLL(None).prctl(4, 0)
 count, each = map(int, sys.argv[1:])
 file = os.open('/dev/null', os.O_RDONLY)
 for _ in range(count - 1):

@@ -11,6 +11,7 @@ from tests.attacks.machine import AnotherUserOfTheMachine, AnotherUserWithoutSys
 from tests.attacks.clients import OverAUnixSocket
 from tests.attacks.board import OtherUser
 from tests.attacks.local_users import LocalUsers
+from tests.attacks.stuck_programs import StuckPrograms
 
 # A gateway, or a reader, commands by the page of the board or by a path that is read in two ways;
 # no command is unrecorded.
@@ -135,6 +136,7 @@ __all__ = [
     'SilentConnections',
     'Starvation',
     'StuckBoards',
+    'StuckPrograms',
     'TerminalEscapes',
     'Texts',
     'Units',

@@ -18,7 +18,7 @@ def make(path: str, size: int) -> None:
         base.execute('CREATE TABLE a (x TEXT PRIMARY KEY)')
     with open(path, 'rb') as file:
         data = file.read()
-    table, index = _rows_of(data)
+    table, index = rows_of(data)
     first = len(data) // PAGE + 1
     pages = [_leaf([table, index])]
     pages += [_inner([first + level + 2] * CHILDREN) for level in range(LEVELS)]
@@ -32,18 +32,18 @@ def make(path: str, size: int) -> None:
         file.truncate(size)
 
 
-def _rows_of(data: bytes) -> list[bytes]:
+def rows_of(data: bytes) -> list[bytes]:
     """Returns the rows of the first page, the list of tables; each has fewer than 128 bytes."""
     (count,) = struct.unpack_from('>H', data, HEAD + 3)
     starts = struct.unpack_from(f'>{count}H', data, HEAD + 8)
     return [data[at : at + 2 + data[at]] for at in starts]
 
 
-def _page(kind: int, cells: list[bytes], right: bytes, before: int) -> bytes:
-    """Returns a page of these cells, with room at its front for so many bytes."""
-    start = PAGE - sum(map(len, cells))
-    head = struct.pack('>BHHHB', kind, 0, len(cells), start % PAGE, 0) + right
-    pointers, at = b'', PAGE
+def page_of(size: int, kind: int, cells: list[bytes], right: bytes = b'', before: int = 0) -> bytes:
+    """Returns a page of this size and these cells, with room at its front for so many bytes."""
+    start = size - sum(map(len, cells))
+    head = struct.pack('>BHHHB', kind, 0, len(cells), start % 65536, 0) + right
+    pointers, at = b'', size
     for cell in cells:
         at -= len(cell)
         pointers += struct.pack('>H', at)
@@ -51,10 +51,10 @@ def _page(kind: int, cells: list[bytes], right: bytes, before: int) -> bytes:
 
 
 def _leaf(rows: list[bytes]) -> bytes:
-    return _page(13, rows, b'', 0)
+    return page_of(PAGE, 13, rows)
 
 
 def _inner(below: list[int], before: int = 0) -> bytes:
     """Returns a page that names pages below it."""
     cells = [struct.pack('>IB', page, 1) for page in below]
-    return _page(5, cells, struct.pack('>I', below[-1]), before)
+    return page_of(PAGE, 5, cells, struct.pack('>I', below[-1]), before)

@@ -56,8 +56,8 @@ def check_table_names(findings: Findings, path: str) -> None:
         try:
             with opening.opened(path, has_log=has_log) as connection:
                 found = database.tables_of(connection)
-        except sqlite3.Error:
-            if has_log:
+        except sqlite3.Error as error:
+            if has_log or opening.is_bounded(error):
                 raise
             continue
         if found.is_second:

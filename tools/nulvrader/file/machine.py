@@ -12,6 +12,7 @@ import stat
 import time
 from collections.abc import Collection, Iterator
 
+from ..common import processes
 from ..common.text import shown
 
 COMMAND = 400  # the most characters of a command line that are shown
@@ -20,8 +21,8 @@ SEARCH = 5.0  # the most seconds of one search through the descriptors of all pr
 
 @dataclasses.dataclass(frozen=True)
 class Program:
-    """A running program: its number and its command line, which the program can change to any
-    text."""
+    """A running program: its number and its command line or its name, which the program can change
+    to any text."""
 
     pid: int
     command: str
@@ -86,13 +87,14 @@ def programs() -> Iterator[int]:
 
 
 def command_of(pid: int) -> str:
-    """Returns the beginning of a program's command line."""
-    try:
-        with open(f'/proc/{pid}/cmdline', 'rb') as file:
-            said = file.read(4 * COMMAND).rstrip(b'\0').replace(b'\0', b' ')
-            return said.decode(errors='surrogateescape') or 'without words'
-    except OSError:
+    """Returns the beginning of a program's command line, or of another user's its name."""
+    found = processes.words_of(pid, 4 * COMMAND)
+    if found is None:
+        found = processes.name_of(pid)
+    if found is None:
         return 'that has ended since'
+    said = found.rstrip(b'\0').replace(b'\0', b' ')
+    return said.decode(errors='surrogateescape') or 'without words'
 
 
 def open_files(pid: int) -> Iterator[str]:
@@ -110,19 +112,11 @@ def descriptors(users: Collection[int]) -> Iterator[tuple[int, str]]:
     number of the program. It ends after `SEARCH` seconds, since any user may have millions."""
     ends = time.monotonic() + SEARCH
     known = {0, *users}
-    for pid in sorted(programs(), key=lambda pid: (_user_of(pid) not in known, pid)):
+    for pid in sorted(programs(), key=lambda pid: (processes.user_of(pid) not in known, pid)):
         for path in open_files(pid):
             if time.monotonic() > ends:
                 return
             yield pid, path
-
-
-def _user_of(pid: int) -> int | None:
-    """Returns the user of a program; None if it has ended."""
-    try:
-        return os.stat(f'/proc/{pid}').st_uid
-    except OSError:
-        return None
 
 
 def who_has(path: str) -> list[Program]:

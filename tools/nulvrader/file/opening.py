@@ -8,6 +8,7 @@ import fcntl
 import os
 import sqlite3
 import tempfile
+import time
 import urllib.parse
 from collections.abc import Iterator
 from typing import BinaryIO
@@ -26,9 +27,12 @@ LOCKED = 510, 0x40000002
 # SQLite for each byte.
 LARGEST = 4 * 2**30  # the most bytes of a file, and of its log
 # The most steps of a connection: so many, and so many more for each byte.
-STEPS, STEPS_OF_A_BYTE = 2_000_000, 20
+STEPS, STEPS_OF_A_BYTE = 2_000_000, 4
+# The most seconds of a processor from when a file is opened until its rows are read: so many, and
+# one more for so many bytes. A step takes as long as reading a value of 10 MB may.
+SECONDS, BYTES_OF_A_SECOND = 10, 4_000_000
 BLOCK = bytes(1 << 20)
-TURN = 1000  # steps from one count of them to the next
+TURN = 100  # steps from one count of them to the next
 LIMITS = {
     sqlite3.SQLITE_LIMIT_LENGTH: 10_000_000,  # bytes of a value
     sqlite3.SQLITE_LIMIT_EXPR_DEPTH: 200,
@@ -74,10 +78,11 @@ def opened(
         else:
             connection = _as_it_is(path, file)
         stack.callback(connection.close)
+        ends = time.process_time() + SECONDS
         bound(connection)
         # The list of tables is read first, which is small however large the file is.
         connection.execute('SELECT 1 FROM sqlite_master LIMIT 1')
-        _bound_steps(connection, work)
+        _bound_steps(connection, work, ends + work / BYTES_OF_A_SECOND)
         yield connection
 
 
@@ -143,20 +148,30 @@ def _opened_in(folder: int, path: str) -> BinaryIO:
 
 
 def bound(connection: sqlite3.Connection) -> None:
-    """Bounds the steps and the memory of a connection to a small file. A statement that needs more
-    ends with the error `interrupted`, or with MemoryError."""
+    """Bounds the steps, the time and the memory of a connection to a small file. A statement that
+    needs more ends with the error `interrupted`, or with MemoryError."""
     connection.text_factory = any_text
     for limit, most in LIMITS.items():
         connection.setlimit(limit, most)
     for pragma in PRAGMAS:
         connection.execute('PRAGMA ' + pragma)
-    _bound_steps(connection, 0)
+    _bound_steps(connection, 0, time.process_time() + SECONDS)
 
 
-def _bound_steps(connection: sqlite3.Connection, size: int) -> None:
-    """Bounds the steps that a connection to a file of `size` bytes takes from now on."""
+def _bound_steps(connection: sqlite3.Connection, size: int, ends: float) -> None:
+    """Bounds the steps that a connection to a file of `size` bytes takes from now on, and lets it
+    take none once this program has taken so many seconds of a processor."""
     turns = iter(range((STEPS + STEPS_OF_A_BYTE * size) // TURN))
-    connection.set_progress_handler(lambda: next(turns, None) is None, TURN)
+
+    def is_over() -> bool:
+        return next(turns, None) is None or time.process_time() > ends
+
+    connection.set_progress_handler(is_over, TURN)
+
+
+def is_bounded(error: Exception) -> bool:
+    """Whether an error says that a file needs more steps, or more time, than it may."""
+    return getattr(error, 'sqlite_errorcode', None) == sqlite3.SQLITE_INTERRUPT
 
 
 def why_unread(error: Exception) -> str:
@@ -165,8 +180,8 @@ def why_unread(error: Exception) -> str:
         return 'SQLite needs more memory than a file of a desk does'
     if isinstance(error, UnicodeError):
         return 'SQLite names something in it that is no text'
-    if getattr(error, 'sqlite_errorcode', None) == sqlite3.SQLITE_INTERRUPT:
-        return 'SQLite needs more steps than a file of its size does'
+    if is_bounded(error):
+        return 'SQLite needs more steps or more time than a file of its size does'
     return f'SQLite says `{error}`'
 
 

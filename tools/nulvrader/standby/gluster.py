@@ -2,13 +2,13 @@
 The answers are read within bounds: the names in them may be anybody's."""
 from __future__ import annotations
 
-import glob
 import os
 import re
 import subprocess
 import xml.etree.ElementTree as ElementTree
 from dataclasses import dataclass, field
 
+from ..common import processes
 from ..common.plain_files import opened
 
 HERE = os.path.dirname(os.path.abspath(__file__))
@@ -168,13 +168,10 @@ def read_clients(text: str) -> list[Client]:
 
 
 def flags_of(place: str) -> list[str] | None:
-    """Returns the words of the program that serves a mount; None where none is seen."""
-    for path in glob.glob('/proc/[0-9]*/cmdline'):
-        try:
-            with open(path, 'rb') as file:
-                words = file.read(LONGEST).decode(errors='replace').split('\0')
-        except OSError:
-            continue  # it has ended
+    """Returns the words of the program that serves a mount; None where none is seen. Others than
+    root may call their programs so."""
+    for pid in filter(str.isdigit, os.listdir('/proc')):
+        words = (processes.words_of(int(pid), LONGEST) or b'').decode(errors='replace').split('\0')
         if os.path.basename(words[0]) == 'glusterfs' and place in words:
             return words
     return None
