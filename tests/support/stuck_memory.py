@@ -1,7 +1,7 @@
 """A program that holds the lock of its own memory for ever: a page of a file system of its own
 never comes, and a thread waits for it in the middle of a change of the memory. Whoever reads the
 command line of the program in /proc waits for that lock. It needs no rights. It listens on a port,
-and prints a line once it is so."""
+and prints a line once it is so. It ends by itself, since `ps` waits for it, too."""
 from __future__ import annotations
 
 import ctypes
@@ -27,6 +27,7 @@ LIBC.mmap.argtypes = [
 CLONE_NEWUSER, CLONE_NEWNS = 0x10000000, 0x00020000
 PROT_READ, MAP_PRIVATE = 1, 2
 PR_SET_PDEATHSIG = 1
+LIFE = 150  # seconds after which all go on, if nobody has ended this program
 PAGE = 4096
 SIZE = 1 << 20  # bytes of the file
 # What the kernel asks of a file system.
@@ -83,6 +84,7 @@ def mount() -> str:
     check(LIBC.mount(b'stuck', folder.encode(), b'fuse', 6, said.encode()))
     if os.fork() == 0:
         check(LIBC.prctl(PR_SET_PDEATHSIG, signal.SIGKILL))
+        signal.alarm(LIFE)
         serve(device)
     os.close(device)
     return os.path.join(folder, 'file')
