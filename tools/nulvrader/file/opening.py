@@ -30,7 +30,7 @@ LARGEST = 4 * 2**30  # the most bytes of a file, and of its log
 STEPS, STEPS_OF_A_BYTE = 2_000_000, 4
 # The most seconds of a processor from when a file is opened until its rows are read: so many, and
 # one more for so many bytes. A step takes as long as reading a value of 10 MB may.
-SECONDS, BYTES_OF_A_SECOND = 10, 4_000_000
+SECONDS, BYTES_OF_A_SECOND = 10, 1_500_000
 BLOCK = bytes(1 << 20)
 TURN = 100  # steps from one count of them to the next
 LIMITS = {
