@@ -47,7 +47,7 @@ def copied(source: str, name: str) -> str:
     return name
 
 
-class Served:
+class ServedFile:
     """A desk that serves one connection."""
 
     def __init__(self, name: str) -> None:
@@ -84,7 +84,7 @@ class Served:
 
 def times(name: str) -> tuple[dict[str, float], float, int]:
     """Returns the median seconds of each kind of call, and the opening."""
-    desk, calls = Served(name), rounds.Rounds()
+    desk, calls = ServedFile(name), rounds.Rounds()
     found: dict[str, list[float]] = {}
     for turn in range(TURNS + 5):
         for what, bytes_ in calls.round():

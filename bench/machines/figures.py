@@ -77,7 +77,7 @@ def measure_here(program: str, path: str) -> None:
         process.wait()
 
 
-class Figures:
+class Measurements:
     """The measurements, over the machines of a drill."""
 
     def __init__(self, drill: Drill, folder: str) -> None:
@@ -184,4 +184,4 @@ class Figures:
 
 def run(drill: Drill, folder: str, rows: Sequence[int]) -> None:
     """Measures."""
-    Figures(drill, folder).run(rows)
+    Measurements(drill, folder).run(rows)

@@ -24,7 +24,7 @@ HANDED = 60.0  # seconds after which it is looked again who has the desk that is
 
 
 @dataclass
-class Figures:
+class DrillFigures:
     """What was measured, by kind: from the fault to the first answer of the next desk."""
 
     takeovers: dict[str, list[float]] = field(default_factory=dict)
@@ -54,7 +54,7 @@ class Drill:
                 self.desks[machine.number] = Managed(machine, cluster, self.terms)
             else:
                 self.desks[machine.number] = Supervisor(machine, program, self.terms, is_plain)
-        self.records, self.figures = Records(), Figures()
+        self.records, self.figures = Records(), DrillFigures()
         self.sockets = {number: desk.socket for number, desk in self.desks.items()}
         self.traffic: Traffic | None = None
 

@@ -24,7 +24,7 @@ from nulvrader.board.api.webhooks.delivery import Delivery
 from nulvrader.board.api.webhooks.ledger import Ledger, NoLedger, Position
 from nulvrader.board.api.webhooks.receiver import Result
 from nulvrader.board.api.webhooks.sender import LONGEST, Clock, Sender
-from nulvrader.board.api.webhooks.source import Events, NoEvents, OtherRecord
+from nulvrader.board.api.webhooks.source import Events, NoEvents, RecordChanged
 
 
 @dataclass
@@ -38,7 +38,7 @@ class Board:
     def read(self, record: str, after: int, kinds: tuple[str, ...] | None, most: int) -> Events:
         self.asked += 1
         if record not in ('', self.record):
-            raise OtherRecord('another')
+            raise RecordChanged('another')
         last = self.events[-1]['id'] if self.events else 0
         found = [
             one for one in self.events if one['id'] > after and (not kinds or one['kind'] in kinds)

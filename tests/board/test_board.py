@@ -14,7 +14,7 @@ from nulvrader.board.news import News
 from nulvrader.board.record import Record
 from nulvrader.board.page_state import Shown
 from nulvrader.board import shown_rows
-from nulvrader.desk.client import VehicleRow
+from nulvrader.desk.client import ExportedVehicle
 
 PICKED = ('O1.0', 'FINISHED')
 DROPPED = ('O1.1', 'FINISHED')
@@ -292,7 +292,7 @@ class Silent(Watching):
                     *(None, None, None, None),
                     1 + second // every,
                 )
-                fleet.take_vehicles({ONE: VehicleRow(*row, None, None, None, None)})
+                fleet.take_vehicles({ONE: ExportedVehicle(*row, None, None, None, None)})
                 silent.append(shown.all(shown_rows.VEHICLE)['KIT/0001']['silent'])
             wanted = [
                 begun + 1000 * second - 2000 if second % every == 2 else None

@@ -20,7 +20,7 @@ from nulvrader.board.same_desk import Same
 from nulvrader.board.stock import Stores
 from nulvrader.common.layouts import Layout, read_layout
 from nulvrader.common.names import VehicleKey
-from nulvrader.desk.client import Job, VehicleRow
+from nulvrader.desk.client import Job, ExportedVehicle
 
 COUNT = 100
 BEGUN = 1_700_000_000.0
@@ -44,7 +44,7 @@ class MadeUp:
         self.asked.append((self.clock.at, name))
         self.clock.at += self.takes.get(name, 0.0)
 
-    def vehicles(self) -> dict[VehicleKey, VehicleRow]:
+    def vehicles(self) -> dict[VehicleKey, ExportedVehicle]:
         self.note('vehicles')
         return self.rows
 
@@ -76,10 +76,12 @@ class MadeUp:
         return message(key, str(self.rows[key].order), self.rows[key].node)
 
 
-def row_of(key: VehicleKey, node: str) -> VehicleRow:
+def row_of(key: VehicleKey, node: str) -> ExportedVehicle:
     """A vehicle that is ready, and has no order."""
     no_order = None, None, None
-    return VehicleRow(key, node, 1, True, False, False, None, *no_order, 1, None, None, None, None)
+    return ExportedVehicle(
+        key, node, 1, True, False, False, None, *no_order, 1, None, None, None, None
+    )
 
 
 def message(key: VehicleKey, order: str, node: str) -> dict[str, Any]:

@@ -146,7 +146,7 @@ class Commands(OverADesk):
 
     def test_a_name_of_both_kinds(self) -> None:
         known = {'node': {'x'}, 'edge': {'x'}}
-        with self.assertRaisesRegex(instruct.Unknown, 'x is a node and an edge: say which'):
+        with self.assertRaisesRegex(instruct.NoSuchName, 'x is a node and an edge: say which'):
             instruct._found(['x'], ('node', 'edge'), known, '')
         self.assertEqual(
             instruct._found(['x'], ('edge',), known, ''), {'node': set(), 'edge': {'x'}}

@@ -14,17 +14,19 @@ from nulvrader.board.progress import PlacedAct, Way
 from nulvrader.board.record import EVENT, Record
 from nulvrader.board.stock import Stores
 from nulvrader.common.layouts import read_layout
-from nulvrader.desk.client import Job, VehicleRow
+from nulvrader.desk.client import Job, ExportedVehicle
 from nulvrader.desk.reports import StationStock, Stock
 
 BEGUN = 1_700_000_000_000
 CLIENT, VEHICLE, UNSEEN = ('client', None), ('vehicle', None), ('unseen', None)
 
 
-def vehicle(**values: Any) -> VehicleRow:
+def vehicle(**values: Any) -> ExportedVehicle:
     """KIT/0001 as the desk tells of it: at N1, ready, with no order."""
     no_order = None, None, None
-    row = VehicleRow(ONE, 'N1', 1, True, False, False, None, *no_order, 1, None, None, None, None)
+    row = ExportedVehicle(
+        ONE, 'N1', 1, True, False, False, None, *no_order, 1, None, None, None, None
+    )
     return replace(row, **values)
 
 

@@ -63,7 +63,7 @@ class OverADesk(WithADesk):
         self.assertEqual(desk.advance(KIT1, 'O1', 1, 1), 1)
         wanted = client.Vehicle(KIT1, 'N1', 1, True, False, False, None, 'O1', 1, 0, 2)
         self.assertEqual(desk.vehicle(KIT1), wanted)
-        row = client.VehicleRow(**vars(wanted), released=2, edges=2, seen=0, rest=None)
+        row = client.ExportedVehicle(**vars(wanted), released=2, edges=2, seen=0, rest=None)
         self.assertEqual(desk.vehicles(), {KIT1: row})
         self.assertEqual(desk.jobs(), {'J1': client.Job('J1', 'L1', 'A', 'B', KIT1, 'O1')})
         both = [('O1.0', 'FINISHED'), ('O1.1', 'FINISHED')]

@@ -216,10 +216,10 @@ class Released(Tree):
             ('crates/agv_app/src/lib.rt', 'of other sources'),
         ):
             self.change(path, 3)
-            self.assertRaisesRegex(maker.Fault, why, maker.released)
+            self.assertRaisesRegex(maker.NoPackage, why, maker.released)
             self.change(path, 3)
         os.remove(os.path.join(self.top, 'release', 'SHA256SUMS'))
-        self.assertRaisesRegex(maker.Fault, 'there is no release', maker.released)
+        self.assertRaisesRegex(maker.NoPackage, 'there is no release', maker.released)
 
     def test_what_is_unpacked_is_looked_at(self) -> None:
         self.run_desk(*REPLAY)

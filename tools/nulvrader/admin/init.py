@@ -54,8 +54,8 @@ def is_made(db: str, wanted: bytes) -> bool:
     try:
         with stopped_file.opened(db) as connection:
             layout = stopped_file.layout_in(connection)
-            vehicles = stopped_file.rows_in(connection, tables.Vehicle)
-            loads = stopped_file.rows_in(connection, tables.Load)
+            vehicles = stopped_file.rows_in(connection, tables.VehicleRow)
+            loads = stopped_file.rows_in(connection, tables.LoadRow)
             is_used = any(vehicles) or any(loads)
     except stopped_file.Unread as fault:
         raise AdminError(f'there is a file already: {fault}') from None

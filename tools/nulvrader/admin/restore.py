@@ -84,7 +84,7 @@ class Restore:
     def _read(self, connection: sqlite3.Connection) -> None:
         """Reads the layout, the waiting jobs and the vehicles of the copy."""
         self.layout = stopped_file.layout_in(connection)
-        jobs = stopped_file.rows_in(connection, tables.Job)
+        jobs = stopped_file.rows_in(connection, tables.JobRow)
         self.waiting = sorted(job.id for job in jobs if job.phase == 'waiting')
         self.vehicles = sorted(stopped_file.vehicles_in(connection, self.layout))
 

@@ -37,7 +37,7 @@ class BadDay(ValueError):
 
 
 @dataclass(frozen=True)
-class Day:
+class TimeSpan:
     """From which moment to which, in milliseconds since 1970."""
 
     begin: int
@@ -51,7 +51,7 @@ class Day:
 
 
 @dataclass
-class Jobs:
+class JobFigures:
     """What is counted of the jobs that have ended."""
 
     hours: list[int]
@@ -62,12 +62,12 @@ class Jobs:
     ways: list[dict[str, Any]] = field(default_factory=list)
 
 
-def day_of(asked: Mapping[str, str]) -> Day:
+def day_of(asked: Mapping[str, str]) -> TimeSpan:
     """Returns the day that is asked for: `begin` and `end`, at most 26 hours later."""
     ends = [asked.get(name, '') for name in ('begin', 'end')]
     if not all(MOMENT.fullmatch(text) and int(text) < LAST for text in ends):
         raise BadDay
-    day = Day(int(ends[0]), int(ends[1]))
+    day = TimeSpan(int(ends[0]), int(ends[1]))
     if not day.begin < day.end <= day.begin + LONGEST:
         raise BadDay
     return day
@@ -113,9 +113,9 @@ def middle(seconds: list[float]) -> float | None:
     return round(statistics.median(seconds), 1) if seconds else None
 
 
-def jobs_of(base: sqlite3.Connection, day: Day) -> Jobs:
+def jobs_of(base: sqlite3.Connection, day: TimeSpan) -> JobFigures:
     """Returns what is counted of the jobs that have ended in a day."""
-    found = Jobs([0] * -(-(day.end - day.begin) // HOUR))
+    found = JobFigures([0] * -(-(day.end - day.begin) // HOUR))
     times = ', '.join(f'{MOMENTS.format(name)} AS {name}' for name in ('added', 'began', 'ended'))
     question = (
         f'SELECT job, load, origin, target, vehicle, outcome, {times} FROM jobs'
@@ -152,7 +152,7 @@ def longest(ways: list[dict[str, Any]]) -> list[dict[str, Any]]:
 
 
 @dataclass
-class Waits:
+class WaitFigures:
     """How often and for how many seconds vehicles waited, by place and by what the one did that
     held it."""
 
@@ -182,7 +182,7 @@ class Waits:
         }
 
 
-def waits_of(base: sqlite3.Connection, day: Day) -> Waits:
+def waits_of(base: sqlite3.Connection, day: TimeSpan) -> WaitFigures:
     """Returns the waits that lie in a day, at least in part, each with its seconds in it. None that
     lasts has begun more than a day before."""
     state = (
@@ -197,10 +197,10 @@ def waits_of(base: sqlite3.Connection, day: Day) -> Waits:
     )
     values = {**day.values, 'before': text_of(max(0, day.begin - LONGEST))}
     found = base.execute(question, values)
-    return Waits({(row[0], row[1], row[2]): (row['count'], row['seconds']) for row in found})
+    return WaitFigures({(row[0], row[1], row[2]): (row['count'], row['seconds']) for row in found})
 
 
-def uses_of(base: sqlite3.Connection, day: Day) -> dict[str, dict[str, float]]:
+def uses_of(base: sqlite3.Connection, day: TimeSpan) -> dict[str, dict[str, float]]:
     """Returns by vehicle for how many seconds of a day it was in each state."""
     end = moment_of(day.values['end'])
     before = (

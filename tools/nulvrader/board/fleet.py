@@ -6,7 +6,7 @@ from collections.abc import Mapping
 from dataclasses import dataclass, replace
 from typing import Any
 
-from ..desk.client import NotADesk, VehicleRow
+from ..desk.client import NotADesk, ExportedVehicle
 from ..common.names import VehicleKey, natural
 from ..desk.reports import Holds, Stock
 from . import sentences, shown_rows
@@ -32,7 +32,7 @@ class KnownVehicle:
     a state had come, and `silent` since when none has come, where that is long; `unready` is since
     when it is not ready. `kept` is the row that the record has."""
 
-    row: VehicleRow
+    row: ExportedVehicle
     first: int
     way: Way | None = None
     is_asked: bool = False
@@ -90,7 +90,7 @@ class Fleet:
         self.holders = told
         self._wait()
 
-    def take_vehicles(self, rows: Mapping[VehicleKey, VehicleRow]) -> None:
+    def take_vehicles(self, rows: Mapping[VehicleKey, ExportedVehicle]) -> None:
         """Takes the export of vehicles."""
         is_unseen = self.news.look('vehicles')
         for key, row in rows.items():
@@ -103,7 +103,7 @@ class Fleet:
         self.has_looked = True
         self._wait()
 
-    def _take_row(self, name: str, row: VehicleRow, is_unseen: bool) -> None:
+    def _take_row(self, name: str, row: ExportedVehicle, is_unseen: bool) -> None:
         seen = self.seen.get(name)
         if seen is None:
             seen = self.seen[name] = self._met(name, row)
@@ -124,7 +124,7 @@ class Fleet:
         self._tell_changes(name, before, row, is_unseen)
         self._show(name, seen)
 
-    def _met(self, name: str, row: VehicleRow) -> KnownVehicle:
+    def _met(self, name: str, row: ExportedVehicle) -> KnownVehicle:
         """Returns what is known of a vehicle at its first look: since when it is there, as far as
         the record reaches, and whether a state was ever seen."""
         first = 'SELECT min(at) FROM vehicle_states WHERE vehicle = ?'
@@ -134,7 +134,7 @@ class Fleet:
         now = self.news.at
         return KnownVehicle(row, moment_of(at) if at else now, heard=now if is_heard else None)
 
-    def _is_new(self, name: str, row: VehicleRow, is_unseen: bool) -> None:
+    def _is_new(self, name: str, row: ExportedVehicle, is_unseen: bool) -> None:
         """Notes a vehicle that was not there as registered, unless the board looks for the first
         time."""
         is_known = self.news.record.rows('SELECT 1 FROM vehicles WHERE vehicle = ?', (name,))
@@ -142,7 +142,9 @@ class Fleet:
             cause = UNSEEN if is_unseen else Cause('client', call='vehicle')
             self.news.event('vehicle.registered', cause, {'vehicle': name, 'node': row.node})
 
-    def _end_of(self, name: str, before: VehicleRow, row: VehicleRow, is_unseen: bool) -> OrderEnd:
+    def _end_of(
+        self, name: str, before: ExportedVehicle, row: ExportedVehicle, is_unseen: bool
+    ) -> OrderEnd:
         """Returns how an order has ended that was open at the last look. It ends by itself at its
         last node; else it is cancelled, which leaves the vehicle astray or is pending before; or
         the vehicle is placed, which needs no state of it."""
@@ -180,7 +182,7 @@ class Fleet:
         return self._command(call, vehicle) or Cause('client', call=call)
 
     def _tell_changes(
-        self, name: str, before: VehicleRow, row: VehicleRow, is_unseen: bool
+        self, name: str, before: ExportedVehicle, row: ExportedVehicle, is_unseen: bool
     ) -> None:
         """Makes an entry of each change of a vehicle that is worth one."""
 
@@ -213,7 +215,9 @@ class Fleet:
                 cause = self._cause(CALLS.get(row.pending, row.pending), name)
                 tell('told', cause, more={'action': row.pending})
 
-    def _is_placed(self, name: str, before: VehicleRow, row: VehicleRow, is_unseen: bool) -> bool:
+    def _is_placed(
+        self, name: str, before: ExportedVehicle, row: ExportedVehicle, is_unseen: bool
+    ) -> bool:
         """Whether a vehicle was placed: only that takes an astray one back, moves one without an
         order and a state, or ends an order without a state."""
         if before.astray and not row.astray:
@@ -226,7 +230,7 @@ class Fleet:
         return before.order not in (None, row.order) and end is not None and end.how == 'placed'
 
     @staticmethod
-    def _obeys(action: str, row: VehicleRow) -> str:
+    def _obeys(action: str, row: ExportedVehicle) -> str:
         """Returns `obeyed` where a vehicle that reports the end of an instant action is as it was
         told to be, else `disobeyed`."""
         is_so = {'startPause': row.paused, 'stopPause': not row.paused}

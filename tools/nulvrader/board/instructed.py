@@ -11,7 +11,7 @@ from ..desk.client import Desk
 from .journal import FaultLog
 from .messages import Line
 from .page_state import Shown
-from .shown_rows import CLOSED, JOB, URGENCY, Kind, RowT, ShownClosed, ShownUrgency
+from .shown_rows import CLOSED, JOB, URGENCY, ShownKind, RowT, ShownClosed, ShownUrgency
 
 EVERY = 1.0  # seconds from one look at the file to the next
 
@@ -50,7 +50,7 @@ class Instructed:
         closed = {f'node {name}' for name in found.nodes} | {f'edge {name}' for name in found.edges}
         self._show(CLOSED, {name: ShownClosed(closed=True) for name in closed})
 
-    def _show(self, kind: Kind[RowT], rows: Mapping[str, RowT]) -> None:
+    def _show(self, kind: ShownKind[RowT], rows: Mapping[str, RowT]) -> None:
         """Shows these rows of a kind, and no others."""
         for name in self.shown.all(kind).keys() - rows.keys():
             self.shown.put(kind, name, None)

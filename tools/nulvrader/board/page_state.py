@@ -10,7 +10,7 @@ from dataclasses import dataclass
 from typing import cast
 
 from .events import ToldEvent
-from .shown_rows import Kind, RowT
+from .shown_rows import ShownKind, RowT
 
 EVENTS = 300  # that a page is told at most
 KEPT = 32  # texts that were made for pages of different versions
@@ -49,7 +49,7 @@ class Shown:
         self._gone: deque[tuple[int, tuple[str, str]]] = deque()
         self._least = 0  # a page with an older version is told all
 
-    def put(self, kind: Kind[RowT], name: str, value: RowT | None) -> bool:
+    def put(self, kind: ShownKind[RowT], name: str, value: RowT | None) -> bool:
         """Puts a value, where it differs from the one that stands. None takes the name away, and
         pages are told so."""
         with self._lock:
@@ -84,13 +84,13 @@ class Shown:
             self._version += 1
             self._events.append((self._version, json_of(event)))
 
-    def get(self, kind: Kind[RowT], name: str) -> RowT | None:
+    def get(self, kind: ShownKind[RowT], name: str) -> RowT | None:
         """Returns the value, or None."""
         with self._lock:
             found = self._values.get((kind, name))
             return None if found is None else cast(RowT | None, found.value)
 
-    def all(self, kind: Kind[RowT]) -> dict[str, RowT]:
+    def all(self, kind: ShownKind[RowT]) -> dict[str, RowT]:
         """Returns all values of a kind, by their names."""
         with self._lock:
             found = [

@@ -4,7 +4,7 @@ from __future__ import annotations
 from collections.abc import Sequence
 from typing import cast
 
-from ..desk.client import VehicleRow
+from ..desk.client import ExportedVehicle
 from .live_jobs import LiveJob
 from .messages import Line
 from .progress import Way
@@ -34,7 +34,7 @@ def stops(told: Way) -> list[Line]:
     return acts or [Line('stop.drive', {'node': told.nodes[-1]})]
 
 
-def vehicle(row: VehicleRow) -> VehicleColumns:
+def vehicle(row: ExportedVehicle) -> VehicleColumns:
     """Returns how a vehicle is, by the columns of `vehicles`."""
     return {
         'node': row.node,

@@ -10,7 +10,7 @@ from .messages import ToldLine
 RowT = TypeVar('RowT')
 
 
-class Kind(str, Generic[RowT]):
+class ShownKind(str, Generic[RowT]):
     """The name of a kind of values, which says what type these have."""
 
 
@@ -199,20 +199,22 @@ class DrawnLayout(TypedDict):
     picture: NotRequired[list[float] | None]
 
 
-DESK: Kind[ShownDesk] = Kind('desk')
-FAULT: Kind[ShownFault] = Kind('fault')
-LAYOUT: Kind[DrawnLayout] = Kind('layout')
-LOAD: Kind[ShownLoad] = Kind('load')
-STATION: Kind[ShownStation] = Kind('station')
-COUNTS: Kind[ShownCounts] = Kind('counts')
-JOB: Kind[ShownJob] = Kind('job')
-VEHICLE: Kind[ShownVehicle] = Kind('vehicle')
-WAY: Kind[ShownWay] = Kind('way')
-WAIT: Kind[ShownWait] = Kind('wait')
-CIRCLES: Kind[list[list[str]]] = Kind('circles')
-HOLD: Kind[str] = Kind('hold')  # by `node N1` or `edge E12`, the vehicle that holds it
-WORDS: Kind[ShownWords] = Kind('said')
-URGENCY: Kind[ShownUrgency] = Kind('urgency')
-CLOSED: Kind[ShownClosed] = Kind('closed')
-WHY: Kind[str] = Kind('why')  # by vehicle or `job J1`, why it waits as the dispatcher says
-ALARM: Kind[ShownAlarm] = Kind('alarm')
+DESK: ShownKind[ShownDesk] = ShownKind('desk')
+FAULT: ShownKind[ShownFault] = ShownKind('fault')
+LAYOUT: ShownKind[DrawnLayout] = ShownKind('layout')
+LOAD: ShownKind[ShownLoad] = ShownKind('load')
+STATION: ShownKind[ShownStation] = ShownKind('station')
+COUNTS: ShownKind[ShownCounts] = ShownKind('counts')
+JOB: ShownKind[ShownJob] = ShownKind('job')
+VEHICLE: ShownKind[ShownVehicle] = ShownKind('vehicle')
+WAY: ShownKind[ShownWay] = ShownKind('way')
+WAIT: ShownKind[ShownWait] = ShownKind('wait')
+CIRCLES: ShownKind[list[list[str]]] = ShownKind('circles')
+HOLD: ShownKind[str] = ShownKind('hold')  # by `node N1` or `edge E12`, the vehicle that holds it
+WORDS: ShownKind[ShownWords] = ShownKind('said')
+URGENCY: ShownKind[ShownUrgency] = ShownKind('urgency')
+CLOSED: ShownKind[ShownClosed] = ShownKind('closed')
+WHY: ShownKind[str] = ShownKind(
+    'why'
+)  # by vehicle or `job J1`, why it waits as the dispatcher says
+ALARM: ShownKind[ShownAlarm] = ShownKind('alarm')

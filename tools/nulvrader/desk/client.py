@@ -14,7 +14,7 @@ from .errors import NoAnswer, NotADesk, Refused
 from .members import JsonObject, Members, read_object
 from .messages import read_instant_action, read_order
 from .transport import Transport
-from .values import PHASES, Answer, Job, JobPhase, Load, Stocktake, Stop, Vehicle, VehicleRow
+from .values import PHASES, Answer, Job, JobPhase, Load, Stocktake, Stop, Vehicle, ExportedVehicle
 from ..common.names import (
     BadName,
     BadValue,
@@ -42,7 +42,7 @@ __all__ = [
     'Stocktake',
     'Stop',
     'Vehicle',
-    'VehicleRow',
+    'ExportedVehicle',
 ]
 
 
@@ -274,7 +274,7 @@ class Desk(Transport):
         """Returns the live jobs, by their names."""
         return exports.read_jobs(self._bytes('GET', '/export/jobs'))
 
-    def vehicles(self) -> dict[VehicleKey, VehicleRow]:
+    def vehicles(self) -> dict[VehicleKey, ExportedVehicle]:
         """Returns what the desk knows of each vehicle."""
         return exports.read_vehicles(self._bytes('GET', '/export/vehicles'))
 

@@ -9,7 +9,7 @@ from collections.abc import Iterator
 
 from .messages import MOST_EDGES
 from .reports import LOADS, NAME, KEY, VEHICLES, BadReport, no_line, whole_lines
-from .values import Job, VehicleRow
+from .values import Job, ExportedVehicle
 from ..common.layouts import BadLayout, Layout
 from ..common.layouts import read_layout as read_file
 from ..common.names import LARGEST, VehicleKey
@@ -74,11 +74,11 @@ def read_jobs(export: bytes) -> dict[str, Job]:
     return found
 
 
-def read_vehicles(export: bytes) -> dict[VehicleKey, VehicleRow]:
+def read_vehicles(export: bytes) -> dict[VehicleKey, ExportedVehicle]:
     """Reads the vehicles by their keys, in the order of the keys. No two stand at one node or have
     the same order."""
     what = 'an export of vehicles'
-    found: dict[VehicleKey, VehicleRow] = {}
+    found: dict[VehicleKey, ExportedVehicle] = {}
     nodes: set[str] = set()
     orders: set[str | None] = set()
     for line, fields in _rows(export, VEHICLES_HEADER, VEHICLE, what):
@@ -94,11 +94,11 @@ def read_vehicles(export: bytes) -> dict[VehicleKey, VehicleRow]:
     return found
 
 
-def _vehicle(fields: tuple[str, ...]) -> VehicleRow:
+def _vehicle(fields: tuple[str, ...]) -> ExportedVehicle:
     """Reads a vehicle from the fields of its row."""
     manufacturer, serial, node, capacity, ready, paused, astray, header, pending = fields[:9]
     order, sent, confirmed, released, edges, seen, *rest = fields[9:]
-    return VehicleRow(
+    return ExportedVehicle(
         key=VehicleKey(manufacturer, serial),
         node=node,
         capacity=int(capacity),
@@ -122,7 +122,7 @@ def _number(field: str | None) -> int | None:
     return None if field is None else int(field)
 
 
-def _fits(row: VehicleRow) -> bool:
+def _fits(row: ExportedVehicle) -> bool:
     """Whether the fields of a vehicle agree with each other."""
     numbers = (row.header or 0, row.sent or 0)
     way = (row.seen or 0, row.released or 0, row.edges or 0, MOST_EDGES)

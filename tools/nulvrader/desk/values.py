@@ -90,7 +90,7 @@ class Vehicle:
 
 
 @dataclass(frozen=True)
-class VehicleRow(Vehicle):
+class ExportedVehicle(Vehicle):
     """A row of the export of vehicles. The way of its open order has `edges` edges, of which the
     first `released` are released and the first `seen` are behind the vehicle; without an order the
     three are None. `rest` is the edge and the node that a vehicle which is astray holds besides its

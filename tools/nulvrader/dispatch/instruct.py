@@ -29,7 +29,7 @@ DONE, UNKNOWN, WRONG, NO_ANSWER = range(4)
 LINE = 500  # the most characters of a line about what is wrong
 
 
-class Unknown(Exception):
+class NoSuchName(Exception):
     """A name that the desk or the file does not have. Its `str()` is a sentence."""
 
 
@@ -109,7 +109,7 @@ def _job(said: argparse.Namespace, desk: Desk) -> None:
         # (while no other command writes, so that none takes a job for ended that has begun since)
         live = desk.jobs()
         if said.job not in live:
-            raise Unknown(f'the desk has no live job {said.job}')
+            raise NoSuchName(f'the desk has no live job {said.job}')
         one = _said_of(said, before.jobs.get(said.job, Urgency()))
         write(before.with_job(said.job, one, live))
     print(_told_urgency(said.job, one))
@@ -176,7 +176,7 @@ def _close(said: argparse.Namespace, desk: Desk) -> None:
         return
     layout = desk.layout()
     if layout is None:
-        raise Unknown('the desk has no layout yet')
+        raise NoSuchName('the desk has no layout yet')
     known = {'node': set(layout.nodes), 'edge': set(layout.edges)}
     found = _found(said.names, said.kinds, known, 'the layout has no node or edge {}')
     with changing(said.instructions) as (before, write):
@@ -202,14 +202,14 @@ def _open(said: argparse.Namespace) -> None:
 def _found(
     names: Sequence[str], kinds: Sequence[str], known: Mapping[str, Collection[str]], none: str
 ) -> dict[str, set[str]]:
-    """Returns the names by their kinds. `Unknown` where one is of none or of two."""
+    """Returns the names by their kinds. `NoSuchName` where one is of none or of two."""
     found: dict[str, set[str]] = {'node': set(), 'edge': set()}
     for name in names:
         of = [kind for kind in kinds if name in known[kind]]
         if not of:
-            raise Unknown(none.format(name))
+            raise NoSuchName(none.format(name))
         if len(of) > 1:
-            raise Unknown(f'{name} is a node and an edge: say which, by --node or --edge')
+            raise NoSuchName(f'{name} is a node and an edge: say which, by --node or --edge')
         found[of[0]].add(name)
     return found
 
@@ -238,7 +238,7 @@ def _done(
         return DONE
     except BrokenPipeError:
         raise
-    except (Unknown, Refused) as fault:
+    except (NoSuchName, Refused) as fault:
         status, told = UNKNOWN, str(fault)
     except NoAnswer as fault:
         status, told = NO_ANSWER, str(fault)

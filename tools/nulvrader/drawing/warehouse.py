@@ -30,7 +30,7 @@ def of_file(path: str) -> Warehouse:
             str(key): node
             for key, (node, _) in stopped_file.vehicles_in(connection, found.layout).items()
         }
-        for hold in stopped_file.rows_in(connection, tables.Hold):
+        for hold in stopped_file.rows_in(connection, tables.HoldRow):
             found.holds[f'{hold.kind} {hold.id}'] = '/'.join(key_of(hold))
         found.loads = {
             load: place

@@ -5,7 +5,7 @@ from collections.abc import Callable, Iterator
 
 from ..common.names import is_name
 from .rows import Rows
-from .tables import Key, Load
+from .tables import Key, LoadRow
 
 SEATS = 4  # the most loads that a vehicle carries at once
 
@@ -59,7 +59,7 @@ def vehicle_text(key: Key) -> str:
     return f'vehicle {manufacturer}/{serial}'
 
 
-def place_text(load: Load) -> str:
+def place_text(load: LoadRow) -> str:
     """Returns where a load is, as `GET /loads/{load}` says it."""
     if load.kind == 'station':
         return 'station ' + value_text(load.station)

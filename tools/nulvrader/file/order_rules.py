@@ -3,7 +3,7 @@ import collections
 
 from .checks import SEATS, Breaches, rule, value_text, vehicle_text
 from .rows import Rows
-from .tables import Act, Leg, key_of
+from .tables import ActRow, LegRow, key_of
 
 OVER = ('FINISHED', 'FAILED')
 
@@ -32,7 +32,7 @@ def orders_are_used_names(rows: Rows) -> Breaches:
 def parts_have_an_order(rows: Rows) -> Breaches:
     """Edges and acts belong to open orders, and are counted from 0 on, without a gap."""
     open_orders = {row.order_id for row in rows.journey}
-    parts: list[Leg | Act] = [*rows.leg, *rows.act]
+    parts: list[LegRow | ActRow] = [*rows.leg, *rows.act]
     for part in parts:
         if part.order_id not in open_orders:
             yield part, f'no order {part.order_id} is open'
@@ -97,7 +97,7 @@ def acts_are_at_stations(rows: Rows) -> Breaches:
             yield order.journey, text
 
 
-def _station_of(rows: Rows, act: Act) -> str | None:
+def _station_of(rows: Rows, act: ActRow) -> str | None:
     """Returns the station of an act, the origin or the target of its job, if the layout has it."""
     job = rows.jobs.get(act.job)
     station = None if job is None else job.origin if act.kind == 'pick' else job.target

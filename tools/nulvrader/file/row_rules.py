@@ -7,16 +7,16 @@ from .rows import Rows
 from .tables import (
     MANY,
     MOST,
-    Act,
-    Edge,
-    Job,
-    Journey,
-    Leg,
-    Load,
-    Node,
-    Station,
-    Used,
-    Vehicle,
+    ActRow,
+    EdgeRow,
+    JobRow,
+    JourneyRow,
+    LegRow,
+    LoadRow,
+    NodeRow,
+    StationRow,
+    UsedRow,
+    VehicleRow,
     key_of,
 )
 
@@ -56,7 +56,7 @@ def has_keys_once(rows: Rows) -> Breaches:
 def has_names(rows: Rows) -> Breaches:
     """Nodes, edges, stations, vehicles, loads, jobs, orders and references have names of 1 to 32
     bytes of `A-Z a-z 0-9 _ . : -`, and so has the order that a vehicle has reported."""
-    named: list[Node | Edge | Station | Load | Job | Used]
+    named: list[NodeRow | EdgeRow | StationRow | LoadRow | JobRow | UsedRow]
     named = [*rows.node, *rows.edge, *rows.station, *rows.load, *rows.job, *rows.used]
     for row in named:
         if not is_name(row.id):
@@ -104,7 +104,7 @@ def has_numbers(rows: Rows) -> Breaches:
                 MOMENT if column.endswith('_at') else NUMBER
             ):
                 yield vehicle, f'{column} is {value}'
-    numbered: list[Journey | Act | Leg] = [*rows.journey, *rows.act, *rows.leg]
+    numbered: list[JourneyRow | ActRow | LegRow] = [*rows.journey, *rows.act, *rows.leg]
     for row in numbered:
         for column, value in zip(row._fields, row):
             if isinstance(value, int) and not 0 <= value <= NUMBER:
@@ -133,7 +133,7 @@ def is_within_limits(rows: Rows) -> Breaches:
 # ---- the layout
 
 
-def unknown_nodes(rows: Rows, row: Edge | Station | Vehicle, *nodes: str) -> Breaches:
+def unknown_nodes(rows: Rows, row: EdgeRow | StationRow | VehicleRow, *nodes: str) -> Breaches:
     """Yields a breach for each of these nodes of a row that the layout doesn't have."""
     for node in nodes:
         if node not in rows.nodes:

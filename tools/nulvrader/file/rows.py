@@ -14,22 +14,22 @@ from .tables import (
     MOST,
     SECOND,
     TABLES,
-    Act,
-    Capacity,
-    Edge,
-    Hold,
-    Job,
-    Journey,
+    ActRow,
+    CapacityRow,
+    EdgeRow,
+    HoldRow,
+    JobRow,
+    JourneyRow,
     Key,
-    Leg,
-    Load,
-    Meta,
-    Node,
+    LegRow,
+    LoadRow,
+    MetaRow,
+    NodeRow,
     AnyRow,
-    Station,
-    Trip,
-    Used,
-    Vehicle,
+    StationRow,
+    TripRow,
+    UsedRow,
+    VehicleRow,
     columns,
     key_of,
     table_of,
@@ -44,9 +44,9 @@ class OpenOrder:
     """An open order: its rows of the tables `journey`, `leg` and `act`, and the nodes of its way. A
     node is None where the layout doesn't have the edge before it."""
 
-    journey: Journey
-    legs: list[Leg]
-    acts: list[Act]
+    journey: JourneyRow
+    legs: list[LegRow]
+    acts: list[ActRow]
     nodes: list[str | None]
 
     def node(self, k: int) -> str | None:
@@ -65,7 +65,7 @@ class OpenOrder:
                 yield 'edge', self.legs[k].edge
 
 
-NamedRow = TypeVar('NamedRow', Edge, Station, Load, Job)
+NamedRow = TypeVar('NamedRow', EdgeRow, StationRow, LoadRow, JobRow)
 
 
 def by_name(
@@ -79,20 +79,20 @@ def by_name(
 class Rows:
     """All rows of a file of the second schema."""
 
-    meta: list[Meta]
-    node: list[Node]
-    edge: list[Edge]
-    station: list[Station]
-    vehicle: list[Vehicle]
-    trip: list[Trip]
-    leg: list[Leg]
-    load: list[Load]
-    job: list[Job]
-    hold: list[Hold]
-    used: list[Used]
-    capacity: list[Capacity]
-    journey: list[Journey]
-    act: list[Act]
+    meta: list[MetaRow]
+    node: list[NodeRow]
+    edge: list[EdgeRow]
+    station: list[StationRow]
+    vehicle: list[VehicleRow]
+    trip: list[TripRow]
+    leg: list[LegRow]
+    load: list[LoadRow]
+    job: list[JobRow]
+    hold: list[HoldRow]
+    used: list[UsedRow]
+    capacity: list[CapacityRow]
+    journey: list[JourneyRow]
+    act: list[ActRow]
 
     def all(self) -> Iterator[AnyRow]:
         """Yields all rows, table by table."""
@@ -110,7 +110,7 @@ class Rows:
     jobs = by_name(lambda rows: rows.job)
 
     @functools.cached_property
-    def vehicles(self) -> dict[Key, Vehicle]:
+    def vehicles(self) -> dict[Key, VehicleRow]:
         """The vehicles by their keys."""
         return {key_of(row): row for row in self.vehicle}
 
@@ -122,8 +122,8 @@ class Rows:
     @functools.cached_property
     def open_orders(self) -> dict[Key, OpenOrder]:
         """The open order of each vehicle that has one."""
-        legs: dict[str, list[Leg]] = collections.defaultdict(list)
-        acts: dict[str, list[Act]] = collections.defaultdict(list)
+        legs: dict[str, list[LegRow]] = collections.defaultdict(list)
+        acts: dict[str, list[ActRow]] = collections.defaultdict(list)
         for leg in sorted(self.leg, key=lambda row: row.k):
             legs[leg.order_id].append(leg)
         for act in sorted(self.act, key=lambda row: row.n):
@@ -138,7 +138,7 @@ class Rows:
         return found
 
     @functools.cached_property
-    def to_drop(self) -> dict[str, Act]:
+    def to_drop(self) -> dict[str, ActRow]:
         """The drops of open orders that are not finished, by their jobs."""
         acts = (act for order in self.open_orders.values() for act in order.acts)
         return {act.job: act for act in acts if act.kind == 'drop' and act.status != 'FINISHED'}
@@ -156,7 +156,7 @@ class Rows:
         return found
 
 
-def _without_order(vehicle: Vehicle) -> Iterator[Thing]:
+def _without_order(vehicle: VehicleRow) -> Iterator[Thing]:
     """Yields what a vehicle without an order holds."""
     yield 'node', vehicle.node
     if vehicle.rest_edge is not None:
@@ -211,27 +211,27 @@ def read_first_rows(connection: sqlite3.Connection) -> Rows:
     """Reads all rows of a file of the first schema, and returns them as `migrate` would write them
     in the second one."""
     found = _read(connection, (table for table in TABLES if table not in SECOND))
-    trips: list[Trip] = found.pop('trip')
-    found['meta'] = [Meta(row.id, row.schema + 1) for row in found['meta']]
+    trips: list[TripRow] = found.pop('trip')
+    found['meta'] = [MetaRow(row.id, row.schema + 1) for row in found['meta']]
     return Rows(
         **found,
         trip=[],
-        capacity=[Capacity(*key_of(row), 1) for row in found['vehicle']],
+        capacity=[CapacityRow(*key_of(row), 1) for row in found['vehicle']],
         journey=[_journey_of(trip) for trip in trips],
         act=[act for trip in trips for act in _acts_of(trip)],
     )
 
 
-def _journey_of(trip: Trip) -> Journey:
+def _journey_of(trip: TripRow) -> JourneyRow:
     """Returns the row of `journey` that `migrate` makes of a trip."""
     walk = trip.start, trip.first, trip.base, trip.sent, trip.confirmed, trip.seen
-    return Journey(trip.order_id, trip.manufacturer, trip.serial, *walk)
+    return JourneyRow(trip.order_id, trip.manufacturer, trip.serial, *walk)
 
 
-def _acts_of(trip: Trip) -> Iterator[Act]:
+def _acts_of(trip: TripRow) -> Iterator[ActRow]:
     """Yields the rows of `act` that `migrate` makes of a trip."""
-    yield Act(trip.order_id, 0, trip.job, 'pick', trip.pick_at, trip.pick_status)
-    yield Act(trip.order_id, 1, trip.job, 'drop', trip.drop_at, trip.drop_status)
+    yield ActRow(trip.order_id, 0, trip.job, 'pick', trip.pick_at, trip.pick_status)
+    yield ActRow(trip.order_id, 1, trip.job, 'drop', trip.drop_at, trip.drop_status)
 
 
 def any_text(data: bytes) -> str:

@@ -59,7 +59,11 @@ def opened(path: str, folder: str | None = None) -> Iterator[sqlite3.Connection]
 def _check_tables(path: str, connection: sqlite3.Connection) -> None:
     """Raises `Unread` where the tables are not a desk's of this schema."""
     found = database.tables_of(connection)
-    if found.is_first or found.is_second and [*rows_in(connection, tables.Meta)] != [(1, SCHEMA)]:
+    if (
+        found.is_first
+        or found.is_second
+        and [*rows_in(connection, tables.MetaRow)] != [(1, SCHEMA)]
+    ):
         raise Unread(path, f'it has not schema {SCHEMA}: `./desk migrate` migrates one of schema 1')
     if not found.is_second:
         why = found.odd or [f'the table {name} is missing' for name in found.missing]
@@ -80,9 +84,9 @@ def rows_in(connection: sqlite3.Connection, kind: type[RowOfTable]) -> Iterator[
 def layout_in(connection: sqlite3.Connection) -> Layout:
     """Reads the layout, which has no nodes before one is set."""
     layout = of_parts(
-        (row.id for row in rows_in(connection, tables.Node)),
-        (Edge(*row) for row in rows_in(connection, tables.Edge)),
-        (Station(*row) for row in rows_in(connection, tables.Station)),
+        (row.id for row in rows_in(connection, tables.NodeRow)),
+        (Edge(*row) for row in rows_in(connection, tables.EdgeRow)),
+        (Station(*row) for row in rows_in(connection, tables.StationRow)),
     )
     ends = {node for edge in layout.edges.values() for node in (edge.start, edge.finish)}
     if not ends | {station.node for station in layout.stations.values()} <= set(layout.nodes):
@@ -94,7 +98,7 @@ def places_in(connection: sqlite3.Connection) -> dict[str, str]:
     """Reads the place of each load, even of those that have left, by the load's name: `station A`,
     `vehicle KIT/0001`, `checking`, `left`."""
     found = {}
-    for load in sorted(rows_in(connection, tables.Load), key=lambda row: str(row.id)):
+    for load in sorted(rows_in(connection, tables.LoadRow), key=lambda row: str(row.id)):
         where = {'station': load.station, 'vehicle': f'{load.manufacturer}/{load.serial}'}.get(
             load.kind
         )
@@ -106,9 +110,9 @@ def vehicles_in(
     connection: sqlite3.Connection, layout: Layout
 ) -> dict[VehicleKey, tuple[str, int]]:
     """Reads the node and the capacity of each vehicle."""
-    capacities = {key_of(row): row.capacity for row in rows_in(connection, tables.Capacity)}
+    capacities = {key_of(row): row.capacity for row in rows_in(connection, tables.CapacityRow)}
     found = {}
-    for row in sorted(rows_in(connection, tables.Vehicle), key=key_of):
+    for row in sorted(rows_in(connection, tables.VehicleRow), key=key_of):
         if row.node not in layout.nodes or key_of(row) not in capacities:
             raise BadRows(
                 'a vehicle has no capacity, or stands at a node that the layout does not have'
@@ -119,5 +123,5 @@ def vehicles_in(
 
 def live_jobs_in(connection: sqlite3.Connection) -> dict[str, tuple[str, str]]:
     """Reads the live jobs: by the load of each, its name and its target."""
-    jobs = rows_in(connection, tables.Job)
+    jobs = rows_in(connection, tables.JobRow)
     return {job.load: (job.id, job.target) for job in jobs if job.phase in LIVE}

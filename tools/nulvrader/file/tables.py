@@ -25,32 +25,32 @@ def shown_as(form: str) -> Callable[[RowType], RowType]:
 
 
 @shown_as('meta {}, {}')
-class Meta(NamedTuple):
+class MetaRow(NamedTuple):
     id: int
     schema: int
 
 
 @shown_as('node {}')
-class Node(NamedTuple):
+class NodeRow(NamedTuple):
     id: str
 
 
 @shown_as('edge {}')
-class Edge(NamedTuple):
+class EdgeRow(NamedTuple):
     id: str
     start: str
     finish: str
 
 
 @shown_as('station {}')
-class Station(NamedTuple):
+class StationRow(NamedTuple):
     id: str
     node: str
     capacity: int
 
 
 @shown_as('vehicle {}/{}')
-class Vehicle(NamedTuple):
+class VehicleRow(NamedTuple):
     manufacturer: str
     serial: str
     node: str
@@ -68,7 +68,7 @@ class Vehicle(NamedTuple):
 
 
 @shown_as('trip {}')
-class Trip(NamedTuple):
+class TripRow(NamedTuple):
     """An open order as the first schema has it; in the second one this table is empty."""
 
     order_id: str
@@ -88,14 +88,14 @@ class Trip(NamedTuple):
 
 
 @shown_as('leg {}, {}')
-class Leg(NamedTuple):
+class LegRow(NamedTuple):
     order_id: str
     k: int
     edge: str
 
 
 @shown_as('load {}')
-class Load(NamedTuple):
+class LoadRow(NamedTuple):
     id: str
     kind: str
     station: str | None
@@ -104,7 +104,7 @@ class Load(NamedTuple):
 
 
 @shown_as('job {}')
-class Job(NamedTuple):
+class JobRow(NamedTuple):
     id: str
     load: str
     origin: str
@@ -113,7 +113,7 @@ class Job(NamedTuple):
 
 
 @shown_as('hold {} {}')
-class Hold(NamedTuple):
+class HoldRow(NamedTuple):
     kind: str
     id: str
     manufacturer: str
@@ -121,20 +121,20 @@ class Hold(NamedTuple):
 
 
 @shown_as('used {} {}')
-class Used(NamedTuple):
+class UsedRow(NamedTuple):
     kind: str
     id: str
 
 
 @shown_as('capacity {}/{}')
-class Capacity(NamedTuple):
+class CapacityRow(NamedTuple):
     manufacturer: str
     serial: str
     capacity: int
 
 
 @shown_as('journey {}')
-class Journey(NamedTuple):
+class JourneyRow(NamedTuple):
     order_id: str
     manufacturer: str
     serial: str
@@ -147,7 +147,7 @@ class Journey(NamedTuple):
 
 
 @shown_as('act {}, {}')
-class Act(NamedTuple):
+class ActRow(NamedTuple):
     order_id: str
     n: int
     job: str
@@ -158,32 +158,32 @@ class Act(NamedTuple):
 
 # A row of any table; its `str()` names the table and the key.
 AnyRow = (
-    Meta
-    | Node
-    | Edge
-    | Station
-    | Vehicle
-    | Trip
-    | Leg
-    | Load
-    | Job
-    | Hold
-    | Used
-    | Capacity
-    | Journey
-    | Act
+    MetaRow
+    | NodeRow
+    | EdgeRow
+    | StationRow
+    | VehicleRow
+    | TripRow
+    | LegRow
+    | LoadRow
+    | JobRow
+    | HoldRow
+    | UsedRow
+    | CapacityRow
+    | JourneyRow
+    | ActRow
 )
 Key = tuple[str, str]  # a vehicle's manufacturer and serial number
 
 
-def key_of(row: Vehicle | Capacity | Journey | Hold) -> Key:
+def key_of(row: VehicleRow | CapacityRow | JourneyRow | HoldRow) -> Key:
     """Returns the key of the vehicle that a row is about."""
     return row.manufacturer, row.serial
 
 
 def table_of(kind: type[tuple[Any, ...]]) -> str:
     """Returns the name of the table that has rows of this type."""
-    return kind.__name__.lower()
+    return kind.__name__.removesuffix('Row').lower()
 
 
 # The types of rows, by the names of their tables.

@@ -11,7 +11,7 @@ from .config import Hook
 from .delivery import Delivery, delivery_of, headers_of
 from .ledger import Ledger, Position
 from .receiver import Result
-from .source import Events, NoEvents, OtherRecord
+from .source import Events, NoEvents, RecordChanged
 
 IDLE = 1.0  # seconds until the board is asked again that had nothing new
 MOST = 100  # events in a message
@@ -113,7 +113,7 @@ class Sender:
         kinds = self.hook.kinds
         try:
             return self.source.read(position.record, position.after, kinds, MOST)
-        except OtherRecord:
+        except RecordChanged:
             self.log(f'{self.hook.name}: the board has another record: all of it is sent')
             return self.source.read('', 0, kinds, MOST)
 

@@ -17,7 +17,7 @@ class NoEvents(Exception):
     """The board gives no events now. Its `str()` says why."""
 
 
-class OtherRecord(NoEvents):
+class RecordChanged(NoEvents):
     """The board has another record than the one that is asked for."""
 
 
@@ -53,7 +53,7 @@ class Source:
 
     def read(self, record: str, after: int, kinds: tuple[str, ...] | None, most: int) -> Events:
         """Asks the board for at most `most` events behind the number `after`, of all kinds where
-        `kinds` is None. Raises `OtherRecord` where the board has another record than `record`,
+        `kinds` is None. Raises `RecordChanged` where the board has another record than `record`,
         which may be '' for any, and `NoEvents` where it doesn't answer with events."""
         target = f'/api/events?after={after}&limit={most}'
         target += f'&kinds={",".join(kinds)}' if kinds is not None else ''
@@ -63,7 +63,7 @@ class Source:
         except NoAnswer as fault:
             raise NoEvents(str(fault)) from None
         if answer.status == 409:
-            raise OtherRecord('the board has another record')
+            raise RecordChanged('the board has another record')
         if answer.status != 200:
             raise NoEvents(f'the board answers with status {answer.status}')
         return events_of(answer.body)
