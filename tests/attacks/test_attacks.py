@@ -1,6 +1,5 @@
-"""The attacks on the programs, each carried out for real, as a list: the most harmful first. A
-class of `tests/attacks` stands under each line, and says what an attacker does and what must
-happen. docs/SECURITY.md says who is trusted with what."""
+"""Shows, for each attack on the programs, the most harmful first, that it does no harm: a class of
+`tests/attacks` stands under each line, and says what an attacker does and what must happen."""
 # A page of another site, open in a browser that may reach the desk, commands it by a form or a
 # request.
 from tests.attacks.way_in import FormOfAForeignPage, RequestOfAForeignPage

@@ -1,5 +1,5 @@
-"""The board for other programs: what became of a job, a load and a vehicle, and the events behind a
-number."""
+"""Shows that the board tells other programs what became of a job, a load and a vehicle, and the
+events behind a number."""
 from __future__ import annotations
 
 import json

@@ -1,5 +1,5 @@
-"""Attacks on what the board answers to other programs: readers that take nothing, crowds of them,
-and texts of others that would be lines of a stream or of metrics."""
+"""Shows that readers that take nothing, crowds of them, and texts of others that would be lines of
+a stream or of metrics keep no other program from what the board answers."""
 from __future__ import annotations
 
 import contextlib

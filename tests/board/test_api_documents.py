@@ -1,5 +1,5 @@
-"""The documents of OpenAPI, of the desk's calls and of what the board answers to other programs:
-they say who may ask what, as `examples/nginx` has it, and the paths that there are."""
+"""Shows that the documents of OpenAPI, of the desk's calls and of what the board answers to other
+programs, have the paths that there are, and say who may ask what as `examples/nginx` has it."""
 from __future__ import annotations
 
 import importlib

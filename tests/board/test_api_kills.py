@@ -1,5 +1,5 @@
-"""Programs follow the events through kills of board, desk and themselves: none is lost, and none
-comes twice. Webhooks are posted through the same, and through a receiver that fails."""
+"""Shows that programs that follow the events, and webhooks, lose none and get none twice, though
+the board, the desk, the receiver and they themselves are killed."""
 from __future__ import annotations
 
 import os

@@ -1,5 +1,5 @@
-"""Metrics and health of the board, and the files of `examples/prometheus` and `examples/grafana`
-that use them. What promtool says is skipped where it is not installed."""
+"""Shows that the metrics and the health of the board say what is so, and that the files of
+`examples/prometheus` and `examples/grafana` use metrics that there are."""
 from __future__ import annotations
 
 import dataclasses

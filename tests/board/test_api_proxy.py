@@ -1,5 +1,5 @@
-"""What other programs ask of the board, through a real nginx with `examples/nginx`: who may, and
-that events come at once. Skipped where nginx or openssl is not installed."""
+"""Shows, through a real nginx with `examples/nginx`, which other programs may ask the board, and
+that events come at once."""
 from __future__ import annotations
 
 import json

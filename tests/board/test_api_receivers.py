@@ -1,4 +1,5 @@
-"""Receivers of webhooks that fail or attack, and what answers in the place of a board."""
+"""Shows that receivers of webhooks that fail or attack, and a server in the place of a board,
+neither stop the webhooks nor get more than is theirs."""
 from __future__ import annotations
 
 import contextlib

@@ -1,4 +1,5 @@
-"""How webhooks are signed, and what the receiver that docs/BOARD_API.md gives takes as genuine."""
+"""Shows that webhooks are signed as docs/BOARD_API.md says, and that the receiver that it gives
+takes these alone as genuine."""
 from __future__ import annotations
 
 import os

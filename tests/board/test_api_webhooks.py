@@ -1,4 +1,4 @@
-"""Webhooks: what is sent, in which order, and the command that sends it."""
+"""Shows what webhooks send, in which order, and what the command that sends them says."""
 from __future__ import annotations
 
 import os

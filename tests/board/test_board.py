@@ -1,4 +1,5 @@
-"""The board over the real program, without a browser: what it shows of a desk at work."""
+"""Shows what the board tells pages of a desk at work, over the real program and without a
+browser."""
 from __future__ import annotations
 
 import json

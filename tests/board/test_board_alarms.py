@@ -1,5 +1,5 @@
-"""What needs a person is an alarm: each kind is raised by what makes it so, says what is so and
-what to do, is kept with who has taken it on, and is over once it is no longer so."""
+"""Shows that each kind of alarm is raised by what makes it so, says what is so and what to do, is
+kept with who has taken it on, and is over once it is no longer so."""
 
 from __future__ import annotations
 

@@ -1,4 +1,5 @@
-"""The commands of the board over the real program: what each says before, does, and is refused."""
+"""Shows, over the real program, what each command of the board says before it is done, what it
+does, and when it is refused."""
 from __future__ import annotations
 
 import json

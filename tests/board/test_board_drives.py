@@ -1,5 +1,5 @@
-"""Drives on the board, over the real program: their orders and ways, the look at a cancel, and what
-is too far."""
+"""Shows, over the real program, the orders and ways of drives on the board, the look at a cancel,
+and what is too far."""
 
 from __future__ import annotations
 

@@ -1,5 +1,5 @@
-"""The record is searched, filtered and read page by page, on the page and as a file; what is asked
-in hostile ways finds nothing else, and makes nobody wait."""
+"""Shows that the record is searched, filtered and read page by page, on the page and as a file, and
+that what is asked in hostile ways finds nothing else and makes nobody wait."""
 
 from __future__ import annotations
 

@@ -1,6 +1,6 @@
-"""The page for all eyes and hands: in both languages, light and dark, at 1280, on a wall and on a
-phone, each text has contrast, all that can be used has a name and a size, and nothing is wider than
-the page. It is skipped where there is no Chromium with its driver."""
+"""Shows that in both languages, light and dark, at 1280, on a wall and on a phone, each text of the
+page has contrast, all that can be used has a name and a size, and nothing is wider than the
+page."""
 
 from __future__ import annotations
 

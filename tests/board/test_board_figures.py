@@ -1,5 +1,5 @@
-"""The figures of a day: compared with what was put into a record, and shown and printed by their
-page. What needs a browser is skipped where there is no Chromium with its driver."""
+"""Shows that the figures of a day are those of what was put into a record, and that their page
+shows and prints them."""
 from __future__ import annotations
 
 import base64

@@ -1,5 +1,4 @@
-"""What is looked for on the page of the board and found, by mouse and by keyboard. It is skipped
-where there is no Chromium with its driver."""
+"""Shows that what is looked for on the page of the board is found, by mouse and by keyboard."""
 
 from __future__ import annotations
 

@@ -1,5 +1,5 @@
-"""A vehicle that says ever other things makes a bounded number of entries and rows; what needs a
-person is seen all the same, and what comes and goes is one alarm."""
+"""Shows that a vehicle that says ever other things makes a bounded number of entries and rows, that
+what needs a person is seen all the same, and that what comes and goes is one alarm."""
 
 from __future__ import annotations
 

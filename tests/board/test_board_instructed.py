@@ -1,5 +1,5 @@
-"""What the dispatcher is told by the board, on its page and by HTTP: shown, changed, recorded, and
-refused to who may not; and what the dispatcher says there."""
+"""Shows that what the dispatcher is told by the board, on its page and by HTTP, is shown, changed,
+recorded, and refused to who may not, and that the page has what the dispatcher says."""
 from __future__ import annotations
 
 import json

@@ -1,4 +1,5 @@
-"""What the board keeps over the real program: the record, its restarts, and what it removes."""
+"""Shows what the board keeps over the real program in its record, through restarts, and what it
+removes."""
 from __future__ import annotations
 
 import json

@@ -1,6 +1,6 @@
-"""The desk and the browser are killed (SIGKILL) while the board is at work: nothing is lost but
-what was to be seen in between, board.db is whole, and no command is carried out twice or by half.
-The board itself is killed in test_board.py."""
+"""Shows that nothing is lost but what was to be seen in between, board.db is whole, and no command
+is carried out twice or by half, where the desk and the browser are killed (SIGKILL) while the board
+is at work; test_board.py kills the board."""
 
 from __future__ import annotations
 

@@ -1,6 +1,6 @@
-"""The map of the board's page in a browser: labels that do not lie on one another, however many
-vehicles there are, places of alarms, and nodes where a floor plan has them. It is skipped where
-there is no Chromium with its driver."""
+"""Shows, in a browser, that labels on the map of the page do not lie on one another, however many
+vehicles there are, that alarms have their places, and that nodes are where a floor plan has
+them."""
 from __future__ import annotations
 
 import unittest

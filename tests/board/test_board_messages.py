@@ -1,5 +1,5 @@
-"""All texts of the page are in one table of messages, in English and German, of which the browser
-chooses; none is missing, and none is left in a script."""
+"""Shows that all texts of the page are in one table of messages, in English and German, and that
+none is missing and none is left in a script."""
 
 from __future__ import annotations
 

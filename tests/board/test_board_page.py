@@ -1,6 +1,5 @@
-"""The page of the board in a real browser, over the real program: what it shows of a desk at work,
-of what vehicles say and of one that falls silent. It is skipped where there is no Chromium with its
-driver."""
+"""Shows, in a real browser over the real program, what the page has of a desk at work, of what
+vehicles say and of one that falls silent."""
 from __future__ import annotations
 
 import json

@@ -1,6 +1,5 @@
-"""Commands by the page of the board in a real browser, over the real program: each is looked at,
-done, and refused once; a board that only looks has none. It is skipped where there is no Chromium
-with its driver."""
+"""Shows, in a real browser over the real program, that each command is looked at, done, and refused
+once, and that a board that only looks has none."""
 from __future__ import annotations
 
 import tempfile

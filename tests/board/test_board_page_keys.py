@@ -1,6 +1,5 @@
-"""The page of the board in a real browser: all of it is used by the keyboard, nothing is wider than
-the screen, and its words stand out from what lies behind them. It is skipped where there is no
-Chromium with its driver."""
+"""Shows, in a real browser, that all of the page is used by the keyboard, nothing is wider than the
+screen, and its words stand out from what lies behind them."""
 from __future__ import annotations
 
 import os

@@ -1,5 +1,5 @@
-"""The page where a vehicle does not go on: the jobs of its order are named in the alarm, with a
-button that ends the order; what the dispatcher says of jobs that wait; and how urgent they are."""
+"""Shows that the page names the jobs of a vehicle that does not go on, with a button that ends its
+order, what the dispatcher says of jobs that wait, and how urgent they are."""
 
 from __future__ import annotations
 

@@ -1,5 +1,5 @@
-"""The board through a real nginx with `examples/nginx`: who may look, who may give commands, and
-who stands in the record of them. Skipped where nginx or openssl is not installed."""
+"""Shows, through a real nginx with `examples/nginx`, who may look at the board, who may give
+commands, and who stands in the record of them."""
 
 from __future__ import annotations
 

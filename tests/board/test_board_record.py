@@ -1,6 +1,5 @@
-"""What the record says of each kind of change, compared with what was done: the followers of the
-board take the answers of a desk that is made up, and each entry names the things, the cause and its
-call, old and new."""
+"""Shows that the record says of each kind of change what was done: the things, the cause and its
+call, old and new, as a desk that is made up has answered."""
 from __future__ import annotations
 
 import glob

@@ -1,4 +1,5 @@
-"""What the record says of commands that are refused, and for how long a command is a cause."""
+"""Shows what the record says of commands that are refused, and for how long a command is a
+cause."""
 from __future__ import annotations
 
 import re

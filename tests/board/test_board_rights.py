@@ -1,4 +1,4 @@
-"""Who may ask the board and command by it, and how it starts and is stopped."""
+"""Shows who may ask the board and command by it, and how it starts and is stopped."""
 from __future__ import annotations
 
 import json

@@ -1,5 +1,5 @@
-"""What the board asks when: its asker over a desk that is made up and a clock that is set, so that
-each second has its 20 requests."""
+"""Shows what the board asks when, over a desk that is made up and a clock that is set, so that each
+second has its 20 requests."""
 
 from __future__ import annotations
 

@@ -1,5 +1,5 @@
-"""What vehicles say, as gateways tell it: read strictly, kept, shown in the vehicle's own words,
-and recorded within bounds; and hostile datagrams, which change nothing else."""
+"""Shows that what vehicles say, as gateways tell it, is read strictly, kept, shown in the vehicle's
+own words and recorded within bounds, and that hostile datagrams change nothing else."""
 
 from __future__ import annotations
 

@@ -1,6 +1,6 @@
-"""docs/openapi.json against the table of calls and a running desk: each path and method of the
-table is described and no other, each example is answered as it stands there, each answer fits its
-schema, and so do the answers to requests that can't be read."""
+"""Shows that docs/openapi.json describes each path and method of the table of calls and no other,
+that each of its examples is answered as it stands there, and that each answer of a running desk
+fits its schema."""
 import contextlib
 import importlib
 import json

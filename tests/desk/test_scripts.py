@@ -1,6 +1,6 @@
-"""Worked examples as scripts: requests, each with its status and its body, worked out by hand. Each
-script is served as one stream in memory, request by request by a program of its own on one file,
-and over one connection; the file is then read by another SQLite."""
+"""Shows that the worked examples, scripts of requests with each status and body worked out by hand,
+are answered so as one stream in memory, request by request by a program of its own on one file, and
+over one connection."""
 import os
 import tempfile
 import unittest

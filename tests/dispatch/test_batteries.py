@@ -1,5 +1,5 @@
-"""The batteries that a dispatcher is told of on its socket: by the gateway's own sender, by hostile
-datagrams, and over the built program."""
+"""Shows that a dispatcher takes what it is told of batteries on its socket, by the gateway's own
+sender, and that hostile datagrams change nothing."""
 from __future__ import annotations
 
 import contextlib

@@ -1,5 +1,6 @@
-"""Charging: the file of chargers, who goes there and who leaves, over the built program, and over
-sketches of plants in which batteries drain, where some vehicles say what is not so."""
+"""Shows what a file of chargers may have, who drives to one and who leaves it, over the built
+program and over sketches of plants in which batteries drain and some vehicles say what is not
+so."""
 from __future__ import annotations
 
 import unittest

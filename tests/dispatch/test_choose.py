@@ -1,5 +1,5 @@
-"""What may be released and started, and which pairs of a job and a vehicle get a look, without a
-desk: against the look itself with states enough, on the random cases of test_deadlock."""
+"""Shows that what may be released and started, and which pairs of a job and a vehicle get a look,
+are those that the look itself would let pass, on the random cases of test_deadlock."""
 import collections
 import random
 import time

@@ -1,4 +1,4 @@
-"""What is closed: it is not released, nor planned through, nor waited for in front of it."""
+"""Shows that what is closed is not released, nor planned through, nor waited for in front of it."""
 from __future__ import annotations
 
 import unittest

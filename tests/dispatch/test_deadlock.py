@@ -1,5 +1,6 @@
-"""The look that keeps a dispatcher from deadlocks, against a search of all states on small layouts;
-cases by hand; and vehicles that are released by it at random, of which each has to finish."""
+"""Shows that the look keeps a dispatcher from deadlocks, against a search of all states on small
+layouts, by cases worked out by hand, and by vehicles that are released at random and all have to
+finish."""
 from __future__ import annotations
 
 import collections

@@ -1,4 +1,4 @@
-"""The dispatcher: what it gives and releases, over the built program."""
+"""Shows what the dispatcher gives and releases, over the built program."""
 from __future__ import annotations
 
 import os

@@ -1,4 +1,4 @@
-"""What the dispatcher may release and start, without a desk."""
+"""Shows what the dispatcher may release and start, without a desk."""
 from __future__ import annotations
 
 import unittest

@@ -1,5 +1,5 @@
-"""What the dispatcher says, over the built program: how orders end, who does not go on and why, and
-faults."""
+"""Shows what the dispatcher says, over the built program, of how orders end, who does not go on and
+why, and of faults."""
 import unittest
 from typing import Any
 from unittest import mock

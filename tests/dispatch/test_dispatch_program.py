@@ -1,5 +1,5 @@
-"""The dispatcher as a program, over the built program of a desk: how it starts and ends, faults;
-and as a service of systemd, as docs/OPERATE.md installs it."""
+"""Shows how the dispatcher starts and ends as a program over a desk and as a service of systemd, as
+docs/OPERATE.md installs it, and what it says of faults."""
 import contextlib
 import os
 import re

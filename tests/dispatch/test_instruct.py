@@ -1,5 +1,5 @@
-"""The commands `job`, `close` and `open`, which write what people say to the dispatcher: the times
-that they take, and their files over the built program."""
+"""Shows which times the commands `job`, `close` and `open` take, and what they write for the
+dispatcher, over the built program."""
 from __future__ import annotations
 
 import datetime

@@ -1,4 +1,5 @@
-"""What people say to the dispatcher: the text and its file, against who or what harms it."""
+"""Shows that what people say to the dispatcher is read from its file as it was written, whoever
+harms the file and whatever fails."""
 from __future__ import annotations
 
 import errno

@@ -1,5 +1,6 @@
-"""Parking places, given and chosen, and who is to drive there: by hand, over the built program, and
-over a sketch of a plant in which vehicles without an order would stand in the way for good."""
+"""Shows which parking places are given and chosen, and who is to drive there, by hand, over the
+built program, and over a sketch of a plant in which vehicles without an order would stand in the
+way for good."""
 from __future__ import annotations
 
 import os

@@ -1,5 +1,5 @@
-"""The standing plan: its plain check, and that a judge has one behind whatever happens, of which
-the first move is always allowed."""
+"""Shows that a judge has a standing plan behind whatever happens, whose first move is always
+allowed, by the plain check of plans."""
 from __future__ import annotations
 
 import collections

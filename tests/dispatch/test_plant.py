@@ -1,8 +1,5 @@
-"""The simulated plant over the built program: a part of a day, in which the desk, the dispatcher
-and gateways are killed and people cancel, count and carry; a small one with a dispatcher that does
-not look, in which vehicles come to wait for each other; and one that releases whole ways, which
-does less. And runs that end since something is wrong in them; test_plant_parts has the plant's
-parts without a desk. PLANT_JOBS sets the jobs of the part of a day."""
+"""Shows that the simulated plant over the built program finds nothing wrong in a part of a day with
+kills and people, and finds what is wrong with a dispatcher that does not look."""
 import contextlib
 import dataclasses
 import os

@@ -1,5 +1,5 @@
-"""The desk of the simulated plant, with a shell script for the desk's program: how it ends and is
-killed, and what it is asked for."""
+"""Shows how the desk of the simulated plant ends and is killed, and what it is asked for, with a
+shell script for the desk's program."""
 import contextlib
 import os
 import random

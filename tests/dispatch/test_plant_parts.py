@@ -1,5 +1,5 @@
-"""The parts of the simulated plant, each alone and without a desk: what it calls wrong, what a
-vehicle does, why a job is stopped, and vehicles that wait for each other."""
+"""Shows, of each part of the simulated plant alone and without a desk, what it calls wrong, what a
+vehicle does, why a job is stopped, and which vehicles wait for each other."""
 import contextlib
 import dataclasses
 import random

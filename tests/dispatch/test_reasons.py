@@ -1,5 +1,5 @@
-"""Why vehicles and jobs wait, as the dispatcher says it and a board reads it: the file, what is in
-it over the built program, and that each reason says what ends it."""
+"""Shows why vehicles and jobs wait, as the dispatcher says it in a file and a board reads it, and
+that each reason says what ends it."""
 from __future__ import annotations
 
 import json

@@ -1,4 +1,4 @@
-"""Whom the vehicles shut in, and what has led to it, without a desk."""
+"""Shows whom the vehicles shut in, and what has led to it, without a desk."""
 import unittest
 from collections.abc import Iterable, Mapping
 

@@ -1,5 +1,5 @@
-"""Jobs of a truck in their order: which may be given, that they are put down in their order also
-where one vehicle takes several, and how urgent they are; over the built program and a sketch."""
+"""Shows that jobs of a truck are given and put down in their order, even where one vehicle takes
+several, and how urgent they are, over the built program and a sketch."""
 from __future__ import annotations
 
 import random

@@ -1,5 +1,5 @@
-"""Which job goes first: by its age, its priority and its due time; that none starves; and what is
-said of those that wait, over the built program."""
+"""Shows which job goes first, by its age, its priority and its due time, that none starves, and
+what is said of those that wait, over the built program."""
 from __future__ import annotations
 
 import unittest

@@ -1,6 +1,5 @@
-"""`tools/gateway` between a desk and a real broker, mosquitto: a whole transport of a vehicle; what
-the gateway says of a broker that refuses it or is away; and how it ends. Skipped where mosquitto or
-the library paho-mqtt is not installed."""
+"""Shows a whole transport of a vehicle through `tools/gateway` and a real broker, mosquitto, and
+what the gateway says of a broker that refuses it or is away."""
 
 from __future__ import annotations
 

@@ -1,6 +1,5 @@
-"""`tools/check-count`: each fault of a stocktake file with its line and what to write; what would
-move, asked of a running desk and of the file of a stopped one. Each file is answered by a desk as
-the check says."""
+"""Shows that `tools/check-count` names each fault of a stocktake file with its line and what to
+write, says what would move, and that a desk answers each file as it says."""
 import json
 import os
 import random

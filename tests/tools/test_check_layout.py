@@ -1,6 +1,5 @@
-"""`tools/check-layout`: each fault of a layout file once, with its line, and the stations between
-which no walk leads. Each file that it takes is set by a desk, and each that it refuses is refused
-by the desk with the refusal that it names."""
+"""Shows that `tools/check-layout` names each fault of a layout file once, with its line, and the
+stations between which no walk leads, and that a desk sets or refuses each file as it says."""
 import json
 import os
 import random

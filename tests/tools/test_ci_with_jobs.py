@@ -1,5 +1,5 @@
-"""The order in which dev/ci-with-jobs runs the tasks of `rt ci`, with how many jobs, and with which
-kit."""
+"""Shows in which order dev/ci-with-jobs runs the tasks of `rt ci`, with how many jobs, and with
+which kit."""
 import os
 import re
 import shutil

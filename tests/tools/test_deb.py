@@ -1,6 +1,6 @@
-"""The Debian package: it is made, `lintian` finds no error, and it is installed, upgraded, removed
-and purged on a machine without the kit, a Debian that systemd-nspawn boots. It takes minutes:
-NULVRADER_LONG=1. NULVRADER_DEBIAN names a tar of a Debian with python3, systemd and
+"""Shows that the Debian package is made without an error of `lintian`, and is installed, upgraded,
+removed and purged on a machine without the kit, a Debian that systemd-nspawn boots. It takes
+minutes: NULVRADER_LONG=1. NULVRADER_DEBIAN names a tar of a Debian with python3, systemd and
 systemd-sysv, as mmdebstrap makes it, and NULVRADER_DEB a package; what isn't named is made."""
 from __future__ import annotations
 

@@ -1,5 +1,5 @@
-"""The script `desk` builds the program: proved, and without proofs. The scripts stand in a small
-tree, over a stand-in for `rt`."""
+"""Shows that the script `desk` builds the program, proved and without proofs, in a small tree over
+a stand-in for `rt`."""
 import contextlib
 import os
 import shutil

@@ -1,4 +1,4 @@
-"""Edits, each of which makes a body wrong: each can be applied. And `dev/try-edits`, which tries
+"""Shows that each edit which makes a body wrong can be applied, and that `dev/try-edits` tries
 those that the gate leaves out, over a stand-in for `rt` that refuses as it is told."""
 import glob
 import os

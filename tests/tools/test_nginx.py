@@ -1,5 +1,5 @@
-"""The proxies of `examples/nginx` in front of the real desk, set up by the steps of docs/OPERATE.md
-in their order, with other folders and ports in the place of the machine's own."""
+"""Shows what the proxies of `examples/nginx` let pass in front of the real desk, set up by the
+steps of docs/OPERATE.md in their order, with other folders and ports than the machine's own."""
 
 from __future__ import annotations
 

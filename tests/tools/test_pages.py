@@ -1,6 +1,6 @@
-"""README.md, CHANGELOG.md, CONTRIBUTING.md and the pages of docs/: their links and the sections
-that they name are there, they are no longer than a reader has time for, and the release is the same
-wherever it stands."""
+"""Shows that the links of README.md, CHANGELOG.md, CONTRIBUTING.md and docs/ lead somewhere, that
+these pages are no longer than a reader has time for, and that the release is the same wherever it
+stands."""
 import glob
 import json
 import os

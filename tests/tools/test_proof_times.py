@@ -1,4 +1,4 @@
-"""`dev/proof-times`, over files as a check leaves them."""
+"""Shows what `dev/proof-times` prints of files as a check leaves them."""
 import os
 import shutil
 import subprocess

@@ -1,5 +1,5 @@
-"""`tools/ask` and the client through a real nginx with `examples/nginx`: TLS, users and roles, and
-what they say of what the proxy answers. Skipped where nginx or openssl is not installed."""
+"""Shows that `tools/ask` and the client pass through a real nginx with `examples/nginx` by TLS,
+with users and roles, and what they say of what the proxy answers."""
 
 from __future__ import annotations
 

@@ -1,6 +1,5 @@
-"""The sessions with curl that README.md and docs/HTTP.md show, as they stand there: each command is
-run against a desk on a new file, and what it writes is what the page shows. Only the port and the
-moments differ."""
+"""Shows that the sessions with curl of README.md and docs/HTTP.md write what stands there, against
+a desk on a new file, but for the port and the moments."""
 import json
 import os
 import re

@@ -1,6 +1,6 @@
-"""The release: `dev/release` writes it, `./desk` runs it where the sources are the same, and
-`./check` compares it with the program that the gate has built. In a small tree, over a stand-in for
-`rt`."""
+"""Shows, in a small tree over a stand-in for `rt`, that `dev/release` writes the release, that
+`./desk` runs it where the sources are the same, and that `./check` compares it with the program
+that the gate has built."""
 import os
 import pathlib
 import resource

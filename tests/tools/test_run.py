@@ -1,5 +1,5 @@
-"""`tests/run.py` over little modules, whose tests pass, fail, fail once, are skipped or end their
-process."""
+"""Shows what `tests/run.py` says of little modules whose tests pass, fail, fail once, are skipped
+or end their process."""
 from __future__ import annotations
 
 import os

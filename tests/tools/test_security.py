@@ -1,5 +1,5 @@
-"""docs/SECURITY.md names the attacks of `tests/attacks` as they are, and is short enough to be
-read."""
+"""Shows that docs/SECURITY.md names the attacks of `tests/attacks` as they are, and is short enough
+to be read."""
 
 from __future__ import annotations
 

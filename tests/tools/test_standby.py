@@ -1,5 +1,5 @@
 """Shows that one alone of two machines holds the lock over a file, and what becomes of the
-other. The drill over three machines is in test_standby_drill.py."""
+other."""
 from __future__ import annotations
 
 import os

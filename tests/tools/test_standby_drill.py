@@ -1,6 +1,5 @@
-"""A short round of `bench/standby`: three machines in namespaces, of which the one that has the
-desk is cut off, and killed, with Pacemaker too. And what it says of answers, which is worked out by
-hand here, and its watchdog."""
+"""Shows that a short round of `bench/standby` loses nothing, and that it judges answers, copies and
+watchdogs as worked out by hand here."""
 from __future__ import annotations
 
 import os

@@ -1,5 +1,5 @@
-"""The form of all Python here: what black, flake8 and mypy say of it, with the settings of
-pyproject.toml and .flake8; and the files that texts name are there."""
+"""Shows that all Python here has the form that black, flake8 and mypy ask for by pyproject.toml and
+.flake8, and that the files that texts name are there."""
 from __future__ import annotations
 
 import ast

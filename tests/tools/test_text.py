@@ -1,4 +1,5 @@
-"""`tools/nulvrader/common/text.py`: text from elsewhere as a terminal may print it."""
+"""Shows that `tools/nulvrader/common/text.py` makes of a text from elsewhere what a terminal may
+print."""
 import random
 import unicodedata
 import unittest

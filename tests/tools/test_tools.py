@@ -1,6 +1,5 @@
-"""The programs of `tools/` and `examples/`, and what they share: each has a help with an example,
-one module alone speaks HTTP, and the types and the names fit, as mypy and pyflakes see them where
-they are installed."""
+"""Shows that each program of `tools/` and `examples/` has a help with an example, that one module
+alone speaks HTTP, and that the types and the names fit, as mypy and pyflakes see them."""
 import importlib.util
 import os
 import re

@@ -1,5 +1,5 @@
-"""The units of `examples/systemd`: what they name is there, they fit together, and systemd takes
-them."""
+"""Shows that what the units of `examples/systemd` name is there, that they fit together, and that
+systemd takes them."""
 from __future__ import annotations
 
 import os

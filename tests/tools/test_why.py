@@ -1,6 +1,5 @@
-"""`tools/why` over the real program: each mistake by which a desk does not start is told by what is
-wrong and what to do, and nothing changes of what is looked at. And that docs/TABLES.md has the
-rules, and the desk's unit runs it."""
+"""Shows that `tools/why` tells each mistake by which a desk does not start by what is wrong and
+what to do, changes nothing of what it looks at, and has the rules of docs/TABLES.md."""
 import contextlib
 import errno
 import os

@@ -1,5 +1,5 @@
-"""`tools/why` over damaged files: each broken rule is told by its name and the rows that break it,
-and so is a table that is no desk's."""
+"""Shows that `tools/why` tells each broken rule of a damaged file by its name and the rows that
+break it, and so a table that is no desk's."""
 import contextlib
 import dataclasses
 import os
