@@ -17,7 +17,10 @@ if TYPE_CHECKING:
 
 Mend = Callable[[], None]
 BRICK = 'glusterfsd'  # the program that serves a copy
+OPENS_ANEW = 'performance.io-cache'  # an option that has each mount open its files anew
 LOG = f'{DB}-wal'  # what was changed last is in it
+# What of a machine GlusterFS, Corosync and Pacemaker keep.
+OF_SYSTEM = ('lib', 'corosync', 'corosync-lib', 'pacemaker-lib')
 WATCHDOG = 5.0  # seconds after which a machine that doesn't feed its watchdog is reset
 
 
@@ -107,6 +110,21 @@ def plant(drill: Drill, machine: Machine) -> Mend:
     return machine.join
 
 
+def replace(drill: Drill, machine: Machine) -> Mend:
+    """The machine is gone with its disks. A new one gets its name, its addresses and its copy."""
+    machine.kill()
+
+    def put() -> None:
+        kept = [name for name in OF_SYSTEM if name in machine.folders]
+        machine.empty(kept)
+        machine.boot()
+        machine.join()
+        drill.volume.replace(machine, random.choice(drill.others(machine)))
+        drill.boot(machine)
+
+    return put
+
+
 def tear(drill: Drill, machine: Machine) -> Mend:
     """The cable of another machine is out for a moment, in which the power of the machine fails:
     the last calls are in two copies, one of which is gone."""
@@ -148,6 +166,29 @@ def part(drill: Drill, machine: Machine) -> Mend:
     time.sleep(1)
     drill.volume.gluster(third, 'volume', 'start', 'desk', 'force')
     return machine.join
+
+
+def change(drill: Drill, machine: Machine) -> Mend:
+    """A copy was away, and has forgotten the lock. Then an option of the volume is changed by which
+    the machine opens its files anew, there too. And it and another machine don't hear each other,
+    so both see two copies."""
+    other, third = random.sample(drill.others(machine), 2)
+    for pid in drill.programs_of(third, BRICK):
+        os.kill(pid, signal.SIGKILL)
+    time.sleep(1)
+    drill.volume.gluster(third, 'volume', 'start', 'desk', 'force')
+    drill.wait_until_whole(machine)
+    drill.volume.gluster(third, 'volume', 'set', 'desk', OPENS_ANEW, 'on')
+    time.sleep(random.uniform(3, 5))
+    machine.cut_from(other)
+    time.sleep(random.uniform(8, 12))
+
+    def mend() -> None:
+        machine.join()
+        drill.wait_until_whole(machine)
+        drill.volume.gluster(third, 'volume', 'set', 'desk', OPENS_ANEW, 'off')
+
+    return mend
 
 
 def two(drill: Drill, machine: Machine) -> Mend:
@@ -209,8 +250,10 @@ KINDS: dict[str, Callable[[Drill, Machine], Mend]] = {
     'plant': plant,
     'full': full,
     'full-one': full_one,
+    'replace': replace,
+    'change': change,
 }
 # These are faults for a cluster, which has more networks than one.
 OF_CLUSTER = ('cable', 'plant')
 # After these the machine may go on itself.
-STAYS = ('full', 'full-one', 'two', 'total', 'part', 'desk')
+STAYS = ('full', 'full-one', 'two', 'total', 'part', 'desk', 'change')

@@ -11,7 +11,7 @@ import signal
 import subprocess
 import sys
 import time
-from collections.abc import Callable, Iterator, Sequence
+from collections.abc import Callable, Iterable, Iterator, Sequence
 from dataclasses import dataclass, field
 from typing import IO
 
@@ -168,6 +168,15 @@ class Machine:
         with open(f'/proc/{self.init.pid}/task/{self.init.pid}/children') as file:
             self.pid = int(file.read().split()[0])
         self.run('hostname', self.name)
+
+    def empty(self, names: Iterable[str]) -> None:
+        """Empties folders of a machine that doesn't run, and its disk with the copy."""
+        for name in (*names, 'brick'):
+            for entry in os.scandir(os.path.join(self.folder, name)):
+                if entry.is_dir(follow_symlinks=False):
+                    shutil.rmtree(entry.path)
+                else:
+                    os.remove(entry.path)
 
     def write(self, name: str, text: str) -> None:
         """Writes a file of its folder."""

@@ -82,6 +82,42 @@ class Volume:
                 return
         raise NoMachines(f'glusterd of {machine.name} does not answer')
 
+    def replace(self, machine: Machine, other: Machine) -> None:
+        """Takes in a new machine in the place of one with the same name and address, whose disks
+        were empty: by the commands of docs/TWO_MACHINES.md, *Replace a machine*."""
+        brick = f'{machine.folder}/brick/{NAME}'
+        told = self.gluster(other, 'pool', 'list')
+        names = (machine.address, machine.name)
+        (mark,) = [line.split()[0] for line in told.splitlines() if line.split()[1] in names]
+        os.mkdir(brick)
+        machine.write('lib/glusterd.info', f'UUID={mark}\noperating-version=100000\n')
+        self.start_daemon(machine)
+        self.gluster(machine, 'peer', 'probe', other.address)
+        for _ in range(2):  # it takes in the volume, and then where its own copy is
+            self.stop_daemon(machine)
+            self.start_daemon(machine)
+            for one in self.machines.all:
+                self.wait_until_known(one)
+        place = f'{machine.address}:{brick}'
+        self.gluster(machine, 'volume', 'reset-brick', NAME, place, 'start')
+        self.gluster(machine, 'volume', 'reset-brick', NAME, place, place, 'commit', 'force')
+
+    def wait_until_known(self, machine: Machine) -> None:
+        """Waits until a machine knows the volume and all machines."""
+        for _ in until():
+            peers = machine.run('gluster', '--mode=script', 'pool', 'list').stdout
+            volumes = machine.run('gluster', '--mode=script', 'volume', 'list').stdout
+            if NAME in volumes.split() and peers.count('Connected') == len(self.machines.all):
+                return
+        raise NoMachines(f'{machine.name} does not know the volume')
+
+    def stop_daemon(self, machine: Machine) -> None:
+        """Stops the daemon of a machine; its copy is still served."""
+        machine.run('sh', '-c', 'kill $(pidof glusterd)')
+        for _ in until():
+            if machine.run('pidof', 'glusterd').returncode:
+                return
+
     def mount(self, machine: Machine) -> None:
         """Mounts it in a machine, and waits until files can be seen."""
         for _ in until():

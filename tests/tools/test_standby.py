@@ -2,10 +2,13 @@
 other."""
 from __future__ import annotations
 
+import fcntl
 import os
 import signal
+import struct
 import subprocess
 import sys
+import threading
 import unittest
 from unittest import mock
 
@@ -35,6 +38,29 @@ class OneLock(Folder):
         self.assertTrue(second.take())
         second.close()
 
+    def test_a_copy_that_knows_no_lock(self) -> None:
+        """GlusterFS may say that a lock is free which is held: then the record is still written."""
+        one = Lock(self.db)
+        self.assertTrue(one.take())
+        unlocked = struct.pack('hhqqi', fcntl.F_UNLCK, os.SEEK_SET, 0, 0, 0)
+        over = threading.Event()
+
+        def prove() -> None:
+            while not over.wait(0.3):
+                one.prove()
+
+        with mock.patch('nulvrader.standby.lock.is_shared', return_value=True):
+            with mock.patch('fcntl.fcntl', return_value=unlocked), mock.patch.object(
+                lock, 'STILL', 1
+            ):
+                self.assertTrue(lock.is_free(self.db))
+                thread = threading.Thread(target=prove)
+                thread.start()
+                self.assertFalse(lock.is_free(self.db))
+                over.set()
+                thread.join()
+        one.close()
+
     def test_a_proof_that_fails(self) -> None:
         """A write that the volume refuses is no proof."""
         one = Lock(self.db)
@@ -45,6 +71,22 @@ class OneLock(Folder):
         with mock.patch('os.pwrite', return_value=1):
             with self.assertRaises(NotHeld):
                 one.prove()
+        one.close()
+
+    def test_a_volume_that_was_changed(self) -> None:
+        """Once the mount has opened its files anew, it isn't known whether all copies have the
+        lock."""
+        link = self.path('.meta/graphs/active')
+        os.makedirs(os.path.dirname(link))
+        os.symlink('first', link)
+        one = Lock(self.db)
+        with mock.patch('nulvrader.standby.lock.mount_of', return_value=self.folder):
+            self.assertTrue(one.take())
+        one.prove()
+        os.remove(link)
+        os.symlink('second', link)
+        with self.assertRaisesRegex(NotHeld, 'the volume was changed'):
+            one.prove()
         one.close()
 
     def test_a_file_of_one_machine_is_synced(self) -> None:

@@ -107,7 +107,7 @@ def check_mount(found: CheckResult, db: str, volume: str | None) -> None:
         if volume is not None and not lock.is_shared(folder):
             found.wrong.append(f'{shown(folder, 500)} is not on a volume of GlusterFS')
             return
-        place = mount_of(folder)
+        place = lock.mount_of(folder)
         clients = []
         for path in sorted(
             glob.glob(f'{glob.escape(place)}/.meta/graphs/active/*-client-*/private')
@@ -129,13 +129,6 @@ def wrong_flags(flags: list[str] | None) -> list[str]:
     if INVALIDATES in flags:
         return []
     return ['the mount has no auto-invalidation=on: files are read as they were']
-
-
-def mount_of(folder: str) -> str:
-    """Returns the mount point of the file system that a folder is on."""
-    while not os.path.ismount(folder):
-        folder = os.path.dirname(folder)
-    return folder
 
 
 def wrong_clients(clients: list[Client]) -> list[str]:

@@ -21,6 +21,7 @@ from ..common.text import shown
 
 END = '.holder'
 RECORD = 128  # bytes of the file: the holder, since when, and a number that grows
+STILL = 4.0  # seconds without a change of the record, after which nobody writes it
 # A write lock on all bytes of the file, which belongs to one open file (fcntl(2), F_OFD_SETLK).
 WHOLE = struct.pack('hhqqi', fcntl.F_WRLCK, os.SEEK_SET, 0, 0, 0)
 TAKEN = (errno.EAGAIN, errno.EACCES)
@@ -78,27 +79,46 @@ def _open(path: str, flags: int) -> int:
     return number
 
 
-def holder_of(db: str) -> Holder | None:
-    """Returns the machine that has the lock, or had it last; None where no record says so."""
-    try:
-        number = _open(path_of(db), os.O_RDONLY)
-    except FileNotFoundError:
-        return None
+def record_of(db: str) -> bytes:
+    """Returns the record beside a desk's file, as the volume has it."""
+    number = _open(path_of(db), os.O_RDONLY)
     try:
         os.posix_fadvise(number, 0, 0, os.POSIX_FADV_DONTNEED)
-        return Holder.parse(os.pread(number, RECORD, 0))
+        return os.pread(number, RECORD, 0)
     finally:
         os.close(number)
 
 
+def holder_of(db: str) -> Holder | None:
+    """Returns the machine that has the lock, or had it last; None where no record says so."""
+    try:
+        return Holder.parse(record_of(db))
+    except FileNotFoundError:
+        return None
+
+
 def is_free(db: str) -> bool:
-    """Whether nobody has the lock. Nothing is locked or written for this answer."""
+    """Whether nobody has the lock. Nothing is locked or written for this answer. GlusterFS answers
+    as the last copy does, which knows no lock that was taken while it was away: so on a volume the
+    lock is free only if its record stays the same for some seconds, too."""
     number = _open(path_of(db), os.O_RDONLY)
     try:
         told = fcntl.fcntl(number, fcntl.F_OFD_GETLK, WHOLE)
     finally:
         os.close(number)
-    return bool(struct.unpack('hhqqi', told[: struct.calcsize('hhqqi')])[0] == fcntl.F_UNLCK)
+    if struct.unpack('hhqqi', told[: struct.calcsize('hhqqi')])[0] != fcntl.F_UNLCK:
+        return False
+    return not (is_shared(path_of(db)) and is_written(db))
+
+
+def is_written(db: str) -> bool:
+    """Whether the record changes within some seconds. The holder writes it each second."""
+    before, ends = record_of(db), time.monotonic() + STILL
+    while time.monotonic() < ends:
+        time.sleep(0.1)
+        if record_of(db) != before:
+            return True
+    return False
 
 
 def reason(db: str) -> str | None:
@@ -151,6 +171,22 @@ def _failing(path: str) -> Iterator[None]:
         raise NotHeld(f'{shown(path, 1000)}: {fault.strerror}') from None
 
 
+def mount_of(folder: str) -> str:
+    """Returns the mount point of the file system that a folder is on."""
+    while not os.path.ismount(folder):
+        folder = os.path.dirname(folder)
+    return folder
+
+
+def graph_at(place: str) -> str:
+    """Returns the name of the graph by which a mount of GlusterFS reaches the copies; elsewhere ''.
+    After some changes of a volume a mount has another one, by which it opens its files anew."""
+    try:
+        return os.readlink(os.path.join(place, '.meta/graphs/active'))
+    except OSError:
+        return ''
+
+
 def forget(db: str) -> None:
     """Has this machine's memory keep nothing of a desk's file, so that it is read from the volume.
     A mount may keep what it has read for ever, also where another machine writes the file.
@@ -172,12 +208,15 @@ class Lock:
         self.number = -1
         self.count = 0
         self.head = b''
+        self.place, self.graph = '', ''
         self.is_shared = False
 
     def take(self) -> bool:
         """Takes the lock, and proves it. Returns False where another machine has it, and raises
         OSError where the disk fails."""
         if self.number < 0:
+            self.place = mount_of(os.path.dirname(os.path.abspath(self.path)))
+            self.graph = graph_at(self.place)
             self.number = _open(self.path, os.O_RDWR | os.O_CREAT)
         try:
             fcntl.fcntl(self.number, fcntl.F_OFD_SETLK, WHOLE)
@@ -205,6 +244,8 @@ class Lock:
         """Returns if the lock was held at some moment since the call, else raises `NotHeld`."""
         with _failing(self.path):
             self.write()
+        if graph_at(self.place) != self.graph:  # a copy that was away may not know the lock
+            raise NotHeld(f'{shown(self.path, 1000)}: the volume was changed')
 
     def close(self) -> None:
         """Releases the lock."""
