@@ -16,8 +16,6 @@ from tests.support.programs import ROOT, TOOLS
 
 SOON = 3  # seconds in which a command line comes that comes at all
 ASKS_FOR_A_MOUNT = """
-import sys
-sys.path.insert(0, sys.argv[1])
 from nulvrader.standby import gluster
 print(gluster.flags_of('/no/such/mount'))
 """
@@ -61,6 +59,6 @@ class StuckPrograms(Attack):
 
     def test_beside_a_mount(self) -> None:
         """It runs beside a standby, which looks for the program of its volume."""
-        line = [sys.executable, '-c', ASKS_FOR_A_MOUNT, TOOLS]
+        line = [sys.executable, '-c', ASKS_FOR_A_MOUNT]
         done = subprocess.run(line, capture_output=True, text=True, timeout=60, cwd=ROOT)
         self.assertEqual((done.stdout, done.stderr), ('None\n', ''))

@@ -70,7 +70,7 @@ class OfVehicles(Alarmed):
         def begin(later: int) -> None:
             self.row = vehicle(header=None)
             self.start_again()
-            self.news.shown.put('desk', '', {'up': True, 'other': False, 'since': 1, 'fault': None})
+            self.news.shown.put(DESK, '', ShownDesk(up=True, since=1, fault=None, other=False))
             self.alarms = Alarms(self.news, LATE)
             self.look()
             self.look(later)
