@@ -42,6 +42,7 @@ def remove(name: str) -> None:
 
 
 def copied(source: str, name: str) -> str:
+    """Copies a file, in the place of any other, and returns the copy's path."""
     remove(name)
     shutil.copy(source, name)
     return name

@@ -17,7 +17,8 @@ class Battery:
         return max(0, int(100 * self.left / self.lasts))
 
     def stand(self, seconds: float, charging: bool) -> bool:
-        """So many seconds go by, in which it is charged or not. Whether its state is another."""
+        """Charges it for so many seconds, if it is at a charger, or drains it. Whether its state is
+        another."""
         before, self.charging = self.state(), charging
         if charging:
             self.left = min(self.lasts, self.left + seconds * self.gains)

@@ -22,8 +22,8 @@ class Checked(Grounds):
     differ."""
 
     def check_plans(self, plans: Sequence[Standing]) -> None:
-        """The dispatcher has a plan that can be carried out, and while something can move by it,
-        something does."""
+        """Checks that the dispatcher has a plan that can be carried out, and that something moves
+        while something can by the plan."""
         faults = [fault for fault in (plan.fault() for plan in plans) if fault is not None]
         if faults:
             raise Wrong(f'the plan of the dispatcher can not be carried out: {faults[0]}')
@@ -36,8 +36,8 @@ class Checked(Grounds):
             )
 
     def note_shut_in(self, told: Mapping[str, tuple[float, str]]) -> None:
-        """Who is shut in, and why: of those that were so before the dispatcher was started anew the
-        one before has said it."""
+        """Notes for how long each vehicle has been shut in, and why. Where the dispatcher was
+        started anew meanwhile, what the one before said counts."""
         self.shut_by = {
             name: self.shut_by.get(name, why) if why == BEFORE else why
             for name, (_, why) in told.items()
@@ -46,8 +46,8 @@ class Checked(Grounds):
             self.day.shut[name, since] = self.clock.now - since, self.shut_by[name]
 
     def audit(self) -> None:
-        """Each vehicle is on what the desk holds for it, and each load is in one place, where the
-        desk has it, and in one order."""
+        """Checks that each vehicle is on what the desk holds for it, and each load in one place,
+        where the desk has it, and in one order."""
         self.look_for_shared_loads()
         try:
             holds = read_holds(self.desk.hold_report())
@@ -69,7 +69,7 @@ class Checked(Grounds):
         self.day.counts['audits'] += 1
 
     def look_for_shared_loads(self) -> None:
-        """No two vehicles are to pick or put down one load."""
+        """Checks that no two vehicles are to pick or put down one load."""
         found: dict[str, str] = {}
         for name, vehicle in self.vehicles.items():
             for load in vehicle.open_loads() if not vehicle.by_hand else ():
@@ -78,8 +78,8 @@ class Checked(Grounds):
                 found[load] = name
 
     def compare_places(self, stock: Stock) -> None:
-        """The desk has each load once, and where it is, but for those whose last move it has not
-        been told."""
+        """Checks that the desk has each load once, and where it is, but for those whose last move
+        it has not been told."""
         told, true, count = stock.places(), self.goods.places(), Counter(stock.loads())
         twice = sorted(load for load, times in count.items() if times > 1)
         if twice:
@@ -97,8 +97,8 @@ class Checked(Grounds):
                 raise Wrong(f'{load} is at {place}, and the desk has it at {told.get(load)}')
 
     def look_for_circles(self) -> None:
-        """No vehicles wait for each other for long. One that is paused, not ready or silent goes on
-        for no other."""
+        """Checks that no vehicles wait for each other for long. One that is paused, not ready or
+        silent goes on for no other."""
         excused = {
             name
             for name, one in self.vehicles.items()
@@ -111,8 +111,8 @@ class Checked(Grounds):
         self.circles.look(waits, excused, self.clock.now)
 
     def settle(self) -> None:
-        """Once nothing moves any more and all states have come, the desk has each load and vehicle
-        where it is."""
+        """Checks that the desk has each load and vehicle where it is, once nothing moves any more
+        and all states have come."""
         for gateway in self.gateways.values():
             gateway.up = True
             assert gateway.vehicle is not None
@@ -143,7 +143,8 @@ class Checked(Grounds):
                 )
 
     def close(self) -> None:
-        """The file is lawful; each job of it was added, and is done or was stopped for a reason."""
+        """Checks that the file is lawful, and that each job of it was added, and is done or was
+        stopped for a reason."""
         self.served.report('stock')
         base = sqlite3.connect(self.served.db)
         jobs = {

@@ -73,7 +73,7 @@ class Day:
         return sum(self.waited.values()) / (sum(self.ordered.values()) or 1)
 
     def has_waited(self, vehicle: str, since: float, now: float, why: str) -> None:
-        """A vehicle with an order still waits, and that is why."""
+        """Counts that a vehicle with an order still waits, and why."""
         if now - since > min(LONG, self.longest):
             self.long[vehicle, since] = now - since, why
         self.longest = max(self.longest, now - since)

@@ -156,7 +156,7 @@ class Served:
         process.wait()
 
     def settle(self) -> None:
-        """It runs, and nobody kills it any more."""
+        """Waits until nobody kills it any more, and starts it if it has ended."""
         if self.killer is not None:
             self.killer.join()
         self.supervise()

@@ -33,8 +33,8 @@ class Floor:
         self.one_way(b, a, metres)
 
     def ring(self, front: str, size: int, room: int, bay_every: int) -> None:
-        """A street that is passed one way, `N00` to the last and back, and at every so many nodes a
-        bay with a station."""
+        """Adds a street that is passed one way, `N00` to the last and back, and at every so many
+        nodes a bay with a station."""
         names = [f'{front}{n:02d}' for n in range(size)]
         self.nodes += names
         for here, after in zip(names, names[1:] + names[:1]):
@@ -47,8 +47,8 @@ class Floor:
             self.bays.append(bay)
 
     def spur(self, at: str, length: int, room: int) -> None:
-        """A dead end of so many nodes in a row, with a station at each but the first: who is at its
-        end comes out last."""
+        """Adds a dead end of so many nodes in a row, with a station at each but the first: who is
+        at its end comes out last."""
         before = at
         for n in range(length):
             node = f'{at}x{n}'
@@ -59,7 +59,7 @@ class Floor:
             before = node
 
     def charger(self, at: str) -> None:
-        """A siding with a charger at its end."""
+        """Adds a siding with a charger at its end."""
         node = at + 'c'
         self.nodes.append(node)
         self.two_way(at, node, SIDING)
@@ -75,8 +75,8 @@ class Floor:
         return self
 
     def single_track(self, front: str, a: str, b: str, length: int) -> None:
-        """A track between two nodes that is passed both ways, with a passing place in its middle:
-        there the way to b is one node and the way back another."""
+        """Adds a track between two nodes that is passed both ways, with a passing place in its
+        middle: there the way to b is one node and the way back another."""
         half = length // 2
         left = [a, *(f'{front}{n:02d}' for n in range(half))]
         right = [*(f'{front}{n:02d}' for n in range(half, length)), b]
@@ -91,8 +91,8 @@ class Floor:
 
 
 def large() -> Floor:
-    """For twenty vehicles: three one-way rings, joined by single track with passing places, and
-    dead ends on each."""
+    """Returns the layout for twenty vehicles: three one-way rings, joined by single track with
+    passing places, and dead ends on each."""
     floor = Floor()
     for front in 'NMS':
         floor.ring(front, 24, 12, 2)
@@ -106,8 +106,8 @@ def large() -> Floor:
 
 
 def small() -> Floor:
-    """For five vehicles: two one-way rings, joined by one single track with a passing place, and a
-    dead end."""
+    """Returns the layout for five vehicles: two one-way rings, joined by one single track with a
+    passing place, and a dead end."""
     floor = Floor()
     floor.ring('N', 10, 6, 2)
     floor.ring('S', 8, 6, 2)
@@ -117,8 +117,8 @@ def small() -> Floor:
 
 
 def huge() -> Floor:
-    """For a hundred vehicles: eight one-way rings in a circle, each joined to the next one by
-    single track with a passing place, and dead ends on each; 480 nodes."""
+    """Returns the layout for a hundred vehicles: eight one-way rings in a circle, each joined to
+    the next one by single track with a passing place, and dead ends on each; 480 nodes."""
     floor, rings = Floor(), 'NMSPQRTU'
     for front in rings:
         floor.ring(front, 32, 12, 2)

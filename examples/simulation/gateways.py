@@ -55,7 +55,7 @@ class Gateway:
         self.clock.every(self.line.beat, self.tell, self.chance.uniform(0, self.line.beat))
 
     def restart(self, seconds: float) -> None:
-        """It is away for so long, and has forgotten what it had."""
+        """Stops it for so long. It forgets what it had."""
         self.up, self.life, self.handed = False, self.life + 1, {}
 
         def back() -> None:

@@ -98,7 +98,8 @@ class Grounds:
         self._say(f'{self.clock.now:8.1f}  {line}')
 
     def set_up(self) -> None:
-        """A new file: the layout, the vehicles in bays, the loads at stations."""
+        """Begins a new file: sets the layout, and registers the vehicles in bays and the loads at
+        stations."""
         self.served.start()
         with self.desk.kept():
             self.desk.set_layout(self.layout.csv())

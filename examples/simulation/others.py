@@ -69,15 +69,16 @@ class FirstCome:
         return self._waits
 
     def shut_in(self) -> Mapping[str, tuple[float, str]]:
-        """Nobody: who has an order has all of its way."""
+        """Returns nobody: who has an order has all of its way."""
         return {}
 
     def plans(self) -> Sequence[Plan]:
-        """None: who has an order has all of its way."""
+        """Returns none: who has an order has all of its way."""
         return ()
 
     def turn(self) -> bool:
-        """One look at the desk, and orders for the jobs that wait. Whether the desk answered."""
+        """Looks at the desk once, and gives orders for the jobs that wait. Whether the desk
+        answered."""
         try:
             with self.desk.kept():
                 self._turn()

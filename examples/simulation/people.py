@@ -177,7 +177,8 @@ class People:
             self.counts['pauses'] += 1
 
     def resume(self, vehicle: Vehicle) -> None:
-        """Until it goes on, and no pause is still to reach it, as where its gateway is away."""
+        """Resumes it, until it goes on and no pause is still to reach it, as where its gateway is
+        away."""
         try:
             if vehicle.paused:
                 self.desk.resume(vehicle.key)
@@ -290,7 +291,7 @@ class People:
                 self.blocked.pop(vehicle.name, None)
 
     def bring_back(self, vehicle: Vehicle, restarted: float) -> None:
-        """A vehicle that was restarted is resynced and placed where it stands, as docs/OPERATE.md
+        """Resyncs a vehicle that was restarted and places it where it stands, as docs/OPERATE.md
         says; not before its older states have come."""
         if self.clock.now - restarted < 15:
             return

@@ -100,8 +100,8 @@ class Plan:
     chargers: int = 0
 
     def calm(self) -> Plan:
-        """The same plant, in which nothing fails and nothing is killed. No vehicle is silent there,
-        so something moves within a minute."""
+        """Returns the same plant, in which nothing fails and nothing is killed. No vehicle is
+        silent there, so something moves within a minute."""
         return replace(
             self,
             trouble=CALM,

@@ -69,7 +69,7 @@ class Plant(Troubled):
                 clock.every(seconds, what, seconds)
 
     def dispatch(self) -> None:
-        """A turn of the dispatcher; one that was killed is started anew."""
+        """Does a turn of the dispatcher, and starts one anew that was killed."""
         if self.dispatcher is None:
             assert self.make is not None
             self.mortal = Mortal(self.served.wire, self.reasons)
@@ -93,7 +93,7 @@ class Plant(Troubled):
             )
 
     def hear(self, line: str) -> None:
-        """A line of the dispatcher."""
+        """Takes a line of the dispatcher."""
         self.day.counts['times that a vehicle is silent'] += ': has sent no state for ' in line
         self.day.counts['drives'] += ': drives to ' in line
         about = re.match(r'(\S+/\S+?):? (.*)', line)
@@ -106,7 +106,7 @@ class Plant(Troubled):
         self.say(line)
 
     def fetch(self) -> None:
-        """The gateways look for messages, on one connection."""
+        """Has the gateways look for messages, on one connection."""
         self.fetches += 1
         try:
             with self.desk.kept():
@@ -116,8 +116,8 @@ class Plant(Troubled):
             pass
 
     def measure(self) -> None:
-        """Who has an order and waits, and the last reason that the dispatcher had for it, or else
-        its last line about the vehicle."""
+        """Notes who has an order and waits, with the last reason that the dispatcher had for it, or
+        else its last line about the vehicle."""
         told = self.waits() or {}
         for name, vehicle in self.vehicles.items():
             has_order = not vehicle.is_done() and not vehicle.by_hand

@@ -33,7 +33,7 @@ class Reasons:
         self.others: str | None = None  # the reason where there is none of these
 
     def give(self, order: str, stops: Sequence[Stop]) -> None:
-        """An order with these stops is given, or may be."""
+        """Notes that an order with these stops is given, or may be."""
         for n, stop in enumerate(stops):
             self.acts.setdefault(stop.job, []).append((stop.action, f'{order}.{n}'))
 
@@ -72,7 +72,7 @@ class Reasons:
         return told[-1] if told else self.others or ''
 
     def check_done(self, job: str, load: str, target: str, goods: Goods) -> None:
-        """A job that is done had its load put down at its target by its own drop."""
+        """Checks that a job that is done had its load put down at its target by its own drop."""
         drops = [act for kind, act in self.acts.get(job, ()) if kind == 'drop']
         if not any(goods.drops.get(act) == (load, target) for act in drops):
             raise Wrong(f'{job} is done, and no vehicle has put {load} down at {target} for it')

@@ -217,7 +217,7 @@ class Sketch(Sketched):
             self.go_on(car)
 
     def _tell(self, car: Car, trip: Trip, update: int | None = None) -> None:
-        """The desk gets the vehicle's state, a moment later."""
+        """Gives the desk the vehicle's state, a moment later."""
         place, done, delay = car.place, car.done, self.chance.uniform(0, 0.4)
 
         def post() -> None:
@@ -286,7 +286,8 @@ class Sketch(Sketched):
     # What goes wrong.
 
     def halt(self, seconds: float) -> None:
-        """One that has an order stands still for a while, once it has come to its next node."""
+        """Has a vehicle with an order stand still for a while, once it has come to its next
+        node."""
         car = self.chance.choice([car for car in self.cars.values() if not car.paused])
         car.paused = True
 
@@ -298,8 +299,8 @@ class Sketch(Sketched):
         self.figures.counts['pauses'] += 1
 
     def carry_off(self) -> None:
-        """A person carries one that stands and has no load to another free bay. Its order has
-        ended, and its jobs are gone."""
+        """Has a person carry a vehicle that stands and has no load to another free bay. Its order
+        has ended, and its jobs are gone."""
         cars = [car for car in self.cars.values() if not (car.busy or car.loads or car.paused)]
         ahead = {node for car in self.cars.values() if car.trip for node in car.trip.way}
         free = [node for node in self.floor.bays if node not in self.holders]

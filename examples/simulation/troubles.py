@@ -24,7 +24,7 @@ class Troubled(Checked):
         self.day.counts['restarts of gateways'] += 1
 
     def restart_vehicle(self) -> None:
-        """One that has an order, and has told the desk so."""
+        """Restarts a vehicle that has an order, and has told the desk so."""
         found = [one for one in self.vehicles.values() if one.may_restart()]
         vehicle = self.chance.choice(found) if found else None
         try:
@@ -36,7 +36,7 @@ class Troubled(Checked):
             pass
 
     def press_stop(self) -> None:
-        """The emergency stop of one that stands is pressed."""
+        """Presses the emergency stop of a vehicle that stands."""
         found = [one for one in self.vehicles.values() if one.goes_on() and not one.is_acting()]
         standing = [one for one in found if not one.node_is_left()]
         if standing:

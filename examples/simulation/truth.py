@@ -41,7 +41,7 @@ class Track:
             del self.nodes[node]
 
     def leave(self, vehicle: str, edge: str) -> None:
-        """A vehicle begins to drive along an edge."""
+        """Notes that a vehicle begins to drive along an edge."""
         if self.edges[edge].start != self.at[vehicle] or vehicle in self.on:
             raise Wrong(f'{vehicle} drives along {edge}, and is at {self.at[vehicle]}')
         other = self.stretches.get(self._stretch(edge))
@@ -145,7 +145,7 @@ class Given:
             self.drops[action['actionId']] = said['loadId'], said['stationName']
 
     def take_back(self, vehicle: str, order: str) -> None:
-        """The order has ended: its track is the vehicle's no more."""
+        """Takes the track of an order that has ended from its vehicle."""
         self.over.add((vehicle, order))
 
     def check(self, vehicle: str, order: str, number: int, edge: str) -> None:

@@ -71,8 +71,8 @@ class Vehicle:
     # Messages.
 
     def take_order(self, message: dict[str, Any]) -> None:
-        """An order message: a new order where it has none, or more of the one that it has. One that
-        is older than another that it had is passed over."""
+        """Takes an order message: a new order where it has none, or more of the one that it has.
+        One that is older than another that it had is passed over."""
         is_known = message['headerId'] <= self.order_header or message['orderId'] in self.dropped
         if is_known or self.by_hand or self.restarted is not None:
             return
@@ -128,7 +128,7 @@ class Vehicle:
         self.tell()
 
     def drop_order(self) -> None:
-        """It has no track of its order any more."""
+        """Drops the track of its order."""
         self.dropped.add(self.order)
         self.given.take_back(self.name, self.order)
 
@@ -176,7 +176,7 @@ class Vehicle:
         return number in self.nodes and bool(self.nodes[number]['released'])
 
     def stop(self) -> None:
-        """What it was about to finish does not happen."""
+        """Drops what it was about to finish."""
         self.turn += 1
 
     def later(self, seconds: float, what: Callable[[], None]) -> None:
@@ -286,12 +286,12 @@ class Vehicle:
         self.go_on()
 
     def stand_at_charger(self, seconds: float, is_there: bool) -> None:
-        """So many seconds go by, in which its battery is charged if it stands at a charger."""
+        """Lets so many seconds go by, in which its battery is charged if it stands at a charger."""
         if self.battery.stand(seconds, is_there and self.is_done() and self.goes_on()):
             self.tell()
 
     def press_stop(self, seconds: float) -> None:
-        """Somebody presses its emergency stop, while it stands, and acknowledges it later."""
+        """Presses its emergency stop, while it stands, until somebody acknowledges it later."""
         self.stopped = True
         self.tell()
         self.clock.after(seconds, self.end_stop)
@@ -321,7 +321,7 @@ class Vehicle:
         return found
 
     def clear(self) -> None:
-        """A person clears the order on it."""
+        """Has a person clear the order on it."""
         self.stop()
         self.drop_order()
         self.nodes, self.edges, self.statuses, self.missed, self.sequence = {}, {}, {}, set(), 0
@@ -341,7 +341,7 @@ class Vehicle:
         return not busy and not self.is_done() and all(self.has_told(load) for load in self.moved)
 
     def restart(self) -> None:
-        """It has lost its order, and counts its states from the start again."""
+        """Has it lose its order, and count its states from the start again."""
         self.clear()
         self.paused, self.header, self.posted, self.moved = False, 0, -1, {}
         self.life += 1

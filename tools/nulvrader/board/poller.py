@@ -265,7 +265,8 @@ class Asker(threading.Thread):
         self.news.commit()
 
     def next_question(self, at: float) -> Question | None:
-        """Returns what to ask next, or None where nothing is due."""
+        """Returns what to ask next, or None where nothing is due. Removes old rows of the record at
+        times."""
         if at >= self.old_due:
             is_more = self.news.record.remove_old(now() - self.days * DAY)
             self.old_due = at + (OLD_ON if is_more else OLD_EVERY)
