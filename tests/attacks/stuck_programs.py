@@ -12,7 +12,7 @@ from nulvrader.file import machine
 from tests.attacks.local_users import AS_NOBODY, missing
 from tests.support import stuck_memory
 from tests.support.attacked_file import Attack, ran
-from tests.support.programs import ROOT, TOOLS
+from tests.support.programs import TOOLS
 
 SOON = 3  # seconds in which a command line comes that comes at all
 ASKS_FOR_A_MOUNT = """
@@ -60,5 +60,5 @@ class StuckPrograms(Attack):
     def test_beside_a_mount(self) -> None:
         """It runs beside a standby, which looks for the program of its volume."""
         line = [sys.executable, '-c', ASKS_FOR_A_MOUNT]
-        done = subprocess.run(line, capture_output=True, text=True, timeout=60, cwd=ROOT)
+        done = subprocess.run(line, capture_output=True, text=True, timeout=60, cwd=TOOLS)
         self.assertEqual((done.stdout, done.stderr), ('None\n', ''))
