@@ -126,12 +126,15 @@ class Table(unittest.TestCase):
             self.assertTrue(any(re.fullmatch(pattern, name) for pattern in patterns), name)
 
     def test_what_to_do_about_one_in_the_way(self) -> None:
-        """It is sent away by a command, which is named as its button is."""
+        """It is sent away by a command, and the one behind it gets the rest of its way by another,
+        each named as its button is."""
         for language in LANGUAGES:
             for row in ('shut.send', 'shut.cancel'):
                 words = say(row, {'by': 'KIT/0002', 'vehicle': 'KIT/0001'}, language)
                 self.assertIn(f'({say("do.drive", {}, language)})', words)
                 self.assertIn('KIT/0002', words)
+                self.assertIn('KIT/0001', words)
+            self.assertIn(f'({say("do.advance", {}, language)})', say('shut.send', {}, language))
 
     def test_no_text_is_left_in_a_script(self) -> None:
         seen = 0

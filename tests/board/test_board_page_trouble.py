@@ -14,6 +14,15 @@ from nulvrader.common.reasons import Reasons, write_file
 from tests.support.board_page import Page
 from tests.support.board_run import ONE, until
 
+# Each text that those hear who do not see the page.
+HEARD = """
+    const spoken = document.querySelector('.spoken');
+    window.said = [];
+    new MutationObserver(() => window.said.push(spoken.textContent)).observe(spoken, {
+      childList: true, characterData: true, subtree: true,
+    });
+"""
+
 
 class Trouble(Page):
     def test_the_jobs_of_a_vehicle_that_is_not_ready(self) -> None:
@@ -30,6 +39,24 @@ class Trouble(Page):
         self.sees('#alarms', 'KIT/0001 is not ready', 'In its order: J1.', 'Cancel')
         self.browser.click('#alarms .help')
         self.sees('#command', 'Cancel the order', 'KIT/0001')
+
+    def test_what_is_said_to_those_who_hear_the_page(self) -> None:
+        """What is new is said, and taken away while it still stands, so that the same words are
+        said once more where it comes again."""
+        self.browser.run(HEARD)
+        words = 'KIT/0001 is not ready'
+
+        def said() -> list[str]:
+            found: list[str] = self.browser.run('return window.said')
+            return found
+
+        for count in (1, 2):
+            self.plant.state(ONE, 'N1', operatingMode='MANUAL')
+            until(lambda: sum(words in one for one in said()) == count, 'it is said')
+            until(lambda: said()[-1] == '', 'it is taken away')
+            self.sees('#alarms', words)
+            self.plant.state(ONE, 'N1')
+            self.misses('#alarms', words)
 
 
 class Told(Page):

@@ -8,6 +8,7 @@ const NAME = 'board.name'; // what is kept of who looks here, where no proxy nam
 const SOUND = 'board.sound';
 const MANY = 6; // alarms of a kind, beyond which only the first are seen
 const FIRST = 4;
+const SPOKEN = 5000; // milliseconds, after which what was said is taken away
 const TITLE = say('page.title');
 
 /** By the kind of an alarm the command that ends the order of its vehicle. */
@@ -101,9 +102,16 @@ export class Alarms {
     set(document.querySelector('link[rel=icon]'), 'href', bad.length ? 'alarm.svg' : 'icon.svg');
     const keys = new Set(bad.map((row) => row.key));
     const fresh = bad.filter((row) => !this.known?.has(row.key));
-    if (fresh.length) text(this.spoken, fresh.map((row) => this.wordsOf(row)).join('. '));
+    if (fresh.length) this.speak(fresh.map((row) => this.wordsOf(row)).join('. '));
     if (this.known && this.isLoud && fresh.length) this.beep();
     this.known = keys;
+  }
+
+  /** Has something said to those who hear the page. It is emptied then, so that the same words are heard again. */
+  speak(words) {
+    text(this.spoken, words);
+    clearTimeout(this.silence);
+    this.silence = setTimeout(() => text(this.spoken, ''), SPOKEN);
   }
 
   /** The rows that are seen: of many alarms of one kind the first ones, and behind them how many more there are. */
