@@ -15,6 +15,7 @@ from tests.support.programs import ROOT
 
 # Widths and heights, and whether it is a phone.
 SIZES = ((1280, 800, False), (3840, 2160, False), (390, 844, True))
+WRONG = 'pale', 'nameless', 'small', 'twice', 'cut'  # what the checks look for
 TABS = ('vehicles', 'stock', 'jobs', 'events')
 CHECKS = os.path.join(ROOT, 'tests', 'support', 'page_checks.js')
 
@@ -53,7 +54,7 @@ class Eyes(Page):
         found: dict[str, Any] = page.run(checks())
         wide = found.pop('wide')
         self.assertLessEqual(wide, 0, where)
-        self.assertEqual(found, {'pale': [], 'nameless': [], 'small': [], 'twice': []}, where)
+        self.assertEqual(found, {name: [] for name in WRONG}, where)
 
     def look_at(self, page: Browser, where: tuple[Any, ...]) -> None:
         """Each list, a card that is open, a command, its look and its answer, and the figures of a

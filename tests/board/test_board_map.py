@@ -26,6 +26,8 @@ SEEN = """
     const labels = boxes('#plan .vehicle .hull');
     return {
       labels, names: boxes('#plan .node .name'), stations: boxes('#plan .station text'),
+      far: document.getElementById('plan').classList.contains('far'),
+      around: boxes('#plan, .foot'),
       letters: boxes('#plan .vehicle .called').map(([, top, , bottom]) => bottom - top),
       dots: document.querySelectorAll('#plan .dot').length,
       more: [...document.querySelectorAll('#plan .more:not(.none) text')]
@@ -78,16 +80,23 @@ class Labels(unittest.TestCase):
             self.assertFalse([one for one in labels[:at] if meet(label, one)])
             self.assertFalse([one for one in seen['names'] if meet(label, one)])
             self.assertFalse([one for one in seen['stations'] if meet(label, one)])
+        for at, name in enumerate(seen['names'] if seen['far'] else ()):
+            others = [*seen['names'][:at], *seen['stations']]
+            self.assertFalse([one for one in others if meet(name, one)])
+            self.assertGreater(name[3] - name[1], 9)
+        self.assertFalse(meet(*seen['around']), 'the legend lies on the map')
         self.assertGreater(min(seen['letters']), 12)
         self.assertEqual(len(labels) + seen['dots'], VEHICLES)
         self.assertEqual(sum(seen['more']), seen['dots'])
         return seen
 
     def test_each_size(self) -> None:
-        """On a screen, a wall and a phone, from afar and from near."""
+        """On a screen, a wall and a phone, from afar and from near. Nodes have names where there is
+        room for them."""
         for size in ((1280, 800, False), (3840, 2160, False), (390, 844, True)):
             with self.subTest(size):
                 page = self.opened(*size)
+                self.assertGreater(len(self.check(page)['names']), 5)
                 for button in ('closer',) * 5 + ('whole', 'farther', 'farther'):
                     self.check(page)
                     page.run('document.getElementById(arguments[0]).click()', button)

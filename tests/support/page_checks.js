@@ -76,4 +76,8 @@ function twice() {
   return ids.filter((id, at) => ids.indexOf(id) !== at);
 }
 
-return { pale: pale(), nameless: nameless(), small: small(), twice: twice(), wide: document.documentElement.scrollWidth - window.innerWidth };
+/** Tables of which a part is only seen once they are moved aside. */
+const cut = () => [...document.querySelectorAll('.wide')].filter((one) => one.scrollWidth > one.clientWidth)
+  .map((one) => one.textContent.slice(0, 60));
+
+return { pale: pale(), nameless: nameless(), small: small(), twice: twice(), wide: document.documentElement.scrollWidth - window.innerWidth, cut: cut() };

@@ -1,6 +1,6 @@
 // The page of a day's figures: they are asked for, shown beside those of the day before, and printed by the browser.
 
-import { el } from './dom.js';
+import { el, set } from './dom.js';
 import { faultOf, number, say, translate } from './messages.js';
 import { many, span, thingOf } from './words.js';
 
@@ -57,13 +57,20 @@ function change(name, now, before) {
 
 const headed = (title, ...children) => el('section', { 'aria-label': title }, el('h2', {}, title), ...children);
 
-/** A table: `names` are the titles of its columns, of which those that begin with `>` have numbers. */
+/**
+ * A table: `names` are the titles of its columns, of which those that begin with `>` have numbers. On a phone one of
+ * many columns has a line for each cell, with the title before it.
+ */
 function table(names, rows) {
   const head = names.map((name) => el('th', { scope: 'col', class: name[0] === '>' ? 'right' : '' }, name.replace('>', '')));
-  const cell = (value, column) => (value instanceof Node ? value : el('td', { class: names[column][0] === '>' ? 'right' : '' }, value));
+  const cell = (value, column) => {
+    const made = value instanceof Node ? value : el('td', { class: names[column][0] === '>' ? 'right' : '' }, value);
+    set(made, 'data-title', names[column].replace('>', ''));
+    return made;
+  };
   const body = rows.map((row) => el('tr', {}, ...row.map(cell)));
   const none = el('tr', {}, el('td', { colspan: names.length }, say('figures.none')));
-  return el('div', { class: 'wide' }, el('table', {}, el('thead', {}, el('tr', {}, ...head)), el('tbody', {}, ...(body.length ? body : [none]))));
+  return el('div', { class: 'wide' }, el('table', { class: names.length > 4 ? 'broad' : '' }, el('thead', {}, el('tr', {}, ...head)), el('tbody', {}, ...(body.length ? body : [none]))));
 }
 
 function compared(now, before) {

@@ -9,7 +9,8 @@ import { number, say } from './messages.js';
 import { MOST_SLOTS, RADIUS, SLOT, areFew, boundsOf, edgesOf, growthOf, namesOf, stationsOf } from './places.js';
 import { shortName } from './words.js';
 
-const FAR = 0.6; // pixels a unit, below which nodes have no names, and stations no numbers
+const FAR = 0.6; // pixels a unit, below which only nodes with room for it have a name, and stations no numbers
+const NAME = 10.5; // of a node's name, in units, and from afar in pixels of a page whose letters have 14
 const FARTHEST = 0.28; // below which stations have no names and no places, where they are many
 const LONGEST = 140; // pixels of the ruler
 const TEXT = 14; // pixels of the page's letters, at which labels have their own size
@@ -124,6 +125,7 @@ export class Plan {
     const body = Math.min(grow, growthOf(this.layout.stations));
     Object.assign(this, { scale, mark, body });
     this.aside = [20, 14].map((half) => Math.max(0, half * mark + 3 - 15 * body));
+    this.nameNodes(scale < FAR ? letters / scale : 1);
     this.element.style.setProperty('--mark', mark.toFixed(3));
     for (const [at, name] of ['--sx', '--sy'].entries()) this.element.style.setProperty(name, `${this.aside[at].toFixed(1)}px`);
     this.gather();
@@ -251,23 +253,51 @@ export class Plan {
     this.giveWay(boxesOf(rows, leaders, mark * scale));
   }
 
+  /** Draws the names of nodes so many times as large; from afar those are left away that would lie on others. */
+  nameNodes(size) {
+    if (size === this.naming) return;
+    this.naming = size;
+    this.element.style.setProperty('--names', size.toFixed(3));
+    for (const [name, group] of this.nodes) set(group.lastChild, 'y', this.baseOf(name));
+    this.roomy = new Set(this.nodes.keys());
+    if (size === 1) return;
+    const taken = [...this.stations.keys()].map((name) => this.boxOf(name));
+    for (const name of this.nodes.keys()) {
+      const box = this.nameBox(name);
+      if (isUnder(box, taken)) this.roomy.delete(name);
+      else taken.push(box);
+    }
+  }
+
+  /** How far below its node the name of one stands. */
+  baseOf(name) {
+    const below = this.below.get(name) ?? -RADIUS - 4;
+    return below < 0 ? below : below + NAME * (this.naming - 1);
+  }
+
+  /** The box of a node's name. */
+  nameBox(name) {
+    const [[x, y], below, half] = [this.at.get(name), this.baseOf(name), name.length * 3.8 * this.naming];
+    return [x - half, y + below - 10 * this.naming, x + half, y + below + 2 * this.naming];
+  }
+
+  /** The box of a station, as large as it is drawn. */
+  boxOf(name) {
+    const { body } = this;
+    const [x, y] = this.at.get(this.stations.get(name).node);
+    const [left, top, right, bottom] = this.boxes.get(name);
+    const [dx, dy] = [left >= x ? 1 : right <= x ? -1 : 0, top >= y ? 1 : bottom <= y ? -1 : 0];
+    const [across, down] = [dx * this.aside[0], dy * this.aside[1]];
+    return [x + (left - x) * body + across, y + (top - y) * body + down, x + (right - x) * body + across, y + (bottom - y) * body + down];
+  }
+
   /** Has no name of a node and no words of a station seen that would lie under a vehicle. */
   giveWay(taken) {
-    const { scale, body } = this;
-    const under = (box) => (isUnder(box.map((side) => side * scale), taken) ? '' : null);
+    const under = (box) => (isUnder(box.map((side) => side * this.scale), taken) ? '' : null);
     for (const [name, group] of this.nodes) {
-      const [[x, y], below] = [this.at.get(name), this.below.get(name) ?? -RADIUS - 4];
-      const half = name.length * 3.3;
-      set(group, 'data-under', scale < FAR ? null : under([x - half, y + below - 10, x + half, y + below + 2]));
+      set(group, 'data-under', this.roomy.has(name) ? under(this.nameBox(name)) : '');
     }
-    for (const [name, { group, node }] of this.stations) {
-      const [x, y] = this.at.get(node);
-      const [left, top, right, bottom] = this.boxes.get(name);
-      const [dx, dy] = [left >= x ? 1 : right <= x ? -1 : 0, top >= y ? 1 : bottom <= y ? -1 : 0];
-      const [across, down] = [dx * this.aside[0], dy * this.aside[1]];
-      const box = [x + (left - x) * body + across, y + (top - y) * body + down, x + (right - x) * body + across, y + (bottom - y) * body + down];
-      set(group, 'data-under', under(box));
-    }
+    for (const [name, { group }] of this.stations) set(group, 'data-under', under(this.boxOf(name)));
   }
 
   /** Zooms in until the vehicles that are gathered in a label stand apart. */
