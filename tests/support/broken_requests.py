@@ -203,15 +203,17 @@ class Broken:
         """A drive of a vehicle that is not there, of which no member more is read."""
         chance = self.chance
         call = calls.drive(self.word(), self.word(), chance.randint(1, 200), self.word())
-        more = {self.word(): chance.choice((None, self.word(), [1], {}))}
-        return request(call.line, json.dumps({**more, **call.body})), refusal('NoVehicle')
+        more: dict[str, object] = {self.word(): chance.choice((None, self.word(), [1], {}))}
+        body: Any = call.body
+        return request(call.line, json.dumps({**more, **body})), refusal('NoVehicle')
 
     def bad_drive(self) -> tuple[bytes, Answer]:
         """A drive without a member, or with one of another type."""
         chance = self.chance
-        body = dict(calls.drive(self.word(), self.word(), 1).body)
+        whole: Any = calls.drive(self.word(), self.word(), 1).body
+        body = dict(whole)
         name = chance.choice(list(body))
-        wrong = chance.choice(('', 'a b', 'x' * 33, None, True, [], {}, -1, 2**32))
+        wrong: Any = chance.choice(('', 'a b', 'x' * 33, None, True, [], {}, -1, 2**32))
         if chance.randint(0, 2):
             body[name] = wrong
         else:

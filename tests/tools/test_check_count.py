@@ -303,7 +303,8 @@ class OverRecords(unittest.TestCase):
             for fault in count.faults:
                 line = line_of(fault)
                 self.assertNotRegex(line.words(), '`|tools/|: [A-Z][a-z]+[A-Z]\\w*:')
-                seen |= {name for name, _ in line.values['says']}
+                says: Any = line.values['says']
+                seen |= {name for name, _ in says}
         self.assertEqual(seen, {f'count.{name}' for name in (*TEXTS, 'size')})
 
     def test_moves(self) -> None:

@@ -4,7 +4,6 @@ from __future__ import annotations
 import unittest
 from unittest import mock
 
-from tests.support import lateness
 from tests.support.lateness import Lateness
 
 
@@ -14,7 +13,7 @@ class Late(unittest.TestCase):
     def setUp(self) -> None:
         self.told = Lateness()
         self.at = 0.0
-        patched = mock.patch.object(lateness.time, 'time', lambda: self.at)
+        patched = mock.patch('tests.support.lateness.time.time', lambda: self.at)
         patched.start()
         self.addCleanup(patched.stop)
 
