@@ -48,10 +48,16 @@ while True:
 """
 # The folders and files of a machine, and the places where it sees them.
 FOLDERS = {'lib': '/var/lib/glusterd', 'run': '/run', 'log': '/var/log/glusterfs'}
-FILES = {'hosts': '/etc/hosts', 'resolv.conf': '/etc/resolv.conf'}
+FILES = {
+    'hosts': '/etc/hosts',
+    'resolv.conf': '/etc/resolv.conf',
+    'glusterd.vol': '/etc/glusterfs/glusterd.vol',
+}
 # The copy to other places of GlusterFS, which its daemon sets up by some thirty programs as it
 # starts.
 UNUSED = glob.glob('/usr/lib/*/glusterfs/gsyncd') + glob.glob('/usr/libexec/glusterfs/gsyncd')
+HERE = os.path.dirname(os.path.abspath(__file__))
+DAEMON = os.path.join(HERE, '..', '..', 'examples', 'standby', 'glusterd.vol')
 NO_NAMES = 'nameserver 127.0.0.1\noptions timeout:1 attempts:1\n'  # refused at once
 
 
@@ -145,6 +151,7 @@ class Machine:
         hosts = ['127.0.0.1 localhost', *(f'{NETWORK}.{one} m{one}' for one in range(1, 10))]
         self.write('hosts', '\n'.join(hosts) + '\n')
         self.write('resolv.conf', NO_NAMES)
+        shutil.copy(DAEMON, os.path.join(self.folder, 'glusterd.vol'))
         self.write('gsyncd', '#!/bin/sh\necho gsyncd\n')
         os.chmod(os.path.join(self.folder, 'gsyncd'), 0o755)
         shutil.rmtree(os.path.join(self.folder, 'run'))

@@ -7,6 +7,7 @@ import re
 import shutil
 import signal
 import subprocess
+import tempfile
 import unittest
 
 from machines import volume
@@ -153,6 +154,18 @@ class VolumeWords(unittest.TestCase):
         ):
             self.assertEqual(len(checks.wrong_flags(flags)), 1)
         self.assertIsNone(gluster.flags_of('/no/such/mount'))
+
+    def test_settings_of_the_daemon(self) -> None:
+        """Those of the example are right; those of Debian, without its last option, are not."""
+        path = os.path.join(EXAMPLES, 'glusterd.vol')
+        self.assertEqual(checks.wrong_daemon(path), [])
+        with open(path, encoding='utf-8') as file:
+            lines = [line for line in file if 'tcp-user-timeout' not in line]
+        with tempfile.NamedTemporaryFile('w', encoding='utf-8') as other:
+            other.writelines([*lines, '# option transport.tcp-user-timeout 3\n'])
+            other.flush()
+            self.assertIn('has no transport', checks.wrong_daemon(other.name)[0])
+        self.assertIn('can not be read', checks.wrong_daemon('/no/such/file')[0])
 
     def test_answers(self) -> None:
         answer = gluster.parse(

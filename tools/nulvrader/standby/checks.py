@@ -4,9 +4,10 @@ from __future__ import annotations
 
 import glob
 import os
+import re
 from dataclasses import dataclass, field
 
-from ..common.plain_files import opened
+from ..common.plain_files import NotPlain, opened
 from ..common.text import shown
 from . import cluster, gluster, lock
 from .gluster import Brick, Client, Unknown, Volume
@@ -52,6 +53,22 @@ def check_volume(found: CheckResult, name: str, wanted: dict[str, str]) -> None:
         found.wrong += unhealed(gluster.read_unhealed(gluster.ask('volume', 'heal', name, 'info')))
     except Unknown as fault:
         found.wrong.append(f'the volume {name}: {shown(str(fault), 500)}')
+    found.wrong += wrong_daemon(gluster.DAEMON)
+
+
+def wrong_daemon(path: str) -> list[str]:
+    """Returns what is wrong with the settings of the daemon of GlusterFS."""
+    try:
+        with opened(path) as file:
+            text = file.read(gluster.LONGEST).decode(errors='replace')
+    except (OSError, NotPlain) as fault:
+        return [f'{path} can not be read: {shown(str(fault), 500)}']
+    option = r'^\s*option\s+transport\.tcp-user-timeout\s+[1-9][0-9]?\s*$'
+    if re.search(option, text, re.M | re.A):
+        return []
+    return [
+        f'{path} has no transport.tcp-user-timeout: the daemon waits for a machine that is dead'
+    ]
 
 
 def wrong_volume(volume: Volume, wanted: dict[str, str]) -> list[str]:

@@ -13,6 +13,7 @@ from ..common.plain_files import opened
 
 HERE = os.path.dirname(os.path.abspath(__file__))
 OPTIONS = os.path.normpath(os.path.join(HERE, '../../../examples/standby/volume.options'))
+DAEMON = '/etc/glusterfs/glusterd.vol'
 LONGEST = 1_000_000  # bytes of an answer, and of a file of options
 SECONDS = 60.0
 COMMAND = ('gluster', '--mode=script', '--xml')
