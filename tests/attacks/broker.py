@@ -10,6 +10,7 @@ import shutil
 import socket
 import ssl
 import subprocess
+import sys
 import time
 import unittest
 from typing import Any
@@ -42,6 +43,7 @@ class Configured(WithADesk):
     comments: tuple[str, ...] = ()  # lines of the configuration that are switched on,
     without: tuple[str, ...] = ()  # and off
     address = '127.0.0.1'  # where it listens
+    is_limited = True  # whether the file of subscriptions has the users
 
     def setUp(self) -> None:
         super().setUp()
@@ -55,6 +57,9 @@ class Configured(WithADesk):
         os.chmod(self.path('passwords'), 0o644)
         with open(os.path.join(EXAMPLE, 'acl')) as file:
             self.write('acl', file.read())
+        users = self.path('passwords') if self.is_limited else os.devnull
+        limit = [os.path.join(EXAMPLE, 'limit-subscriptions'), users]
+        subprocess.run([sys.executable, *limit, self.path('subscriptions.json')], check=True)
         self.start_broker(self.write('mosquitto.conf', self.configuration()))
         self.context = ssl.create_default_context(cafile=self.path('certs/server.pem'))
 
@@ -165,6 +170,10 @@ class BrokerOfAllAddresses(Configured):
 
 
 class BrokerRights(Configured):
+    """The rights of users that the file of subscriptions does not have yet."""
+
+    is_limited = False
+
     def test_who_is_let_in(self) -> None:
         """Somebody connects without a password, with a wrong one, as nobody's user, or without TLS:
         the broker refuses each."""
@@ -349,9 +358,10 @@ class BrokerCertificates(Configured):
         self.assertIsNone(self.by_certificate(None, 'KIT/0001').code)
         gateway, first = self.by_certificate('gateway'), self.by_certificate('KIT/0001')
         gateway.subscribe('uagv/v2/+/+/state')
-        first.subscribe('#')
+        first.subscribe('#', TOPIC + 'order')
         thief = self.by_certificate('KIT/0002', 'gateway')
-        thief.subscribe('#')
+        thief.subscribe('#', 'uagv/v2/KIT/0002/order', 'uagv/v2/+/+/state')
+        self.assertEqual(thief.codes, [mqtt.TOPIC_REFUSED, 0, mqtt.TOPIC_REFUSED])
         for topic in ('KIT/0001/state', 'KIT/0001/order', 'KIT/0002/state'):
             thief.publish('uagv/v2/' + topic, b'of KIT/0002')
         first.publish(TOPIC + 'state', b'of KIT/0001')

@@ -35,6 +35,7 @@ from tests.attacks.broker import BrokerCertificates, BrokerRights
 from tests.attacks.connections import BytesOfAnAddress, ConnectionsOfAnAddress
 from tests.attacks.crowds import SilentConnections
 from tests.attacks.broker import BrokerConnections, BrokerOfAllAddresses
+from tests.attacks.broker_load import Subscriptions
 
 # A reader keeps the others from the desk or the board; passwords are tried, and names found out.
 from tests.attacks.board_readers import GoneReaders, Histories, Questions
@@ -136,6 +137,7 @@ __all__ = [
     'Starvation',
     'StuckBoards',
     'StuckPrograms',
+    'Subscriptions',
     'TerminalEscapes',
     'Texts',
     'Units',

@@ -26,6 +26,7 @@ from tests.support.script_calls import LAYOUT
 
 CONNACK, PUBLISH, SUBACK = 0x20, 0x30, 0x90
 RETAIN = 1
+TOPIC_REFUSED = 0x80  # in the answer to a subscription
 
 
 def text(value: str | bytes) -> bytes:
@@ -70,6 +71,7 @@ class Client:
     ) -> None:
         self.came: list[tuple[str, bytes]] = []
         self.is_open, self.granted = True, 0
+        self.codes: list[int] = []  # of the last answer to a subscription
         self.lock = threading.Lock()
         self.listener = threading.Thread(target=self.listen, daemon=True)
         flags = 2 | (4 if will else 0) | (0x80 if user else 0) | (0x40 if password else 0)
@@ -152,6 +154,7 @@ class Client:
                     (size,) = struct.unpack('!H', body[:2])
                     self.came.append((body[2 : 2 + size].decode(), body[2 + size :]))
                 elif kind == SUBACK:
+                    self.codes = list(body[2:])
                     self.granted += 1
         except (OSError, EOFError, ValueError):
             self.is_open = False
