@@ -210,7 +210,7 @@ class Turns(unittest.TestCase):
     def test_a_board_that_is_slow(self) -> None:
         """Where the board takes a second to read each answer, so that one is always due by its
         turn, each has its turn still, and so have the messages of orders."""
-        slow = [(self.fleet, 'take_vehicles'), (self.fleet, 'take_holds')]
+        slow: list[tuple[Any, str]] = [(self.fleet, 'take_vehicles'), (self.fleet, 'take_holds')]
         slow += [(self.asker.stores, 'take_jobs'), (self.asker.stores, 'take_stock')]
         for follower, name in slow:
 

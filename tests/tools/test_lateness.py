@@ -1,4 +1,4 @@
-"""How late things are seen, as `bench/board` reckons it."""
+"""Shows how late things are seen, as `bench/board` reckons it."""
 from __future__ import annotations
 
 import unittest
