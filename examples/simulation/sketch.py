@@ -11,7 +11,7 @@ from collections.abc import Callable, Iterator, Mapping, Sequence
 from typing import Self
 
 from nulvrader.common.names import VehicleKey
-from nulvrader.desk.client import Job, NoAnswer, Stop, Vehicle
+from nulvrader.desk.client import Job, Stop, Vehicle
 from nulvrader.desk.messages import Act, Order, OrderEdge, OrderNode
 from nulvrader.desk.reports import Holds, Stock
 from nulvrader.dispatch.judge import Judge
@@ -21,11 +21,11 @@ from nulvrader.dispatch.snapshot import Seen, Snapshot
 
 from .clock import Clock
 from .floors import Floor
-from .sketched import Acts, Car, Figures, OverASketch, Sketched, Trip
+from .sketched import Acts, Car, Figures, OverASketch, Sketched, Trip, stop_jobs
 from .truth import Wrong
 
-# After so many seconds in which nothing has moved, though something can by the plan, it is wrong.
 FOLLOWS = 60.0
+"""Where nothing has moved for so many seconds, though something can by the plan, it is wrong."""
 
 
 class Sketch(Sketched):
@@ -113,7 +113,7 @@ class Sketch(Sketched):
             True,
             car.paused,
             False,
-            None,
+            car.pending,
             trip.name if trip else None,
             trip.sent if trip else None,
             trip.confirmed if trip else None,
@@ -206,7 +206,20 @@ class Sketch(Sketched):
         self.clock.after(delay, lambda: self._hear(car, trip, update))
 
     def cancel(self, vehicle: VehicleKey) -> str:
-        raise NoAnswer('a cancel is not sketched', False)
+        """Ends the order of a vehicle that stands, once it has heard of it and does nothing."""
+        car = self.cars[str(vehicle)]
+        assert car.trip is not None and car.trip.at == car.trip.base
+        car.pending = 'cancelOrder'
+
+        def end() -> None:
+            if car.busy:
+                self.clock.after(1.0, end)
+                return
+            stop_jobs(car, self.jobs_open, self.free_room, self.since)
+            car.trip, car.pending, car.header = None, None, car.header + 1
+
+        self.clock.after(self.chance.uniform(0, 3.4), end)
+        return 'instant-1'
 
     # The vehicles.
 
@@ -308,11 +321,7 @@ class Sketch(Sketched):
         if not cars or not free:
             return
         car, node = self.chance.choice(cars), self.chance.choice(free)
-        for job in car.trip.jobs if car.trip else ():
-            one = self.jobs_open.pop(job, None)
-            if one is not None:
-                self.free_room[one.target] += 1
-                del self.since[job]
+        stop_jobs(car, self.jobs_open, self.free_room, self.since)
         for held in [held for held, name in self.holders.items() if name == car.name]:
             del self.holders[held]
         car.trip, car.node, self.holders[node] = None, node, car.name

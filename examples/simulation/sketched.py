@@ -6,7 +6,7 @@ from collections.abc import Mapping
 from dataclasses import dataclass, field
 
 from nulvrader.common.names import VehicleKey
-from nulvrader.desk.client import Desk
+from nulvrader.desk.client import Desk, Job
 from nulvrader.dispatch.dispatcher import Dispatcher
 from nulvrader.dispatch.snapshot import Snapshot
 
@@ -41,6 +41,7 @@ class Car:
     trip: Trip | None = None
     header: int = 1
     paused: bool = False
+    pending: str | None = None
     known: int = 0
     place: int = 0
     done: int = 0
@@ -95,3 +96,14 @@ class OverASketch(Dispatcher):
     def _look(self) -> Snapshot:
         assert isinstance(self.desk, Sketched)
         return self.desk.snapshot()
+
+
+def stop_jobs(
+    car: Car, live: dict[str, Job], room: dict[str, int], since: dict[str, float]
+) -> None:
+    """Stops the live jobs of a vehicle's order, whose room is free again."""
+    for job in car.trip.jobs if car.trip else ():
+        one = live.pop(job, None)
+        if one is not None:
+            room[one.target] += 1
+            del since[job]

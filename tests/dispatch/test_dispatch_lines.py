@@ -224,7 +224,7 @@ class Lines(OverADesk):
         self.turn()
         self.told(TWO, 'cb', mode='MANUAL')
         self.desk.add_job('J1', 'L1', 'B')
-        with mock.patch.object(self.dispatcher.desk, 'start_order', side_effect=refused):
+        with mock.patch.object(self.dispatcher.desk, 'start_order_of_stops', side_effect=refused):
             self.assertEqual(self.turn(), ['KIT/0001: no order for J1: It is spent'])
             line = (
                 '1 job waits, no vehicle is free: KIT/0001 was refused its order; KIT/0002 is not'

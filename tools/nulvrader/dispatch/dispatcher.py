@@ -149,6 +149,7 @@ class Dispatcher:
         moved, able = self._set_going(turn)
         self._standstill.look_deeper(turn, bool(released or moved))
         self._standstill.untangle(turn)
+        self._drives.turn_back(turn)
         self._plans = self.judge.plans(turn.traffic)
         self._told.tell(turn, able)
 

@@ -9,6 +9,7 @@ from .parking import Drive, Parking
 from .releases import Releases
 from .shared import Shared, Turn
 from .snapshot import Seen
+from .turning_back import TurningBack
 
 REST = 10.0
 """A vehicle for which the desk has refused a drive is sent on none for so many seconds."""
@@ -22,6 +23,7 @@ class Drives:
     ) -> None:
         self.shared, self.parking, self.charging = shared, parking, charging
         self.releases = releases
+        self.turning_back = TurningBack(shared, parking)
         self._idle: dict[str, float] = {}  # since when vehicles without an order have none
         self._drives = True  # whether the desk has drives, as far as is known
         self._rests: dict[str, float] = {}  # until when no drive is asked for these vehicles
@@ -76,6 +78,12 @@ class Drives:
         ]
         found = self.parking.propose(may, self._idle, drops, picks, turn.traffic, turn.now)
         return found is not None and self._drive(turn, idle, found)
+
+    def turn_back(self, turn: Turn) -> bool:
+        """Has a vehicle with an order turn back that waits behind one that stands, if the desk has
+        drives by which it gets away. Whether one does."""
+        drops, picks = self._wanted()
+        return self._drives and self.turning_back.look(turn, {*drops, *picks}, picks)
 
     def _wanted(self) -> tuple[set[str], list[str]]:
         """Returns the nodes where jobs that wait are to be put down, and those where they are

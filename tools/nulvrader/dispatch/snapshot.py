@@ -40,6 +40,12 @@ class Seen:
         """Returns how many edges of the order are not released."""
         return 0 if self.order is None else sum(1 for edge in self.order.edges if not edge.released)
 
+    def has_to_act(self) -> bool:
+        """Whether it still has something to pick or put down at the last node that is released."""
+        assert self.order is not None
+        acts = [node.acts for node in self.order.nodes if node.released][-1]
+        return any((act.kind == 'drop') == (act.load in self.loads) for act in acts)
+
     def is_confirmed(self) -> bool:
         return self.row.sent == self.row.confirmed
 
