@@ -72,10 +72,10 @@ class NoTables(Attack):
         self.check_readers('the list of tables', 'more steps')
 
     def test_a_long_text_of_many_rows(self) -> None:
-        """Each row of the list of tables has the same text of ten megabytes, in a file that has
-        little more: no program reads it more often than for some seconds."""
-        long_chains.make(self.db, 20_000)
-        self.assertLess(os.path.getsize(self.db), 14 << 20)
+        """Each row of the list of tables has the same text of three megabytes, in a file that has
+        twice as much: no program reads it more often than for some seconds."""
+        long_chains.make(self.db, 40_000)
+        self.assertLess(os.path.getsize(self.db), 7 << 20)
         for words in (('why', '--db', self.db), ('map', '--db', self.db)):
             told = ran(*words)
             self.check_sentence(told, words)

@@ -17,7 +17,7 @@ from typing import IO
 from tests.support.filled_file import FilledFile
 from tests.support.records import checkpoint
 from tests.support.hostile_tables import LONG, SHORT
-from tests.support.programs import ROOT, TOOLS, until
+from tests.support.programs import PATIENCE, ROOT, TOOLS, until
 
 DESK = os.path.abspath(os.environ.get('DESK', os.path.join(ROOT, 'build', 'desk')))
 AT = '1700000000000'
@@ -60,7 +60,8 @@ def started(
 
 
 def ended(process: 'subprocess.Popen[bytes]') -> Ended:
-    """How a program ends by itself. One that hangs is killed, and has failed."""
+    """How a program ends by itself. One that hangs is killed, and has failed. It may have to wait
+    for its seconds of a processor."""
     found: list[tuple[int, int, resource.struct_rusage]] = []
 
     def has_ended() -> bool:
@@ -68,7 +69,7 @@ def ended(process: 'subprocess.Popen[bytes]') -> Ended:
         return found[0][0] != 0
 
     try:
-        until(has_ended, f'the end of {process.args!r}')
+        until(has_ended, f'the end of {process.args!r}', 5 * PATIENCE)
     except AssertionError:
         process.kill()
         raise

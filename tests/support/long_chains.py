@@ -10,7 +10,7 @@ from collections.abc import Iterator
 from tests.support.endless_pages import HEAD, page_of, rows_of
 
 PAGE = 512
-LONGEST = 9_900_000  # bytes of the text; the tools read values of 10,000,000
+LONGEST = 3_300_000  # bytes of the text; the tools read values of 10,000,000
 CHILDREN = 30  # that a page names
 NAME, TABLE = b'sqlite_autoindex_a_1', b'a'
 # Of a row whose text is longer, so many bytes are in its own page.
