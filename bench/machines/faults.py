@@ -115,11 +115,8 @@ def replace(drill: Drill, machine: Machine) -> Mend:
     machine.kill()
 
     def put() -> None:
-        kept = [name for name in OF_SYSTEM if name in machine.folders]
-        machine.empty(kept)
-        machine.boot()
-        machine.join()
-        drill.volume.replace(machine, random.choice(drill.others(machine)))
+        machine.empty(name for name in OF_SYSTEM if name in machine.folders)
+        drill.volume.replace(machine, *random.sample(drill.others(machine), 2))
         drill.boot(machine)
 
     return put

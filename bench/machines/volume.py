@@ -2,6 +2,7 @@
 from __future__ import annotations
 
 import os
+import shutil
 import time
 
 from nulvrader.standby import gluster
@@ -82,41 +83,36 @@ class Volume:
                 return
         raise NoMachines(f'glusterd of {machine.name} does not answer')
 
-    def replace(self, machine: Machine, other: Machine) -> None:
-        """Takes in a new machine in the place of one with the same name and address, whose disks
-        were empty: by the commands of docs/TWO_MACHINES.md, *Replace a machine*."""
-        brick = f'{machine.folder}/brick/{NAME}'
-        told = self.gluster(other, 'pool', 'list')
-        names = (machine.address, machine.name)
-        (mark,) = [line.split()[0] for line in told.splitlines() if line.split()[1] in names]
+    def replace(self, machine: Machine, first: Machine, second: Machine) -> None:
+        """Starts a machine with empty disks in the place of one with the same name and address, and
+        gives it its copy: by the commands of docs/TWO_MACHINES.md, *Replace a machine*."""
+        marks = {}
+        for line in self.gluster(second, 'pool', 'list').splitlines():
+            mark, name, *_ = line.split()
+            marks[name] = mark
+        its, of_first = (marks.get(one.address) or marks[one.name] for one in (machine, first))
+        brick, own = f'{machine.folder}/brick/{NAME}', f'{machine.folder}/lib'
         os.mkdir(brick)
-        machine.write('lib/glusterd.info', f'UUID={mark}\noperating-version=100000\n')
+        shutil.copytree(f'{first.folder}/lib', own, symlinks=True, dirs_exist_ok=True)
+        machine.write('lib/glusterd.info', f'UUID={its}\noperating-version=100000\n')
+        os.remove(f'{own}/peers/{its}')
+        shutil.copy(f'{second.folder}/lib/peers/{of_first}', f'{own}/peers')
+        machine.boot()
+        machine.join()
         self.start_daemon(machine)
-        self.gluster(machine, 'peer', 'probe', other.address)
-        for _ in range(2):  # it takes in the volume, and then where its own copy is
-            self.stop_daemon(machine)
-            self.start_daemon(machine)
-            for one in self.machines.all:
-                self.wait_until_known(one)
+        for one in self.machines.all:
+            self.wait_until_known(one)
         place = f'{machine.address}:{brick}'
-        self.gluster(machine, 'volume', 'reset-brick', NAME, place, 'start')
-        self.gluster(machine, 'volume', 'reset-brick', NAME, place, place, 'commit', 'force')
+        self.gluster(first, 'volume', 'reset-brick', NAME, place, 'start')
+        self.gluster(first, 'volume', 'reset-brick', NAME, place, place, 'commit', 'force')
 
     def wait_until_known(self, machine: Machine) -> None:
-        """Waits until a machine knows the volume and all machines."""
+        """Waits until a machine is connected to all machines."""
         for _ in until():
             peers = machine.run('gluster', '--mode=script', 'pool', 'list').stdout
-            volumes = machine.run('gluster', '--mode=script', 'volume', 'list').stdout
-            if NAME in volumes.split() and peers.count('Connected') == len(self.machines.all):
+            if peers.count('Connected') == len(self.machines.all):
                 return
-        raise NoMachines(f'{machine.name} does not know the volume')
-
-    def stop_daemon(self, machine: Machine) -> None:
-        """Stops the daemon of a machine; its copy is still served."""
-        machine.run('sh', '-c', 'kill $(pidof glusterd)')
-        for _ in until():
-            if machine.run('pidof', 'glusterd').returncode:
-                return
+        raise NoMachines(f'{machine.name} is not connected to all')
 
     def mount(self, machine: Machine) -> None:
         """Mounts it in a machine, and waits until files can be seen."""
