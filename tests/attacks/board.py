@@ -127,13 +127,22 @@ class ForeignPage(Watching):
     def test_a_foreign_page(self) -> None:
         """It reads nothing of the board, though it even knows the token, and no command of it is
         carried out."""
+        self.attack('evil.localhost')
+
+    def test_a_page_of_the_internet(self) -> None:
+        """The same by a name that is not of this machine, and that its owner leads here."""
+        self.attack('evil.example', 'MAP evil.example evil.localhost')
+
+    def attack(self, host: str, names: str = '') -> None:
+        """Opens the attacker's page of a host, and lets it attack once the name leads to the
+        board."""
         port = self.board.port
         served = ForeignServer(port)
         threading.Thread(target=served.serve_forever, daemon=True).start()
         self.addCleanup(served.end)
-        page = Browser()
+        page = Browser(names=names)
         self.addCleanup(page.close)
-        page.open(f'http://evil.localhost:{port}/')
+        page.open(f'http://{host}:{port}/')
         until(
             lambda: page.run('return typeof window.attack') == 'function',
             'the page of the attacker',

@@ -68,10 +68,16 @@ class Failed(AssertionError):
 
 
 class Browser:
-    """A browser with one page, in colours for light or dark."""
+    """A browser with one page, in colours for light or dark. `names` says where names of hosts
+    lead, as Chromium's `--host-resolver-rules`."""
 
     def __init__(
-        self, width: int = 1280, height: int = 800, dark: bool = False, mobile: bool = False
+        self,
+        width: int = 1280,
+        height: int = 800,
+        dark: bool = False,
+        mobile: bool = False,
+        names: str = '',
     ) -> None:
         self.port = free_port()
         self.driver = subprocess.Popen(
@@ -87,6 +93,7 @@ class Browser:
                 '--disable-gpu',
                 '--disable-dev-shm-usage',
                 '--hide-scrollbars',
+                f'--host-resolver-rules={names}',
             ]
             options = {'args': [*arguments, f'--window-size={width},{height}']}
             wanted: dict[str, Any] = {'goog:chromeOptions': options}
