@@ -49,6 +49,15 @@ os.umask(0o077)
 Published(sys.argv[1], sys.exit).tell({'job J1': 'no vehicle is free'})
 """
 HOLDS = "import os, sys, time; file = open(sys.argv[1]); os.write(1, b'.'); time.sleep(600)"
+# It has a lease of a file: whoever opens that waits for it, as long as the system lets it have the
+# lease (45 seconds), unless he says that he does not wait.
+LEASES = """
+import fcntl, os, signal, time
+signal.signal(signal.SIGIO, signal.SIG_IGN)
+fcntl.fcntl(0, fcntl.F_SETLEASE, fcntl.F_WRLCK)
+os.write(1, b'.')
+time.sleep(600)
+"""
 DESCRIPTORS = 4_000_000
 SECONDS = 15  # of a processor, that a search through them may take
 
@@ -133,6 +142,34 @@ class LocalUsers(Attack):
         taken = after.ru_utime + after.ru_stime - before.ru_utime - before.ru_stime
         self.assertLess(taken, SECONDS)
         self.assertIn(f'the program {holder.pid} ', told.out)
+
+    def test_a_lease(self) -> None:
+        """It has a lease of its file, which root looks into: no program waits until it has lost
+        that."""
+        for name in ('why', 'map'):
+            with self.subTest(name):
+                self.fill()
+                os.chown(self.db, NOBODY, NOBODY)
+                line = [*AS_NOBODY, '/usr/bin/python3', '-c', LEASES]
+                with open(self.db, 'r+b') as file:
+                    holder = subprocess.Popen(line, stdin=file, stdout=subprocess.PIPE)
+                try:
+                    assert holder.stdout is not None
+                    self.assertEqual(holder.stdout.read(1), b'.')
+                    told = ran(name, '--db', self.db)
+                    self.assertEqual(self.leases(), 1)
+                finally:
+                    holder.kill()
+                    holder.communicate()
+                self.assertEqual(told.status, 1)
+                wanted = f'the program {holder.pid} ' if name == 'why' else 'database is locked'
+                self.assertIn(wanted, told.text)
+
+    def leases(self) -> int:
+        """Returns how many leases of the file are kept."""
+        file = f':{os.stat(self.db).st_ino}'
+        with open('/proc/locks', encoding='ascii') as locks:
+            return sum('LEASE' in line and line.split()[5].endswith(file) for line in locks)
 
     @unittest.skipIf(missing('systemd-tmpfiles'), missing('systemd-tmpfiles'))
     def test_a_lock_of_the_instructions(self) -> None:
