@@ -18,7 +18,7 @@ from tests.model.desk import AT, Model  # noqa: E402
 
 
 def streams(port: int | None) -> tuple[Any, Any]:
-    """Standard input and output, or those of one connection on the port."""
+    """Returns standard input and output, or those of one connection on the port."""
     if port is None:
         return sys.stdin.buffer, sys.stdout.buffer
     listener = socket.create_server(('127.0.0.1', port))

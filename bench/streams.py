@@ -25,6 +25,7 @@ LAYOUT = (
 
 
 def state(number: int) -> bytes:
+    """Returns the request with a vehicle's state of this `headerId`."""
     return calls.state(number).to_bytes()
 
 
@@ -32,7 +33,7 @@ START = calls.layout(LAYOUT).to_bytes() + calls.vehicle('0001', 'N1').to_bytes()
 
 
 def mixed(count: int) -> bytes:
-    """Registrations and states, one after the other."""
+    """Returns so many requests, a registration and a state in turn."""
     return b''.join(load(i) + state(i + 1) for i in range(count // 2))
 
 
@@ -53,6 +54,7 @@ def best(words: list[str], stdin: bytes, fresh: str, turns: int = 3) -> tuple[fl
 
 
 def instructions(stdin: bytes, db: str) -> int:
+    """Returns how many instructions the desk takes for these requests, as valgrind counts them."""
     done = subprocess.run(
         [
             'valgrind',
@@ -74,8 +76,8 @@ def instructions(stdin: bytes, db: str) -> int:
 
 
 def counted(name: str, before: bytes, requests: list[bytes], folder: str) -> None:
-    """The instructions of one request: of a hundred more of them, by a hundred; in memory and in a
-    file."""
+    """Prints the instructions of one request, in memory and in a file: what a hundred more of them
+    take, by a hundred."""
     for db in ('memory', os.path.join(folder, 'counted.db')):
         figures = []
         for count in (100, 200):

@@ -123,7 +123,7 @@ def order(night: Night, number: int, name: str, to: str, edges: int) -> str:
 
 
 def cancel_with_a_load(night: Night) -> None:
-    """A vehicle has picked a load up, and its order is cancelled."""
+    """Cancels the order of a vehicle that has picked a load up."""
     load = order(night, 1, 'cancel', station(night, 2), 0)
     aboard = f'vehicle {vehicle(night, 1).name}'
     night.wait(lambda: night.desk.load(load).place == aboard, 'the load is aboard')
@@ -146,7 +146,7 @@ def fail(night: Night) -> None:
 
 
 def end_the_failed_order(night: Night) -> None:
-    """A person cancels it, and clears it on the vehicle."""
+    """Cancels it, as a person does, and clears it on the vehicle."""
     one = vehicle(night, 2)
     one.nature = dataclasses.replace(one.nature, failing=0)
     night.desk.cancel(one.key)
@@ -165,7 +165,7 @@ def drive(night: Night, number: int, node: str, name: str) -> None:
 
 
 def shut_in(night: Night) -> None:
-    """A vehicle comes as far as a node of the ring where another one stands, which has no order."""
+    """Has a vehicle come as far as a node of the ring where another one stands without an order."""
     drive(night, 4, IN_THE_WAY, 'drive-there')
     one, end = vehicle(night, 3), night.plant.layout.stations[BEHIND].node
     way = night.plant.layout.route(one.node, end)
@@ -177,7 +177,7 @@ def shut_in(night: Night) -> None:
 
 
 def let_out(night: Night) -> None:
-    """The one in the way is sent to its bay, and then the other one goes on."""
+    """Sends the one in the way to its bay, and then the other one on."""
     drive(night, 4, HOME, 'drive-back')
     one = vehicle(night, 3)
     row = night.desk.vehicles()[one.key]

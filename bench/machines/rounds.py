@@ -208,7 +208,7 @@ class Drill:
         return Judgement.of(self.records, self.terms)
 
     def control(self, kind: str) -> None:
-        """A fault with desks that nothing keeps from writing side by side."""
+        """Makes a fault with desks that nothing keeps from writing side by side, and mends it."""
         assert self.traffic is not None
         old, _ = self.holder()
         time.sleep(3)
@@ -220,8 +220,8 @@ class Drill:
                 break
 
     def round(self, number: int, kind: str) -> None:
-        """One round: a fault, a takeover, the mending, a check; and a stop, so that the next desk
-        uses all copies."""
+        """Makes a fault, waits for the takeover, mends the fault and checks what was answered; then
+        stops the desk, so that the next one uses all copies."""
         assert self.traffic is not None
         old, _ = self.holder()
         time.sleep(random.uniform(1.5, 3))
