@@ -12,7 +12,7 @@ import unittest
 from collections.abc import Iterable
 
 from tests.support.board_page import Page
-from tests.support.board_run import ONE, TOOLS, until
+from tests.support.board_run import ONE, TOOLS, TWO, until
 from tests.support.programs import ROOT
 from nulvrader.board.command_kinds import COMMANDS
 from nulvrader.board.desk_faults import advice_of, fault_of, refusal_of
@@ -304,6 +304,30 @@ class InTheBrowser(Page):
         self.plant.served.stop()
         self.sees('#alarms', 'kein Programm hört dort zu: ist der Leitstand gestartet')
 
+    def test_the_details_of_a_vehicle(self) -> None:
+        """How many loads it may carry, its newest state, and the updates of its order that were
+        sent and confirmed."""
+        card = '.vehicle-card.chosen .facts'
+        self.desk.register_vehicle(TWO, 'N2', 2)
+        self.browser.click('.vehicle-card:nth-of-type(2) .head')
+        self.assertEqual(self.sees(card, 'Carries'), 'Carries up to 2 loads')
+        self.plant.state(TWO, 'N2')
+        self.sees(card, 'Carries up to 2 loads · Newest state: headerId 1')
+        self.desk.start_drive('G1', TWO, 'N3', edges=0)
+        self.sees(card, 'Update 0 of its order is sent, none confirmed')
+        self.open_in('de')
+        self.browser.click('.vehicle-card:nth-of-type(2) .head')
+        self.sees(card, 'Update 0 seines Auftrags ist gesendet, keines bestätigt')
+        self.plant.state(TWO, 'N2', 'G1')
+        self.desk.advance(TWO, 'G1', 1, 1)
+        self.sees(card, 'Trägt bis zu 2 Ladungen · Neuester Zustand: headerId 2')
+        self.sees(card, 'Update 1 seines Auftrags ist gesendet, 0 bestätigt')
+        self.open_in('en')
+        self.browser.click('.vehicle-card:nth-of-type(2) .head')
+        self.sees(card, 'Update 1 of its order is sent, 0 confirmed')
+        self.desk.resync(TWO)
+        self.misses(card, 'headerId')
+
     def test_the_same_sentences(self) -> None:
         """What the page says is what the board says, in German too: of a state, an alarm and an
         entry of the record."""
@@ -327,7 +351,7 @@ class InTheBrowser(Page):
             'edges': 2,
         }
         values |= {'vehicles': ['KIT/0001', 'KIT/0002'], 'action': 'startPause', 'alarm': 'astray'}
-        values |= {'loads': 3, 'stations': 1, 'fields': 2}
+        values |= {'loads': 3, 'stations': 1, 'fields': 2, 'capacity': 4}
         values |= {'field': 'node', 'what': 'load'}
         names = [name for name in table() if '|' in table()[name]['de']]
         said = self.browser.run(script, [[name, values] for name in names])

@@ -67,6 +67,18 @@ class AtWork(Page):
         self.sees('.detail', 'At B, since', 'at A → on KIT/0001', 'on KIT/0001 → at B')
         until(lambda: 'picked' in self.classes('#plan .station.picked'), 'the station is marked')
 
+    def test_an_order_without_its_way_yet(self) -> None:
+        """Until the way has come, what the order carries is told by its jobs."""
+        script = (
+            'return import(`${location.origin}/vehicles.js`).then(({ carriedWords }) =>'
+            ' carriedWords(undefined, ["L2"], arguments[0]))'
+        )
+        jobs = [
+            {'load': 'L1', 'origin': 'A', 'target': 'B'},
+            {'load': 'L2', 'origin': 'A', 'target': 'C'},
+        ]
+        self.assertEqual(self.browser.run(script, jobs), 'L1: A → B · L2: A → C, on it')
+
     def test_a_cancel_with_its_rest(self) -> None:
         self.desk.add_job('J1', 'L1', 'B')
         self.desk.start_order('O1', ONE, job='J1', edges=1)

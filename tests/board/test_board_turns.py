@@ -10,7 +10,7 @@ from typing import Any
 from unittest import mock
 
 from tests.support.board_run import ONE
-from nulvrader.board import poller
+from nulvrader.board import poller, shown_rows
 from nulvrader.board.fleet import Fleet
 from nulvrader.board.shown_layout import ShownLayout
 from nulvrader.board.news import News
@@ -166,6 +166,19 @@ class Turns(unittest.TestCase):
         self.assertLessEqual(len(self.desk.asked), 20 * 8 + 1)
         for name, every in EACH.items():
             self.assertAlmostEqual(len(self.times(name)), 8 / every, delta=1, msg=name)
+
+    def test_what_is_seen_of_new_orders_first(self) -> None:
+        """Within two seconds each vehicle has its order, the update of it that was sent, and how
+        long its way is, by the export of vehicles; the ways come after it."""
+        self.begin(*self.desk.rows)
+        self.run_for(2)
+        seen = self.asker.news.shown
+        wanted: dict[str, object] = {'seen': 0, 'base': 0, 'edges': 0, 'sent': 0}
+        for key in self.desk.rows:
+            row: Any = seen.get(shown_rows.VEHICLE, str(key))
+            wanted['order_name'] = f'O{key.serial}'
+            self.assertEqual({name: row[name] for name in wanted}, wanted)
+        self.assertLess(len(seen.all(shown_rows.WAY)), COUNT // 2)
 
     def test_a_message_of_another_order(self) -> None:
         """The vehicle has another order by the time at which its message is asked for: it is asked

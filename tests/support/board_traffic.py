@@ -83,7 +83,7 @@ class Vehicle:
             'ready': int(self.ready),
             'paused': int(self.paused),
             'astray': int(self.astray),
-            'heard': self.heard,
+            'header': self.header if self.heard else None,
             'loads': list(self.loads),
             'rest': ahead if self.astray else None,
             'way': self.order or None,

@@ -304,7 +304,7 @@ class Fleet:
             loads=self.loads.get(name, ()),
             rest=None if row.rest is None else Rest(edge=row.rest[0], node=row.rest[1]),
             silent=seen.silent,
-            heard=row.header is not None,
+            header=row.header,
             unready=seen.unready,
         )
         self.news.shown.put(shown_rows.VEHICLE, name, told)

@@ -58,11 +58,11 @@ def shown_vehicle(
     loads: Sequence[str],
     rest: Rest | None,
     silent: int | None,
-    heard: bool,
+    header: int | None,
     unready: int | None,
 ) -> ShownVehicle:
     """Returns how a vehicle is, as the page has it."""
-    more = {'loads': loads, 'rest': rest, 'silent': silent, 'heard': heard, 'unready': unready}
+    more = {'loads': loads, 'rest': rest, 'silent': silent, 'header': header, 'unready': unready}
     return cast(ShownVehicle, {**values, **more})
 
 

@@ -93,13 +93,13 @@ class Rest(TypedDict):
 
 
 class ShownVehicle(VehicleColumns):
-    """How a vehicle is, with what it carries; `heard` says whether it has ever posted a state,
-    `silent` since when none has come, and `unready` since when it is not ready."""
+    """How a vehicle is, with what it carries; `header` is the headerId of its newest state, if any
+    counts, `silent` since when none has come, and `unready` since when it is not ready."""
 
     loads: Sequence[str]
     rest: Rest | None
     silent: int | None
-    heard: bool
+    header: int | None
     unready: int | None
 
 

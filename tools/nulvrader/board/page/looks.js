@@ -30,7 +30,7 @@ export function statesOf(name, vehicle, store) {
   if (store.inCircle(name)) add('bad', say('badge.circle'), '⟳');
   if (vehicle.astray) add('bad', say('badge.astray'), '✕');
   if (vehicle.silent) add('bad', say('badge.silent', { span: span(now - vehicle.silent) }), '?');
-  if (!vehicle.heard) add('warn', say('badge.unheard'), '?');
+  if (vehicle.header === null) add('warn', say('badge.unheard'), '?');
   else if (!vehicle.ready) add('bad', say('badge.unready'), '!');
   const loads = vehicle.order_name ? [] : vehicle.loads.filter((load) => !store.jobOf(load));
   if (loads.length) add('bad', say('badge.aboard', { loads }), '▣');
@@ -59,7 +59,7 @@ const OLD = 30_000; // milliseconds, from which on a vehicle's words are old
 export function wordsOf(vehicle, said, now) {
   const found = [];
   const add = (level, words, moment) => found.push({ level, words, since: since(moment, now) });
-  const unready = Boolean(vehicle.heard) && !vehicle.ready;
+  const unready = vehicle.header !== null && !vehicle.ready;
   if (!said) return unready ? [{ level: 'bad', words: say('reason.unknown'), since: since(vehicle.unready, now) }] : found;
   if (said.stop && said.stop !== 'NONE') add('bad', say('reason.stop', said), said.since.stop);
   for (const error of said.errors) {
@@ -73,6 +73,14 @@ export function wordsOf(vehicle, said, now) {
   if (said.connection && said.connection !== 'ONLINE') add('warn', say('reason.connection', said), null);
   if (now - said.at > OLD) add('', say('reason.old', { span: span(now - said.at) }), null);
   return found;
+}
+
+/** What else the desk knows of a vehicle: how many loads it may carry, its newest state, and the updates of its order. */
+export function factsOf(vehicle) {
+  const found = [say('facts.capacity', vehicle)];
+  if (vehicle.header !== null) found.push(say('facts.header', vehicle));
+  if (vehicle.sent !== null) found.push(say(vehicle.confirmed === null ? 'facts.sent' : 'facts.confirmed', vehicle));
+  return found.join(' · ');
 }
 
 /** The battery of a vehicle and where it is, as it says. */

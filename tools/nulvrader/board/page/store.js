@@ -120,6 +120,11 @@ export class Store {
     return undefined;
   }
 
+  /** The jobs of an order. */
+  jobsOf(order) {
+    return [...this.kind('job').values()].filter((job) => job.order === order);
+  }
+
   /** The vehicles and the stations of alarms that nobody has taken on, each as `vehicle KIT/0001`. */
   alarmed() {
     return this.once('alarmed', () => {

@@ -1,7 +1,7 @@
 // The list of vehicles: how each is, its order and how far, and who waits for whom.
 
 import { button, el, keyed, part, set, show, text } from './dom.js';
-import { colourOf, measuresOf, statesOf, wordsOf } from './looks.js';
+import { colourOf, factsOf, measuresOf, statesOf, wordsOf } from './looks.js';
 import { say } from './messages.js';
 import { ordered, span, thingOf } from './words.js';
 
@@ -11,16 +11,19 @@ const ACTIONS = ['order', 'drive', 'advance', 'pause', 'resume', 'cancel', 'plac
 
 /**
  * What an order carries, each load with where from, if that is known, and where to: `L1: A → B, on it`; and where a
- * drive leads.
+ * drive leads. `way` is that of the order, or undefined until it has come: its jobs tell then what it carries.
  */
-function carriedWords(way, loads) {
-  const station = (kind, load) => way.acts.find((act) => act.kind === kind && act.load === load)?.station ?? '';
-  const names = [...new Set(way.acts.map((act) => act.load))];
+export function carriedWords(way, loads, jobs) {
+  const acts = way?.acts ?? jobs.flatMap(({ load, origin, target }) => [
+    { kind: 'pick', load, station: origin }, { kind: 'drop', load, station: target },
+  ]);
+  const station = (kind, load) => acts.find((act) => act.kind === kind && act.load === load)?.station ?? '';
+  const names = [...new Set(acts.map((act) => act.load))];
   const others = loads.filter((load) => !names.includes(load)).map((load) => `${load}${say('carries.on')}`);
   const on = (load) => (loads.includes(load) ? say('carries.on') : '');
   const from = (load) => (station('pick', load) ? `${station('pick', load)} → ` : say('carries.to'));
   const carried = names.map((load) => `${load}: ${from(load)}${station('drop', load)}${on(load)}`);
-  const drive = way.acts.length ? [] : [say('carries.drive', { node: way.nodes.at(-1) })];
+  const drive = !way || acts.length ? [] : [say('carries.drive', { node: way.nodes.at(-1) })];
   return [...drive, ...carried, ...others].join(' · ');
 }
 
@@ -108,6 +111,7 @@ export class Vehicles {
       part('p', 'why'),
       part('ul', 'saying'),
       part('p', 'measures'),
+      part('p', 'facts'),
       part('p', 'rest bad'),
       el('div', { class: 'actions' }, ...actions));
   }
@@ -123,7 +127,7 @@ export class Vehicles {
       set(badge, 'class', `badge ${state.level}`);
       text(badge, state.words);
     });
-    this.changeOrder(card, vehicle, store.get('way', name));
+    this.changeOrder(card, vehicle, store.get('way', name), () => store.jobsOf(vehicle.order_name));
     this.changeWords(card, vehicle, store.get('said', name), store.now());
     const why = store.get('why', name);
     text(card.querySelector('.why'), why ? say('why.dispatcher', { why }) : '');
@@ -131,6 +135,8 @@ export class Vehicles {
     const { edge, node } = rest ?? {};
     text(card.querySelector('.rest'), say('vehicles.rest', { edge, node }));
     show(card.querySelector('.rest'), Boolean(rest));
+    text(card.querySelector('.facts'), chosen ? factsOf(vehicle) : '');
+    show(card.querySelector('.facts'), chosen);
     show(card.querySelector('.actions'), chosen && this.view.mayCommand);
     this.changeActions(card, vehicle);
   }
@@ -149,7 +155,8 @@ export class Vehicles {
     show(card.querySelector('.measures'), measures !== '');
   }
 
-  changeOrder(card, vehicle, way) {
+  /** `jobs` finds those of its order. */
+  changeOrder(card, vehicle, way, jobs) {
     const has = vehicle.order_name !== null;
     show(card.querySelector('.order'), has);
     const loads = vehicle.loads.length ? say('carries', { loads: vehicle.loads }) : '';
@@ -168,7 +175,8 @@ export class Vehicles {
     done.style.width = part(vehicle.seen);
     base.style.width = part(vehicle.base);
     set(card.querySelector('.bar'), 'aria-label', words);
-    text(acts, way ? carriedWords(way, vehicle.loads) : loads);
+    const told = way ? [] : jobs();
+    text(acts, way || told.length ? carriedWords(way, vehicle.loads, told) : loads);
     show(acts, true);
   }
 
