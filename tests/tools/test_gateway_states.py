@@ -3,9 +3,10 @@ from __future__ import annotations
 
 import json
 import unittest
+import unittest.mock
 from typing import Any
 
-from nulvrader.desk.client import Answer
+from nulvrader.desk.client import Answer, NoAnswer
 from nulvrader.gateway import carrier, inbox, log
 from tests.support.gateway import ACCEPTED, BetweenStandIns, OLD, instant, order
 from tests.support.gateway_states import STATE
@@ -205,6 +206,26 @@ class States(BetweenStandIns):
         self.assertTrue(self.said[0].startswith(begins), self.said)
         self.assertTrue(self.said[0].endswith('tools/ask --desk 127.0.0.1:8080 resync KIT/0001'))
         self.assertIn('forged', self.said[0])
+
+    def test_old_states_while_the_desk_falls_silent(self) -> None:
+        """The desk answers the third one, and not what it knows of the vehicle: the line comes
+        once, in the turn in which it answers that too."""
+        self.desk.answer = OLD
+        for _ in range(2):
+            self.come()
+            self.turn()
+        silent = NoAnswer('no desk', False)
+        with unittest.mock.patch.object(self.desk, 'vehicle', side_effect=silent):
+            self.come()
+            self.turn()
+            self.turn()
+        self.assertEqual(self.said, ['the desk can not be reached: no desk'])
+        self.said.clear()
+        for _ in range(3):
+            self.turn()
+            self.come()
+        self.assertEqual(len(self.said), 1, self.said)
+        self.assertIn('KIT/0001: 3 states in a row are old for the desk', self.said[0])
 
     def test_states_that_are_hardly_old(self) -> None:
         """They may have been posted by another gateway."""

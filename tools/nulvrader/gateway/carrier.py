@@ -186,13 +186,16 @@ class Gateway:
 
     def count_old(self, vehicle: str, state: VehicleState, *, is_old: bool) -> None:
         """Counts the states in a row that are old, which change nothing at the desk, and logs it
-        once there are several."""
-        self.old[vehicle] = self.old.get(vehicle, 0) + 1 if is_old else 0
-        if self.old[vehicle] == OLD:
+        once there are several. Raises `NoAnswer`, and has not counted the state, if the desk does
+        not answer what the line says of it."""
+        count = self.old.get(vehicle, 0) + 1 if is_old else 0
+        if count == OLD:
             self.log.once(vehicle, self.old_line(vehicle, state))
+        self.old[vehicle] = count
 
     def old_line(self, vehicle: str, state: VehicleState) -> str:
-        """Returns the line that is logged of states that are old."""
+        """Returns the line that is logged of states that are old. Asks the desk for the headerId
+        that it has of the vehicle, and raises `NoAnswer` if none comes."""
         try:
             last = self.desk.vehicle(VehicleKey.parse(vehicle)).header
         except Refused:
