@@ -248,7 +248,7 @@ class Events(Asks):
         for last in ('x', '-1', '1 2', '9' * 17):
             told = self.board.ask('GET', '/api/events/stream', None, {'Last-Event-ID': last})
             self.assertEqual(told[0], 400, last)
-        self.assertEqual(queries.asked_of('after=7', ''), EventQuery(7))
+        self.assertEqual(queries.read_event_query('after=7', ''), EventQuery(7))
 
     def test_a_stream(self) -> None:
         """It has what was, and then what comes, at once; who connects again goes on where it

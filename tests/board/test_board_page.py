@@ -150,13 +150,31 @@ class AtWork(Page):
         self.plant.served.process.send_signal(signal.SIGCONT)
         self.sees('#desk', 'The desk answers')
 
+    def test_a_board_that_stops_before_a_look(self) -> None:
+        """A look sends the desk nothing, and the page says so."""
+        self.browser.click('.vehicle-card .head')
+        self.browser.press('Pause', '.vehicle-card')
+        self.sees('#command', 'KIT/0001 is told to pause.')
+        self.browser.press('Back', '#command')
+        self.sees('#command', 'What will it do?')
+        self.board.stop()
+        self.sees('#alarms', 'The board has not answered for')
+        self.browser.press('What will it do?', '#command')
+        self.sees('#command .answer', 'The board does not answer: nothing was done.')
+        self.only_unanswered()
+
     def test_a_board_that_is_stopped(self) -> None:
         """The page says so, and to commands too; the questions that nobody answers are the only
         errors of the console. Once the board was started again the page goes on, and gives
         commands."""
         self.browser.click('.vehicle-card .head')
+        self.browser.press('Pause', '.vehicle-card')
+        self.sees('#command', 'KIT/0001 is told to pause.')
         self.board.stop()
         self.sees('#alarms', 'The board has not answered for')
+        self.browser.press('Do it', '#command')
+        self.sees('#command .answer', 'Check whether the command was carried out')
+        self.browser.press('Close', '#command')
         self.browser.press('Pause', '.vehicle-card')
         self.sees('#command', 'The board does not answer: nothing was done.')
         self.browser.press('Close', '#command')
@@ -166,6 +184,10 @@ class AtWork(Page):
         self.sees('#command', 'KIT/0001 is told to pause.')
         self.browser.press('Do it', '#command')
         self.sees('#command .answer', 'KIT/0001 is told to pause (instant-1).')
+        self.only_unanswered()
+
+    def only_unanswered(self) -> None:
+        """The questions that nobody answers are the only errors of the console."""
         self.browser.open('about:blank')  # the page asks no more
         lines = [line for line in self.browser.console() if line.startswith('SEVERE')]
         self.assertGreater(len(lines), 0)

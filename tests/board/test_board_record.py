@@ -51,8 +51,10 @@ class Loads(Followed):
         self.told(('load.left', 'L2 has left, it was at B', ('person', 'leave')))
 
     def test_a_command_that_was_refused_has_caused_nothing(self) -> None:
-        self.news.calls.sent(7, 'anna', 'correct', {'load': 'L1', 'station': 'C'}, self.news.at)
-        self.news.calls.ended(7, False, self.news.at)
+        self.news.sent_commands.note_sending(
+            7, 'anna', 'correct', {'load': 'L1', 'station': 'C'}, self.news.at
+        )
+        self.news.sent_commands.note_outcome(7, False, self.news.at)
         self.look(L1='station C')
         words = 'L1 was corrected or counted: it is at C, it was at A'
         self.told(('load.moved', words, ('client', 'correct or stocktake')))

@@ -6,7 +6,7 @@ import re
 import unittest
 
 from tests.support.board_follow import BEGUN
-from nulvrader.board.causes import Calls
+from nulvrader.board.causes import SentCommands
 from nulvrader.board.command_log import Command
 from nulvrader.board.command_kinds import COMMANDS
 from nulvrader.board.commands import Answered, event_of
@@ -70,20 +70,20 @@ class Refusals(unittest.TestCase):
 class Causes(unittest.TestCase):
     def test_for_how_long_a_command_is_a_cause(self) -> None:
         """Half a minute from its answer, and while none has come; one that was refused never."""
-        calls = Calls()
-        calls.sent(1, 'anna', 'leave', {'load': 'L1'}, BEGUN)
+        sent = SentCommands()
+        sent.note_sending(1, 'anna', 'leave', {'load': 'L1'}, BEGUN)
 
         def who(at: int) -> str | None:
-            return calls.cause(('leave',), lambda values: values['load'] == 'L1', at).who
+            return sent.cause(('leave',), lambda values: values['load'] == 'L1', at).who
 
         self.assertEqual(who(BEGUN + 600_000), 'anna')
-        calls.ended(1, True, BEGUN + 1000)
+        sent.note_outcome(1, True, BEGUN + 1000)
         self.assertEqual(who(BEGUN + 31_000), 'anna')
         self.assertIsNone(who(BEGUN + 31_001))
-        calls.sent(2, 'bob', 'leave', {'load': 'L1'}, BEGUN)
-        calls.ended(2, False, BEGUN)
+        sent.note_sending(2, 'bob', 'leave', {'load': 'L1'}, BEGUN)
+        sent.note_outcome(2, False, BEGUN)
         self.assertEqual(who(BEGUN + 1000), 'anna')
-        other = calls.cause(('leave',), lambda values: values['load'] == 'L2', BEGUN)
+        other = sent.cause(('leave',), lambda values: values['load'] == 'L2', BEGUN)
         self.assertEqual(other, Cause('client', call='leave'))
 
 

@@ -16,7 +16,7 @@ from nulvrader.board.shown_layout import ShownLayout
 from nulvrader.board.news import News
 from nulvrader.board.page_state import Shown
 from nulvrader.board.record import Record
-from nulvrader.board.same_desk import Same
+from nulvrader.board.same_desk import SameDesk
 from nulvrader.board.stock import Stores
 from nulvrader.common.layouts import Layout, read_layout
 from nulvrader.common.names import VehicleKey
@@ -122,7 +122,7 @@ class Turns(unittest.TestCase):
         self.addCleanup(record.close)
         news = News(Shown(), record)
         self.desk, self.fleet = MadeUp(self.clock), Fleet(news, 10_000)
-        followers = poller.Followers(Stores(news), self.fleet, Same(record))
+        followers = poller.Followers(Stores(news), self.fleet, SameDesk(record))
         desk: Any = self.desk
         self.asker = poller.Asker(desk, news, ShownLayout(news), lambda: followers, 30)
         self.run_for(2)

@@ -101,8 +101,8 @@ class Followed(unittest.TestCase):
     def person(self, name: str, **values: str) -> int:
         """Anna gives a command by this board, and the desk does it. Its number."""
         self.header += 1
-        self.news.calls.sent(self.header, 'anna', name, values, self.news.at)
-        self.news.calls.ended(self.header, True, self.news.at)
+        self.news.sent_commands.note_sending(self.header, 'anna', name, values, self.news.at)
+        self.news.sent_commands.note_outcome(self.header, True, self.news.at)
         return self.header
 
     def begin_order(self) -> None:

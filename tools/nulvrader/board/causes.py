@@ -30,19 +30,21 @@ class SentCommand:
 Matches = Callable[[Mapping[str, str]], bool]
 
 
-class Calls:
+class SentCommands:
     """The last commands of this board. Threads may use it at the same time."""
 
     def __init__(self) -> None:
         self._lock = threading.Lock()
         self._sent: deque[SentCommand] = deque(maxlen=KEPT)
 
-    def sent(self, number: int, who: str, name: str, values: Mapping[str, str], at: int) -> None:
+    def note_sending(
+        self, number: int, who: str, name: str, values: Mapping[str, str], at: int
+    ) -> None:
         """Notes that a command is about to be sent."""
         with self._lock:
             self._sent.append(SentCommand(number, who, name, values, at))
 
-    def ended(self, number: int, done: bool | None, at: int) -> None:
+    def note_outcome(self, number: int, done: bool | None, at: int) -> None:
         """Notes what came of a command."""
         with self._lock:
             for sent in self._sent:

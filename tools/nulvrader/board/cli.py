@@ -28,7 +28,7 @@ from .journal import log
 from .news import News
 from .pages import Board, Pages
 from .record import NoRecord, Record
-from .same_desk import Same
+from .same_desk import SameDesk
 from .server import Server, listening_at, listening_in
 from .page_state import Shown
 from .stock import Stores
@@ -192,7 +192,7 @@ def followers_of(news: News, said: argparse.Namespace) -> Followers:
     if said.instructions is not None:
         files.append(Instructed(news.shown, said.instructions))
     news.commit()
-    return Followers(stores, fleet, Same(news.record), keeper, alarms, uses, files)
+    return Followers(stores, fleet, SameDesk(news.record), keeper, alarms, uses, files)
 
 
 def run(line: list[str], text: str) -> int:

@@ -125,7 +125,8 @@ class Commands:
         asker: Hurried,
         instructions: str | None = None,
     ):
-        self.desk, self.drawn, self.shown, self.calls = desk, drawn, news.shown, news.calls
+        self.desk, self.drawn, self.shown = desk, drawn, news.shown
+        self.sent_commands = news.sent_commands
         self.log, self.asker, self.instructions = log, asker, instructions
 
     def listed(self) -> list[ListedCommand]:
@@ -188,10 +189,10 @@ class Commands:
             number = self.log.asked(now(), who, asked.name, asked.values)
         except NoRecord as fault:
             raise NotSent('unsent.record', fault=str(fault)) from fault
-        self.calls.sent(number, who, asked.name, asked.values, now())
-        answered = self._sent(asked)
+        self.sent_commands.note_sending(number, who, asked.name, asked.values, now())
+        answered = self._send(asked)
         is_known = answered.done or not answered.is_open
-        self.calls.ended(number, answered.done if is_known else None, now())
+        self.sent_commands.note_outcome(number, answered.done if is_known else None, now())
         try:
             self._end(Command(number, who, asked.name, asked.values), answered, answered.done)
         except NoRecord as fault:
@@ -200,8 +201,8 @@ class Commands:
             self.asker.hurry()
         return answered.told()
 
-    def _sent(self, asked: AskedCommand) -> Answered:
-        """Sends a command to the desk, or tells the dispatcher. What came of it."""
+    def _send(self, asked: AskedCommand) -> Answered:
+        """Sends a command to the desk, or tells the dispatcher. Returns what came of it."""
         kind = COMMANDS[asked.name]
         try:
             if kind.tell is not None and self.instructions is not None:

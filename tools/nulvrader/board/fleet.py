@@ -176,7 +176,7 @@ class Fleet:
             is_named = vehicle in values.get('vehicles', '').split()
             return values.get('vehicle') == vehicle or is_named
 
-        return self.news.calls.find((call, f'{call}_all'), is_of, self.news.at)
+        return self.news.sent_commands.find((call, f'{call}_all'), is_of, self.news.at)
 
     def _cause(self, call: str, vehicle: str) -> Cause:
         return self._command(call, vehicle) or Cause('client', call=call)

@@ -6,7 +6,7 @@ from collections import OrderedDict
 from collections.abc import Mapping
 from dataclasses import dataclass
 
-from .causes import Calls, Matches
+from .causes import Matches, SentCommands
 from .events import Cause, Event, ToldEvent, told
 from .messages import Line
 from .page_state import EVENTS, Shown
@@ -29,13 +29,13 @@ class OrderEnd:
 
 class News:
     """The page's values and the record. `at` is the moment of the last answer of the desk, in
-    milliseconds since 1970. `calls` are the commands of this board, and `ends` the orders that have
-    ended, by their names. Pages are told of an entry once it is committed."""
+    milliseconds since 1970. `sent_commands` are those of this board, and `ends` the orders that
+    have ended, by their names. Pages are told of an entry once it is committed."""
 
     def __init__(self, shown: Shown, record: Record):
         self.shown, self.record = shown, record
         self.at = 0
-        self.calls = Calls()
+        self.sent_commands = SentCommands()
         self.ends: OrderedDict[str, OrderEnd] = OrderedDict()
         # by vehicle and failed action what is said of it
         self.failures: OrderedDict[tuple[str, str], str] = OrderedDict()
@@ -75,7 +75,7 @@ class News:
 
     def cause(self, *names: str, of: Matches) -> Cause:
         """Returns by which of these calls it came to be as it is seen now."""
-        return self.calls.cause(names, of, self.at)
+        return self.sent_commands.cause(names, of, self.at)
 
     def look(self, kind: str) -> bool:
         """Notes a look at a kind of things. Whether none was for long before, so that it isn't

@@ -62,7 +62,7 @@ class Pages:
 
     def __init__(self, board: Board):
         self.board = board
-        self.looks, self.commands = Workers(LOOKS), Workers(COMMANDS)
+        self.look_workers, self.command_workers = Workers(LOOKS), Workers(COMMANDS)
         # What readers ask for may last, and keeps no look waiting.
         self.histories, self.searches = Workers(HISTORIES), Workers(SEARCHES)
         names = sorted(name for name in os.listdir(FOLDER) if os.path.splitext(name)[1] in TYPES)
@@ -184,9 +184,10 @@ class Pages:
             if path == '/may':
                 return told({'instructs': commands.instructions is not None})
             if path == '/look':
-                return told(await self.looks.run(functools.partial(commands.look, said)))
+                return told(await self.look_workers.run(functools.partial(commands.look, said)))
             do = commands.take if path == '/take' else commands.do
-            return told(await self.commands.run(functools.partial(do, said, self._user(head))))
+            done = functools.partial(do, said, self._user(head))
+            return told(await self.command_workers.run(done))
         except NoCommand as wrong:
             return refused(200, wrong.line)  # no error: the page has asked, and is told
         except NotSent as fault:

@@ -25,7 +25,7 @@ from .shown_layout import ShownLayout
 from .journal import log
 from .messages import Line, told
 from .news import News
-from .same_desk import OtherDesk, Same
+from .same_desk import OtherDesk, SameDesk
 from .shown_rows import DESK, FAULT, ShownDesk, ShownFault
 from .stock import Stores
 from .uses import Uses
@@ -91,7 +91,7 @@ class Followers:
 
     stores: Stores
     fleet: Fleet
-    same: Same
+    same: SameDesk
     keeper: Keeper | None = None
     alarms: Alarms | None = None
     uses: Uses | None = None

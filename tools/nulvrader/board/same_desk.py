@@ -21,7 +21,7 @@ class OtherDesk(Exception):
         super().__init__(self.line.words())
 
 
-class Same:
+class SameDesk:
     """What the desk has said that stays so, by the record and by each report since."""
 
     def __init__(self, record: Record):
@@ -33,13 +33,14 @@ class Same:
         self.things = int(record.meta('things') or 0)
 
     def check_layout(self, layout: Layout | None) -> None:
-        """Checks the layout."""
+        """Checks the layout. Raises `OtherDesk` where it is not the one that is kept."""
         kept = self.record.meta('layout')
         if kept is not None and (layout is None or layout.csv().decode() != f'{kept}\n'):
             raise OtherDesk('layout')
 
     def check(self, stock: Stock, places: Mapping[str, str]) -> None:
-        """Checks a stock report by the loads that were there, and learns from it."""
+        """Checks a stock report by the loads that were there, and learns from it. Raises
+        `OtherDesk` where stations differ, or a vehicle or a load is missing that can't be gone."""
         stations = {
             name: (station.node, station.capacity) for name, station in stock.stations.items()
         }
@@ -60,7 +61,8 @@ class Same:
         self.vehicles |= vehicles
 
     def check_holds(self, holds: Holds) -> None:
-        """Checks a hold report, and learns from it: each vehicle holds at least its node."""
+        """Checks a hold report, and learns from it: each vehicle holds at least its node. Raises
+        `OtherDesk` where the things of the layout are others, or a known vehicle is missing."""
         if self.things and holds.things != self.things:
             raise OtherDesk('things', before=self.things, after=holds.things)
         self.check_vehicles(holds.nodes.values())
@@ -69,14 +71,16 @@ class Same:
             self.record.set_meta('things', str(holds.things))
 
     def check_export(self, loads: Iterable[str]) -> None:
-        """Checks an export: each load that was ever seen is in it."""
+        """Checks an export: each load that was ever seen is in it. Raises `OtherDesk` where one is
+        missing."""
         known = {str(name) for (name,) in self.record.rows('SELECT load FROM loads')}
         missing = known - set(loads)
         if missing:
             raise OtherDesk('export', count=len(missing), load=min(missing))
 
     def check_vehicles(self, told: Iterable[VehicleKey]) -> set[str]:
-        """Checks which vehicles there are, and returns their names."""
+        """Checks which vehicles there are, and returns their names. Raises `OtherDesk` where a
+        known one is missing."""
         vehicles = {str(key) for key in told}
         missing = self.vehicles - vehicles
         if missing:

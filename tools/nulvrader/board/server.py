@@ -24,9 +24,8 @@ MOST = 200  # connections at a time
 REQUEST = 10.0  # seconds from the beginning of a connection until its request has come whole
 ANSWER = 20.0  # seconds until an answer is taken whole
 CLOSING = 1.0  # seconds for which what comes behind the answer is thrown away
-EACH = (
-    0.005  # seconds from one answer to the next, on average, and so many more for each byte of it:
-)
+# Seconds from one answer to the next, on average: EACH, and BYTE more for each of its bytes.
+EACH = 0.005
 BYTE = 2e-8
 BURST = 0.5  # seconds of these that may come at once
 FLUSH = 0.1  # seconds for the last answers, at the end
@@ -189,7 +188,7 @@ class Server(threading.Thread):
     def stop(self) -> None:
         """Waits for at most a second until the commands that are being carried out are answered,
         and ends the thread with all of its connections."""
-        self.pages.commands.wait(1.0)
+        self.pages.command_workers.wait(1.0)
         self._loop.call_soon_threadsafe(self._over.set)
         self.join(0.5)
 

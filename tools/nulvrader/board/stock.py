@@ -131,12 +131,12 @@ class Stores:
         def counts(values: Mapping[str, str]) -> bool:
             return 'file' in values
 
-        cause = self.news.calls.find(('correct',), is_of, self.news.at)
+        cause = self.news.sent_commands.find(('correct',), is_of, self.news.at)
         if cause is not None:
             return 'corrected', cause
         if is_aboard:
             return 'corrected', Cause('client', call='correct')
-        cause = self.news.calls.find(('stocktake',), counts, self.news.at)
+        cause = self.news.sent_commands.find(('stocktake',), counts, self.news.at)
         return ('counted', cause) if cause else ('moved', Cause('client', call=' or '.join(HANDS)))
 
     def take_export(self, loads: Mapping[str, str]) -> None:

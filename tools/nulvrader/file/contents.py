@@ -50,7 +50,7 @@ def check_table_names(findings: Findings, path: str) -> None:
     """Notes what is wrong with the names and forms of the tables. The log beside the file is read
     only where the file itself lacks the tables, as a young one may."""
     plain_files.check(path)
-    if not _is_database(findings, path):
+    if not _check_is_database(findings, path):
         return
     for has_log in (False, True):
         try:
@@ -73,7 +73,7 @@ def check_rows_of(findings: Findings, path: str, rows_of_a_rule: int) -> None:
     user may read it."""
 
     def check() -> None:
-        if _is_database(findings, path):
+        if _check_is_database(findings, path):
             with opening.opened(path) as connection:
                 _check_tables(findings, path, connection, rows_of_a_rule)
 
@@ -114,8 +114,8 @@ def _not_read(path: str, why: str) -> str:
     )
 
 
-def _is_database(findings: Findings, path: str) -> bool:
-    """Whether the file is a database that may be read. Notes why, where it is not."""
+def _check_is_database(findings: Findings, path: str) -> bool:
+    """Notes why the file is no database that may be read, if so. Returns whether it is one."""
     if opening.has_journal(path):
         findings.reasons.append(
             f'{path_text(path)}-journal lies beside the file: another SQLite was stopped in the'

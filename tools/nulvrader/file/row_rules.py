@@ -112,7 +112,7 @@ def has_numbers(rows: Rows) -> Breaches:
 
 
 @rule('limits')
-def is_within_limits(rows: Rows) -> Breaches:
+def counts_are_within_limits(rows: Rows) -> Breaches:
     """There are at most 500 nodes, 1,500 edges, 500 stations, 100 vehicles, and 1,000,000 loads,
     jobs, orders and references each, ended ones included."""
     used = collections.Counter(row.kind for row in rows.used)

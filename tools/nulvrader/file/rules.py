@@ -17,7 +17,7 @@ RULES: list[Rule] = [
     row_rules.has_names,
     row_rules.has_words,
     row_rules.has_numbers,
-    row_rules.is_within_limits,
+    row_rules.counts_are_within_limits,
     row_rules.edges_join_nodes,
     row_rules.stations_are_at_nodes,
     row_rules.vehicles_are_at_nodes,

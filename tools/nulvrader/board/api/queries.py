@@ -42,9 +42,9 @@ def matched(text: str, name: str, form: re.Pattern[str], what: str) -> str:
     return text
 
 
-def asked_of(query: str, last_id: str | None) -> EventQuery:
+def read_event_query(query: str, last_id: str | None) -> EventQuery:
     """Returns which events are asked for. `last_id` is what a reader says who connects again: it
-    goes before `after`."""
+    goes before `after`. Raises `BadQuery` where a name or a value is wrong."""
     said = values_of(query, ('after', 'limit', 'kinds', 'record'))
     after = number_of(said.get('after', '0'), 'after', 0, GREATEST)
     if last_id:

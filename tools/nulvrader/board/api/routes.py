@@ -132,7 +132,7 @@ class Api:
     async def _events(self, path: str, query: str, head: Head) -> Reply | Stream:
         is_stream = path == STREAM
         last_id = head.headers.get('last-event-id') if is_stream else None
-        asked = queries.asked_of(query, last_id)
+        asked = queries.read_event_query(query, last_id)
         if not is_stream:
             return await self._run(lambda: told(self._batch(asked).told()))
         asked = EventQuery(asked.after, BATCH, asked.kinds, asked.record)

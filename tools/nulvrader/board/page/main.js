@@ -92,7 +92,7 @@ async function entries(query) {
   }
 }
 
-/** Asks the board for a look or a command. Where nothing can be had, the answer has a `fault`. */
+/** Asks the board for a look or a command. Where nothing can be had, the answer has a `fault`. A look changes nothing. */
 async function post(path, body) {
   try {
     const answer = await fetch(path, {
@@ -106,7 +106,7 @@ async function post(path, body) {
     }
     return await answer.json();
   } catch {
-    return { fault: say('board.check') };
+    return { fault: say(path === 'look' ? 'board.nothing' : 'board.check') };
   }
 }
 
