@@ -217,7 +217,8 @@ class OwnerOfCopies(Installed):
         text = (
             'import os, runpy, sys; sys.argv = ["backup"]; '
             'become = runpy.run_path(sys.orig_argv[3])["become_owner"]; '
-            'become(*sys.orig_argv[4:]); print(os.getgroups(), os.getuid())'
+            'become(os.lstat(sys.orig_argv[4]), *sys.orig_argv[5:]); '
+            'print(os.getgroups(), os.getuid())'
         )
         line = [sys.executable, '-c', text, os.path.join(TOOLS, 'backup'), folder, link, plain]
         env = {**os.environ, 'PYTHONPATH': TOOLS}
