@@ -7,7 +7,6 @@ import os
 import time
 from collections.abc import Iterator, Mapping
 from dataclasses import dataclass, field
-from typing import Any
 
 from ..common.layouts import Layout
 from .events import ABOUT, BOARD
@@ -46,12 +45,13 @@ class Condition:
     key: str
     kind: str
     level: str
-    values: Mapping[str, Any] = field(default_factory=dict)
+    values: Mapping[str, object] = field(default_factory=dict)
     since: int | None = None
 
     def about(self) -> dict[str, str | None]:
         """Returns the things that it is about."""
-        return {name: self.values.get(name) for name in ABOUT}
+        found = {name: self.values.get(name) for name in ABOUT}
+        return {name: one if isinstance(one, str) else None for name, one in found.items()}
 
     def words(self) -> str:
         """Returns what is so."""
@@ -190,7 +190,7 @@ class Alarms:
         """Whether so many rows may be made of an alarm that may be of what a vehicle says."""
         if found.kind not in SAID or keeper is None:
             return True
-        return keeper.may_tell(found.values['vehicle'], count)
+        return keeper.may_tell(str(found.values['vehicle']), count)
 
     def _change(self, alarm: Alarm) -> None:
         self.news.record.change_alarm(alarm.number, alarm.found)
@@ -200,7 +200,8 @@ class Alarms:
         self._tell('over', alarm.found)
 
     def _tell(self, what: str, found: Condition) -> None:
-        more = {**found.values, 'alarm': found.kind, 'key': found.key, 'level': found.level}
+        more = dict(found.values)
+        more |= {'alarm': found.kind, 'key': found.key, 'level': found.level}
         self.news.event(f'alarm.{what}', BOARD, found.about(), more=more)
 
     def _show(self, alarm: Alarm) -> None:
@@ -280,14 +281,16 @@ class Alarms:
             for one in failed[-1:]:  # the last one, for all of them
                 values = self._of_action(seen, one, said.words.result_of(one))
                 if len(failed) > 1:
-                    values['action'] += f' (+{len(failed) - 1})'
+                    values['action'] = f'{one.action} (+{len(failed) - 1})'
                 yield Condition(f'action {name}', 'action', 'bad', values)
             charge = said.words.battery
             if said.is_low and charge is not None and not said.words.charging:
                 values = {'vehicle': name, 'node': seen.row.node, 'battery': f'{charge:g}'}
                 yield Condition(f'battery {name}', 'battery', 'warn', values)
 
-    def _of_action(self, seen: KnownVehicle, failed: FailedAction, result: str) -> dict[str, Any]:
+    def _of_action(
+        self, seen: KnownVehicle, failed: FailedAction, result: str
+    ) -> dict[str, object]:
         """Returns what an alarm says of an action that has failed: what it was, where its order is
         known, and what the vehicle says of it."""
         values = {'vehicle': str(seen.row.key), 'action': failed.action, 'type': failed.type}
@@ -314,7 +317,7 @@ class Alarms:
             is_shut = holder is not None and holder.row.order is None
             if not wait.stands or at - since < (IN_THE_WAY if is_shut else BLOCKED):
                 continue
-            values: dict[str, Any] = {'vehicle': name, 'by': wait.by}
+            values: dict[str, object] = {'vehicle': name, 'by': wait.by}
             values['thing'] = ' '.join(wait.thing)
             kind, level = ('shut', 'bad') if is_shut else ('blocked', 'warn')
             if holder is not None and is_shut:

@@ -1,4 +1,5 @@
-"""How each command of the page is carried out: a call of the desk, and what is said then."""
+"""How each command of the page is carried out: a function for each makes a call of the desk, and
+returns what is said of it. It raises what its call does: `Refused`, `NoAnswer` or `BadValue`."""
 from __future__ import annotations
 
 from collections.abc import Callable, Mapping
@@ -23,6 +24,7 @@ class NotAll(NoAnswer):
 
 
 def key_of(said: Values) -> VehicleKey:
+    """Returns the key of the vehicle that a command names."""
     return VehicleKey.parse(said['vehicle'])
 
 
@@ -37,32 +39,37 @@ def nothing(desk: Desk, said: Values) -> Done:
 
 
 def register(desk: Desk, said: Values) -> Done:
+    """Registers a load at a station, or else at the checking place."""
     desk.register_load(said['load'], said.get('station') or None)
     return done('register', load=said['load'])
 
 
 def correct(desk: Desk, said: Values) -> Done:
+    """Records a load at a station, or else at the checking place."""
     desk.correct_load(said['load'], said['ref'], said.get('station') or None)
     return done('correct', load=said['load'])
 
 
 def leave(desk: Desk, said: Values) -> Done:
+    """Records that a load has left."""
     desk.leave_load(said['load'], said['ref'])
     return done('leave', load=said['load'])
 
 
 def add_job(desk: Desk, said: Values) -> Done:
+    """Adds a job that brings a load to a station."""
     desk.add_job(said['job'], said['load'], said['to'])
     return done('job', job=said['job'])
 
 
 def stop_job(desk: Desk, said: Values) -> Done:
-    """Has the desk stop a job, and returns what is said of it. Raises `Refused` or `NoAnswer`."""
+    """Stops a job that waits."""
     desk.stop_job(said['job'])
     return done('stop', job=said['job'])
 
 
 def start_order(desk: Desk, said: Values) -> Done:
+    """Gives a vehicle an order of stops, each a pick or a drop of a job's load."""
     stops = [
         Stop(stop.action, checked(stop.job, 'job'))
         for stop in order_previews.stops_of(said['stops'])
@@ -72,24 +79,29 @@ def start_order(desk: Desk, said: Values) -> Done:
 
 
 def start_drive(desk: Desk, said: Values) -> Done:
+    """Gives a vehicle an order without stops, to a node."""
     desk.start_drive(said['order'], key_of(said), said['node'], int(said['edges']))
     return done('drive', vehicle=said['vehicle'], node=said['node'], order=said['order'])
 
 
 def advance(desk: Desk, said: Values) -> Done:
+    """Releases further edges of a vehicle's order."""
     update = desk.advance(key_of(said), said['order'], int(said['update']), int(said['edges']))
     return done('advance', update=update, order=said['order'])
 
 
 def cancel(desk: Desk, said: Values) -> Done:
+    """Cancels the order of a vehicle."""
     return done('cancel', vehicle=said['vehicle'], action=desk.cancel(key_of(said)))
 
 
 def pause(desk: Desk, said: Values) -> Done:
+    """Tells a vehicle to pause."""
     return done('pause', vehicle=said['vehicle'], action=desk.pause(key_of(said)))
 
 
 def resume(desk: Desk, said: Values) -> Done:
+    """Tells a vehicle that pauses to go on."""
     return done('resume', vehicle=said['vehicle'], action=desk.resume(key_of(said)))
 
 
@@ -121,16 +133,19 @@ def to_all(tell: Callable[[Desk, VehicleKey], str]) -> Callable[[Desk, Values], 
 
 
 def place(desk: Desk, said: Values) -> Done:
+    """Records at which node a vehicle stands, which ends its order."""
     desk.place(key_of(said), said['ref'], said['node'])
     return done('place', vehicle=said['vehicle'], node=said['node'])
 
 
 def resync(desk: Desk, said: Values) -> Done:
+    """Has the desk take a vehicle's next state whatever its headerId."""
     desk.resync(key_of(said))
     return done('resync', vehicle=said['vehicle'])
 
 
 def stocktake(desk: Desk, said: Values) -> Done:
+    """Sends the desk a count of stations, a file of CSV."""
     told = desk.stocktake(said['ref'], said['file'].encode())
     lines = done('stocktake', loads=told.moved)
     return lines + (done('stocktake.unknown', names=list(told.unknown)) if told.unknown else [])

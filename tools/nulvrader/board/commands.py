@@ -5,7 +5,7 @@ from __future__ import annotations
 import re
 from collections.abc import Mapping
 from dataclasses import dataclass, replace
-from typing import Any, Protocol
+from typing import Protocol
 
 from ..common.instructions import NoInstructions
 from ..common.names import BadValue
@@ -97,12 +97,13 @@ def event_of(given: Command, cause: Cause, answered: Answered) -> Event:
     if refusal:
         words = {'words': answered.text(), 'says': told(says)}
         says = [Line('answer.refused', {'name': refusal, **words})]
-    more: dict[str, Any] = {'answer': words_of(says), 'says': told(says)}
+    more: dict[str, object] = {'answer': words_of(says), 'says': told(says)}
     more |= {name: values[name] for name in MORE if values.get(name)}
     if given.name == 'urgency':
         more |= {name: values.get(name) or UNSAID for name in URGENCY}
-    if re.fullmatch('[0-9]{1,3}', more.get('edges', '')):
-        more['edges'] = int(more['edges'])
+    edges = values.get('edges', '')
+    if re.fullmatch('[0-9]{1,3}', edges):
+        more['edges'] = int(edges)
     more |= {'refusal': refusal} if refusal else {}
     known = {name: about.get(name) or None for name in ABOUT}
     if not has(f'event.command.{given.name}'):

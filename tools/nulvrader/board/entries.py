@@ -10,8 +10,9 @@ import sqlite3
 import threading
 import time
 from collections.abc import Iterator, Mapping, Sequence
-from typing import Any
+from typing import Any, TypedDict
 
+from .events import ToldEvent
 from .messages import Line
 from .record import EVENT, entry_of, opened, text_of
 
@@ -132,8 +133,15 @@ def found(path: str, asked: Mapping[str, str], most: int) -> list[tuple[Any, ...
         return base.execute(question, (*values, most)).fetchall()
 
 
-def page_of(path: str, asked: Mapping[str, str]) -> dict[str, Any]:
-    """Returns a page of entries, the newest first; `older` says that there are more before them."""
+class EntriesPage(TypedDict):
+    """A page of entries, the newest first; `older` says that there are more before them."""
+
+    events: list[ToldEvent]
+    older: bool
+
+
+def page_of(path: str, asked: Mapping[str, str]) -> EntriesPage:
+    """Returns the page of entries that are asked for."""
     rows = found(path, asked, PAGE + 1)
     return {'events': [entry_of(row) for row in rows[:PAGE]], 'older': len(rows) > PAGE}
 

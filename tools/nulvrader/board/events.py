@@ -120,11 +120,16 @@ class ToldEvent(TypedDict):
     more: NotRequired[dict[str, object]]
 
 
+def told_event(values: Mapping[str, object]) -> ToldEvent:
+    """Returns an entry of the values that are known: None stands for one that isn't."""
+    return cast(ToldEvent, {name: value for name, value in values.items() if value is not None})
+
+
 def told(number: int, at: int, event: Event) -> ToldEvent:
     """Returns an entry as pages and other programs get it."""
     event = event.cut()
     cause = event.cause
-    found = {
+    found: dict[str, object] = {
         'n': number,
         'at': at,
         'kind': event.kind,
@@ -139,4 +144,4 @@ def told(number: int, at: int, event: Event) -> ToldEvent:
         'after': event.after,
         'more': dict(event.more) or None,
     }
-    return cast(ToldEvent, {name: value for name, value in found.items() if value is not None})
+    return told_event(found)

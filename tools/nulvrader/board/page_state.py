@@ -30,6 +30,10 @@ class Value:
     value: object
     text: str
 
+    def of(self, _: ShownKind[RowT]) -> RowT | None:
+        """Returns the value, which is of this kind: `put` takes no other one under its name."""
+        return cast(RowT | None, self.value)
+
 
 class Shown:
     """Values by kind and name, as `('vehicle', 'KIT/0001')`. Threads may put and ask at the same
@@ -88,15 +92,15 @@ class Shown:
         """Returns the value, or None."""
         with self._lock:
             found = self._values.get((kind, name))
-            return None if found is None else cast(RowT | None, found.value)
+            return None if found is None else found.of(kind)
 
     def all(self, kind: ShownKind[RowT]) -> dict[str, RowT]:
         """Returns all values of a kind, by their names."""
         with self._lock:
             found = [
-                (name, value.value) for (of, name), value in self._values.items() if of == kind
+                (name, value.of(kind)) for (of, name), value in self._values.items() if of == kind
             ]
-        return {name: cast(RowT, value) for name, value in found if value is not None}
+        return {name: value for name, value in found if value is not None}
 
     def newer(self, run: str, version: int) -> bytes:
         """Returns what is newer than a version of a run, of another run all that is, as the members

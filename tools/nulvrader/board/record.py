@@ -13,11 +13,12 @@ import sqlite3
 import threading
 import time
 from collections.abc import Mapping, Sequence
-from typing import Any, Protocol, cast
+from typing import Any, Protocol
 
 from ..common.text import shown
-from .events import ABOUT, Event, ToldEvent, cut, json_of, values_cut
-from .record_tables import MOST, MOVES, OLD, PORTION, SCHEMA, VERSION
+from .events import ABOUT, Event, ToldEvent, cut, json_of, told_event, values_cut
+from .record_tables import MOST, MOVES, OLD, PORTION, SCHEMA, VERSION, WordsColumns
+from .shown_rows import VehicleColumns
 
 # The columns of an entry, without its number, and with it.
 COLUMNS = (
@@ -66,7 +67,7 @@ def entry_of(row: Sequence[Any]) -> ToldEvent:
     found['at'], found['text'] = moment_of(found['at']), found.pop('words')
     if found['more'] is not None:
         found['more'] = json.loads(found['more'])
-    return cast(ToldEvent, {name: value for name, value in found.items() if value is not None})
+    return told_event(found)
 
 
 def opened(path: str, wait: float = 10.0) -> sqlite3.Connection:
@@ -91,7 +92,7 @@ class RecordedAlarm(Protocol):
         """How grave it is."""
 
     @property
-    def values(self) -> Mapping[str, Any]:
+    def values(self) -> Mapping[str, object]:
         """What its sentences are made of."""
 
     def about(self) -> Mapping[str, str | None]:
@@ -154,7 +155,7 @@ class Record:
             finally:
                 self._lock.release()
 
-    def _put(self, statement: str, values: Sequence[Any] = ()) -> None:
+    def _put(self, statement: str, values: Sequence[object] = ()) -> None:
         with self._lock:
             self._begin()
             self._base.execute(statement, values)
@@ -204,7 +205,7 @@ class Record:
         """Notes in the table `meta` when a kind of things was first looked at, for `has_look`."""
         self.set_meta(f'first look at {kind}', text_of(at))
 
-    def _row(self, table: str, values: Mapping[str, Any]) -> None:
+    def _row(self, table: str, values: Mapping[str, object]) -> None:
         columns = ', '.join(values)
         marks = ', '.join('?' * len(values))
         self._put(
@@ -236,7 +237,7 @@ class Record:
             'load_moves', {'at': text_of(at), 'load': load, 'from_place': before, 'to_place': after}
         )
 
-    def vehicle(self, at: int, name: str, values: Mapping[str, Any], heard: int | None) -> None:
+    def vehicle(self, at: int, name: str, values: VehicleColumns, heard: int | None) -> None:
         """Puts how a vehicle came to be at this moment: its row, and the change."""
         row = {key: value for key, value in values.items() if key != 'capacity'}
         self._row('vehicle_states', {'at': text_of(at), 'vehicle': name, **row})
@@ -259,8 +260,8 @@ class Record:
                 'holds', {'kind': kind, 'name': name, 'vehicle': vehicle, 'since': text_of(at)}
             )
 
-    def job(self, values: Mapping[str, Any]) -> None:
-        """Puts how a job is."""
+    def job(self, values: Mapping[str, str | None]) -> None:
+        """Puts how a job is, by the columns of `jobs`."""
         self._row('jobs', values)
 
     def end_waits(self, at: int) -> None:
@@ -306,7 +307,7 @@ class Record:
         question = f'SELECT {", ".join(EVENT)} FROM events ORDER BY n DESC LIMIT ?'
         return [entry_of(row) for row in self.rows(question, (count,))][::-1]
 
-    def words(self, at: int, vehicle: str, values: Mapping[str, Any]) -> None:
+    def words(self, at: int, vehicle: str, values: WordsColumns) -> None:
         """Puts what a vehicle says of itself, by the columns of `vehicle_words`."""
         self._row('vehicle_words', {'vehicle': vehicle, 'at': text_of(at), **values})
 
@@ -320,7 +321,12 @@ class Record:
     def alarm(self, found: RecordedAlarm, began: int) -> int:
         """Puts what needs a person, and since when. Returns the number of its row."""
         about = {name: found.about().get(name) for name in ('vehicle', 'load', 'job', 'station')}
-        row: dict[str, Any] = {'key': found.key, 'kind': found.kind, 'level': found.level, **about}
+        row: dict[str, object] = {
+            'key': found.key,
+            'kind': found.kind,
+            'level': found.level,
+            **about,
+        }
         row |= {'words': cut(found.words()), 'todo': cut(found.todo()), 'began': text_of(began)}
         with self._lock:
             self._row('alarms', {**row, 'more': json_of(values_cut(found.values))})

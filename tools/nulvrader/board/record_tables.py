@@ -2,6 +2,8 @@
 rows are removed once they are old."""
 from __future__ import annotations
 
+from typing import TypedDict
+
 VERSION = 3
 SCHEMA = """
 CREATE TABLE IF NOT EXISTS meta (name TEXT NOT NULL PRIMARY KEY, value TEXT NOT NULL) STRICT;
@@ -137,3 +139,21 @@ MOST = {
     'alarms': 1_000_000,
 }
 PORTION = 2_000  # rows of a table that are removed at once, so that nobody waits for it
+
+
+class WordsColumns(TypedDict):
+    """What a vehicle says of itself, by the columns of `vehicle_words`; 1 stands for yes, and what
+    is a list or an object is JSON."""
+
+    mode: str | None
+    stop: str | None
+    field: int | None
+    battery: float | None
+    charging: int | None
+    map: str | None
+    connection: str | None
+    x: float | None
+    y: float | None
+    errors: str
+    failed: str
+    since: str

@@ -2,7 +2,6 @@
 from __future__ import annotations
 
 from collections.abc import Sequence
-from typing import cast
 
 from ..desk.client import ExportedVehicle
 from .live_jobs import LiveJob
@@ -62,8 +61,25 @@ def shown_vehicle(
     unready: int | None,
 ) -> ShownVehicle:
     """Returns how a vehicle is, as the page has it."""
-    more = {'loads': loads, 'rest': rest, 'silent': silent, 'header': header, 'unready': unready}
-    return cast(ShownVehicle, {**values, **more})
+    return {
+        'node': values['node'],
+        'order_name': values['order_name'],
+        'seen': values['seen'],
+        'base': values['base'],
+        'edges': values['edges'],
+        'sent': values['sent'],
+        'confirmed': values['confirmed'],
+        'pending': values['pending'],
+        'ready': values['ready'],
+        'paused': values['paused'],
+        'astray': values['astray'],
+        'capacity': values['capacity'],
+        'loads': loads,
+        'rest': rest,
+        'silent': silent,
+        'header': header,
+        'unready': unready,
+    }
 
 
 def way(told: Way) -> ShownWay:

@@ -18,9 +18,10 @@ STOPPED = {'cancelled': 'cancelled', 'placed': 'placed', 'broken': 'cancelled', 
 
 
 class Stores:
-    """The loads, stations and jobs. What an earlier run has kept is where it begins."""
+    """The loads, stations and jobs, as the desk's answers tell of them."""
 
     def __init__(self, news: News):
+        """Begins with what the record has of an earlier run, and shows it."""
         self.news = news
         self.places: dict[str, str] = {}  # of the loads that have not left
         self.since: dict[str, int | None] = {}
@@ -168,9 +169,9 @@ class Stores:
         moments = {name: None if at is None else text_of(at) for name, at in times.items()}
         about = {'phase': job.phase, 'order_name': job.order, 'vehicle': job.vehicle}
         outcome, cause = told if told is not None and not is_live else (None, None)
-        end = {'outcome': outcome, 'cause': cause and cause.of, 'who': cause and cause.who}
         failure = self._failure(job) if outcome == 'failed' else {}
-        end['action'] = failure.get('action')
+        end = {'outcome': outcome, 'action': failure.get('action')}
+        end |= {'cause': cause.of if cause else None, 'who': cause.who if cause else None}
         self.news.record.job({**row, **about, **moments, **end})
 
     def _tell_job(self, job: LiveJob, is_new: bool) -> tuple[str, Cause]:

@@ -10,6 +10,7 @@ from typing import Any
 from .events import BOARD, VEHICLE
 from .news import News
 from .record import moment_of
+from .record_tables import WordsColumns
 from .shown_rows import WORDS, ShownWords
 from .vehicle_words import Error, FailedAction, Words
 
@@ -230,14 +231,18 @@ def changes_of(before: Words, words: Words) -> Iterator[Change]:
             yield Change('action', more=more, failed=one)
 
 
-def row_of(said: KnownWords) -> dict[str, Any]:
+def row_of(said: KnownWords) -> WordsColumns:
     """Returns the values of `vehicle_words`."""
     words = said.words
-    flags = {name: getattr(words, name) for name in ('field', 'charging')}
     x, y = words.position or (None, None)
     return {
-        **{name: getattr(words, name) for name in COLUMNS},
-        **{name: None if value is None else int(value) for name, value in flags.items()},
+        'mode': words.mode,
+        'stop': words.stop,
+        'field': None if words.field is None else int(words.field),
+        'battery': words.battery,
+        'charging': None if words.charging is None else int(words.charging),
+        'map': words.map,
+        'connection': words.connection,
         'x': x,
         'y': y,
         'errors': json.dumps([asdict(error) for error in words.errors or ()]),
