@@ -4,6 +4,7 @@ from __future__ import annotations
 import hashlib
 import os
 import random
+import signal
 import statistics
 import subprocess
 import time
@@ -12,14 +13,15 @@ from dataclasses import dataclass, field
 
 from .cluster import Cluster, Managed
 from .desks import DB, Served, Supervisor, Term
-from .faults import KINDS, STAYS
+from .faults import BRICK, KINDS, STAYS
 from .namespaces import Machine, Machines, NoMachines, until
 from .records import Answered, Judgement, Records
 from .traffic import Traffic, missing
-from .volume import Volume
+from .volume import NAME, Volume
 
 EXPORT = b'GET /export/loads HTTP/1.1\r\n\r\n'
 TAKEOVER = 300.0  # seconds until another desk has to answer
+STARTING = 20.0  # seconds after which a copy has its port, where it gets it
 HANDED = 60.0  # seconds after which it is looked again who has the desk that is to be stopped
 
 
@@ -296,10 +298,24 @@ class Drill:
     def make_whole(self) -> None:
         """Starts the machines that their watchdogs have reset, and waits until all use all
         copies."""
-        for _ in until():
+        patience = STARTING
+        for took in until():
             self.boot()
             if all(self.volume.is_whole(one) for one in self.machines.all):
                 return
+            if took > patience:
+                patience = took + STARTING
+                self.start_without_port()
+
+    def start_without_port(self) -> None:
+        """Starts copies anew that have no port, by the commands that `tools/standby check`
+        says."""
+        for machine in self.volume.without_port():
+            for pid in self.programs_of(machine, BRICK):
+                os.kill(pid, signal.SIGKILL)
+            time.sleep(1)
+            self.volume.gluster(machine, 'volume', 'start', NAME, 'force')
+            print(f'the copy in {machine.name} had no port', flush=True)
 
     def stop_and_wait(self, desk: Served) -> float | None:
         """Stops a desk, waits for the next one, and starts the first again. Returns the first

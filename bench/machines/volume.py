@@ -6,6 +6,7 @@ import shutil
 import time
 
 from nulvrader.standby import gluster
+from nulvrader.standby.gluster import Brick
 
 from .namespaces import Machine, Machines, NoMachines, until
 
@@ -167,18 +168,31 @@ class Volume:
             mark = b''
         return contents[0] != contents[1] and not any(mark[:DATA])
 
+    def bricks(self, machine: Machine) -> list[Brick]:
+        """Returns the copies, as a machine knows them; none where it doesn't answer."""
+        words = ('gluster', '--mode=script', '--xml', 'volume', 'status', NAME)
+        try:
+            return gluster.read_bricks(gluster.parse(machine.run(*words).stdout.encode()))
+        except gluster.Unknown:
+            return []
+
+    def without_port(self) -> list[Machine]:
+        """Returns the machines whose copies are online, and have no port."""
+        found = []
+        for machine in self.machines.all:
+            for brick in self.bricks(machine):
+                is_own = brick.name.endswith(f':{machine.folder}/brick/{NAME}')
+                if is_own and brick.is_online and not brick.has_port:
+                    found.append(machine)
+        return found
+
     def is_whole(self, machine: Machine) -> bool:
         """Whether all copies are in use, and the mount of a machine is connected to each of
         them."""
-        xml = machine.run('gluster', '--mode=script', '--xml', 'volume', 'status', NAME).stdout
-        try:
-            bricks = gluster.read_bricks(gluster.parse(xml.encode()))
-        except gluster.Unknown:
-            return False
-        count = len(self.machines.all)
+        bricks, count = self.bricks(machine), len(self.machines.all)
         place = f'{machine.folder}/mount/.meta/graphs/active/{NAME}-client-*/private'
         told = machine.run('sh', '-c', f'cat {place}', seconds=20).stdout
-        is_online = [brick.is_online for brick in bricks] == [True] * count
+        is_online = [brick.is_online and brick.has_port for brick in bricks] == [True] * count
         clients = [client.is_connected for client in gluster.read_clients(told)]
         return is_online and clients == [True] * count
 

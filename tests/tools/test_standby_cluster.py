@@ -43,6 +43,19 @@ connected = 1
 [xlator.protocol.client.desk-client-2.priv]
 connected = 0
 """
+# `gluster --xml volume status desk` where a copy has no port; a helper never has one.
+NODE = """<node><hostname>%s</hostname><path>%s</path><status>1</status>
+<port>%s</port><ports><tcp>%s</tcp><rdma>N/A</rdma></ports><pid>1403</pid></node>
+"""
+NODES = ''.join(
+    NODE % (host, path, port, port)
+    for host, path, port in (
+        ('10.77.0.1', '/srv/brick/desk', '55917'),
+        ('10.77.0.2', '/srv/brick/desk', 'N/A'),
+        ('Self-heal Daemon', 'localhost', 'N/A'),
+    )
+)
+BRICKS = f'<cliOutput><opRet>0</opRet><volStatus>{NODES}</volStatus></cliOutput>'.encode()
 SHELL = '/usr/lib/ocf/lib/heartbeat/ocf-shellfuncs'
 NEEDED = os.path.exists(SHELL) and os.geteuid() == 0 and shutil.which('setpriv') is not None
 
@@ -131,6 +144,12 @@ class VolumeWords(unittest.TestCase):
         self.assertEqual(checks.wrong_bricks([Brick('a', True)]), [])
         self.assertEqual(len(checks.wrong_bricks([Brick('a', True), Brick('b', False)])), 1)
         self.assertEqual(len(checks.wrong_bricks([])), 1)
+        found = gluster.read_bricks(gluster.parse(BRICKS))
+        self.assertEqual(
+            [(one.is_online, one.has_port) for one in found], [(True, True), (True, False)]
+        )
+        (wrong,) = checks.wrong_bricks(found)
+        self.assertIn('the copy 10.77.0.2:/srv/brick/desk has no port', wrong)
         self.assertEqual(len(checks.unhealed({'a': 0, 'b': 3, 'c': None})), 2)
 
     def test_clients(self) -> None:

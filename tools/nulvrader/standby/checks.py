@@ -98,9 +98,15 @@ def is_same(one: str, other: str) -> bool:
 
 
 def wrong_bricks(bricks: list[Brick]) -> list[str]:
-    """Returns the copies that are not online."""
-    off = [brick for brick in bricks if not brick.is_online]
-    wrong = [f'the copy {shown(brick.name, 300)} is not online' for brick in off]
+    """Returns the copies that are not online, or that nobody reaches who isn't connected."""
+    wrong = []
+    for brick in bricks:
+        name = shown(brick.name, 300)
+        if not brick.is_online:
+            wrong.append(f'the copy {name} is not online')
+        elif not brick.has_port:
+            told = '`kill -KILL` its Pid in `gluster volume status` there, then'
+            wrong.append(f'the copy {name} has no port: {told} `gluster volume start .. force`')
     if not bricks:
         wrong.append('the volume has no copy')
     return wrong

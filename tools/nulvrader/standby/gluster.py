@@ -25,10 +25,13 @@ class Unknown(Exception):
 
 @dataclass(frozen=True)
 class Brick:
-    """A copy of the volume: its name, and whether it is online."""
+    """A copy of the volume: its name, whether it is online, and whether its daemon knows its port.
+    GlusterFS 10.3 forgets that where it has started a copy twice at once, as after a cut: then who
+    was connected stays so, and nobody else reaches the copy."""
 
     name: str
     is_online: bool
+    has_port: bool = True
 
 
 @dataclass
@@ -124,7 +127,8 @@ def read_bricks(answer: ElementTree.Element) -> list[Brick]:
         path = node.findtext('path') or ''
         if path.startswith('/'):
             name = f'{node.findtext("hostname") or ""}:{path}'
-            found.append(Brick(name, node.findtext('status') == '1'))
+            is_online, has_port = node.findtext('status') == '1', node.findtext('port') != 'N/A'
+            found.append(Brick(name, is_online, has_port))
     return found
 
 
