@@ -65,8 +65,9 @@ def check(program: str, new: str, run_as: RunAs | None = None) -> None:
 
 
 def loads_in(copy: str) -> int:
-    """Returns how many loads a copy has. What the desk has left beside it goes into it. It is in a
-    folder where nobody else writes: SQLite deletes and makes files that a journal names."""
+    """Returns how many loads a copy has. Opening it merges -wal or -journal into the copy, so the
+    file changes. It is in a folder where nobody else writes: SQLite deletes and makes files that a
+    journal names."""
     with contextlib.closing(sqlite3.connect(copy)) as connection:
         return int(connection.execute('SELECT count(*) FROM load').fetchone()[0])
 

@@ -60,6 +60,8 @@ def read_command(said: Mapping[str, object], layout: Layout, is_whole: bool) -> 
             raise wrong('value', key=f'{key[:CUT]!a}')
         if not isinstance(value, str):
             raise wrong('text', field=fields[key].row)
+        # No spaces around a value, but its line ends stay, so that `check` refuses them: a name
+        # that was pasted with the next line is perhaps not the one that was meant.
         values[key] = value if fields[key].kind == 'file' or '\n' in value else value.strip()
     for field in fields.values():
         is_needed = is_whole if field in kind.adds else not field.optional

@@ -34,6 +34,8 @@ class Look:
 
 
 def register_load(scene: Scene, said: Mapping[str, str]) -> Look:
+    """Returns what it is to register a load. Warns where there is one of its name, or its station
+    is full."""
     look, load, station = Look(dict(said)), said['load'], said.get('station', '')
     look.say('register', load=load, place=place_of(station))
     look.warn(scene.load(load) is not None, 'exists', load=load)
@@ -42,6 +44,8 @@ def register_load(scene: Scene, said: Mapping[str, str]) -> Look:
 
 
 def correct_load(scene: Scene, said: Mapping[str, str]) -> Look:
+    """Returns what a correction of a load's place will do. Warns where the desk has no such load,
+    it is there already or has a live job, or the station is full."""
     look, load, station = Look(_with_reference(said)), said['load'], said.get('station', '')
     known = _load_here(scene, look, load)
     before = known['place'] if known else ''
@@ -58,6 +62,8 @@ def correct_load(scene: Scene, said: Mapping[str, str]) -> Look:
 
 
 def leave_load(scene: Scene, said: Mapping[str, str]) -> Look:
+    """Returns what it is to record that a load has left. Warns where the desk has no such load, or
+    it is aboard a vehicle or has a live job."""
     look, load = Look(_with_reference(said)), said['load']
     known = _load_here(scene, look, load)
     look.say('leave', load=load)
@@ -68,6 +74,9 @@ def leave_load(scene: Scene, said: Mapping[str, str]) -> Look:
 
 
 def add_job(scene: Scene, said: Mapping[str, str]) -> Look:
+    """Returns what a new job will do: from where its load is brought, and to where. Warns where the
+    load is at no station, stands at the target or has a live job, where no way leads there, or
+    where the target is full."""
     look, job, load, to = Look(dict(said)), said['job'], said['load'], said['to']
     known = _load_here(scene, look, load)
     place = known['place'] if known else ''
@@ -89,6 +98,8 @@ def add_job(scene: Scene, said: Mapping[str, str]) -> Look:
 
 
 def stop_job(scene: Scene, said: Mapping[str, str]) -> Look:
+    """Returns what a stop of a job will do. Warns where there is no such job, or it rides on a
+    vehicle."""
     look, job = Look(dict(said)), said['job']
     known = scene.job(job)
     if known is None:
@@ -121,18 +132,22 @@ def cancel(scene: Scene, said: Mapping[str, str]) -> Look:
 
 
 def pause(scene: Scene, said: Mapping[str, str]) -> Look:
+    """Returns what it is to tell a vehicle to pause."""
     return _instant(scene, said, 'pause', True)
 
 
 def resume(scene: Scene, said: Mapping[str, str]) -> Look:
+    """Returns what it is to tell a vehicle to resume."""
     return _instant(scene, said, 'resume', False)
 
 
 def pause_all(scene: Scene, said: Mapping[str, str]) -> Look:
+    """Returns what it is to tell all vehicles to pause that have not."""
     return _instant_all(scene, said, 'pause', False)
 
 
 def resume_all(scene: Scene, said: Mapping[str, str]) -> Look:
+    """Returns what it is to tell all vehicles to resume that have paused."""
     return _instant_all(scene, said, 'resume', True)
 
 
@@ -165,6 +180,8 @@ def _instant(scene: Scene, said: Mapping[str, str], what: str, paused: bool) -> 
 
 
 def place(scene: Scene, said: Mapping[str, str]) -> Look:
+    """Returns what it is to record where a vehicle stands: its order ends. Warns to look first, and
+    where another vehicle holds the node."""
     look, name, node = Look(_with_reference(said)), said['vehicle'], said['node']
     vehicle = vehicle_here(scene, look, name)
     look.say('place', vehicle=name, node=node)
@@ -177,6 +194,7 @@ def place(scene: Scene, said: Mapping[str, str]) -> Look:
 
 
 def resync(scene: Scene, said: Mapping[str, str]) -> Look:
+    """Returns what it is to have the desk accept the next state of a vehicle, whatever its number."""
     look, name = Look(dict(said)), said['vehicle']
     vehicle_here(scene, look, name)
     look.say('resync', vehicle=name)
@@ -203,6 +221,7 @@ def _with_reference(said: Mapping[str, str]) -> Values:
 
 
 def _check_room(scene: Scene, look: Look, station: str) -> None:
+    """Adds a warning to the look where a station is full."""
     if station and station in scene.layout.stations:
         look.warn(scene.room(station) == 0, 'full', **scene.room_of(station))
 
@@ -222,6 +241,8 @@ def _check_no_job(scene: Scene, look: Look, load: str) -> None:
 
 
 def _check_not_pending(look: Look, vehicle: ShownVehicle | None) -> None:
+    """Adds a warning to the look where the vehicle has an action pending, as the desk would
+    refuse another one."""
     pending = str(vehicle['pending']) if vehicle and vehicle['pending'] else None
     look.warn(pending is not None, 'pending', action=pending)
 

@@ -39,7 +39,9 @@ class Lane:
         for bit in reversed(self.bits):
             free = whole & ~other.lefts.get(bit, 0)
             begun = before & free
-            # (and so on from each of these, as long as it is free)
+            # The carry of the sum goes up from each begun bit through the free ones above it, and
+            # the bits that it changes are where the other can come from. A begun bit that a carry
+            # meets stays set in the sum, so it is added; the bit where a carry ends is not free.
             before = (free + begun ^ free | begun) & free
             rows.append(before)
         return rows
@@ -67,6 +69,8 @@ class Ground:
         return found
 
     def lane(self, way: Way) -> Lane:
+        """Returns a way as bits, the one that is kept where there is one. Where KEPT are kept, all
+        are forgotten first, and so is what is kept of pairs."""
         way = tuple(way)
         lane = self._lanes.get(way)
         if lane is None:
@@ -89,6 +93,8 @@ class Ground:
         return lane, len(lane.way) - len(way)
 
     def passes(self, one: Lane, other: Lane) -> list[int]:
+        """Returns `one.passes(other)`, which is kept. Where PAIRS are kept, all are forgotten
+        first."""
         found = self._passes.get((one, other))
         if found is None:
             if len(self._passes) >= PAIRS:
