@@ -194,7 +194,7 @@ def place(scene: Scene, said: Mapping[str, str]) -> Look:
 
 
 def resync(scene: Scene, said: Mapping[str, str]) -> Look:
-    """Returns what it is to have the desk accept the next state of a vehicle, whatever its number."""
+    """Returns what it is to have the desk accept any next state of a vehicle."""
     look, name = Look(dict(said)), said['vehicle']
     vehicle_here(scene, look, name)
     look.say('resync', vehicle=name)
