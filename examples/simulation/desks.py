@@ -2,6 +2,7 @@
 whenever it ends; and a client that is quick, since a day is some millions of requests."""
 from __future__ import annotations
 
+import argparse
 import contextlib
 import os
 import random
@@ -25,7 +26,15 @@ PATIENCE = 120.0
 # itself.
 SENT = -signal.SIGKILL, -signal.SIGTERM
 
+# The desk that a checkout builds.
+BUILT = os.path.join(os.path.dirname(os.path.abspath(__file__)), '..', '..', 'build', 'desk')
+
 LENGTH = re.compile(rb'\r\nContent-Length: (\d+)')
+
+
+def add_program(parser: argparse.ArgumentParser) -> None:
+    """Adds the option `--program`, the desk that is run."""
+    parser.add_argument('--program', default=BUILT, help='the desk (default: build/desk)')
 
 
 class Wire:

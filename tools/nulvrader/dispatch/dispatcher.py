@@ -27,9 +27,9 @@ from .parking import Parking
 from .plan import Plan
 from .releases import Releases
 from .routes import Ways
-from .shared import Settings, Shared, Turn, held_in
+from .shared import Settings, Shared, Turn, held_in, told_of
 from .snapshot import Seen, Snapshot, check, take
-from .standstill import Standstill, told_of
+from .standstill import Standstill
 from .traffic import Still, Traffic
 from .waits import Waits
 

@@ -49,6 +49,20 @@ class Shared:
             raise refusal
         self.lines.once('refusal ' + vehicle.name, f'{vehicle.name}: {what}: {refusal}')
 
+    def cancel(self, vehicle: Seen, why: str) -> bool:
+        """Cancels the order of a vehicle, and says which one and why. Returns False where the desk
+        refuses that."""
+        memory = self.memory[vehicle.name]
+        order = f'order {vehicle.row.order}, {told_of(memory, vehicle)}'
+        self.say(f'{vehicle.name}: cancels {order}{why}')
+        try:
+            self.desk.cancel(vehicle.row.key)
+        except Refused as refusal:
+            self.tell_refusal(vehicle, 'its order is not cancelled', refusal)
+            return False
+        memory.cancelled = True
+        return True
+
     def no_refusal(self, vehicle: Seen) -> None:
         """Notes that the desk has done what it was asked for a vehicle."""
         self.lines.once('refusal ' + vehicle.name, None)
@@ -74,6 +88,13 @@ class Turn:
         """Notes that a vehicle was given an order along this way, with so many edges."""
         self.traffic = self.traffic.started(vehicle, way).released(vehicle, edges)
         self.held.update({'node ' + node: vehicle for node in way[: edges + 1]})
+
+
+def told_of(memory: Memory, seen: Seen) -> str:
+    """Returns what an order is for: its jobs, or where its drive leads."""
+    if seen.order is not None and seen.order.is_drive():
+        return f'a drive to {seen.order.nodes[-1].name}'
+    return 'of ' + (', '.join(one.job for one in memory.jobs) or 'jobs that are not known')
 
 
 def held_in(seen: Snapshot) -> dict[str, str]:

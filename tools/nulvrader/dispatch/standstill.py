@@ -1,8 +1,6 @@
 """What is done where nothing moves, or vehicles shut one another in."""
 from __future__ import annotations
 
-from ..desk.client import Refused
-from .memory import Memory
 from .shared import Shared, Turn
 from .shut_in import MOST_TIMES, ShutIn
 from .snapshot import Seen
@@ -45,19 +43,12 @@ class Standstill:
 
     def _cancel(self, vehicle: Seen) -> bool:
         """Cancels an order. The others may get free by it."""
-        shared, memory = self.shared, self.shared.memory[vehicle.name]
-        shared.say(
-            f'{vehicle.name}: cancels order {vehicle.row.order}, {told_of(memory, vehicle)}: it'
-            f' and others block one another, {memory.shut_by}'
-        )
-        try:
-            shared.desk.cancel(vehicle.row.key)
-        except Refused as refusal:
-            shared.tell_refusal(vehicle, 'its order is not cancelled', refusal)
+        memory = self.shared.memory
+        why = f': it and others block one another, {memory[vehicle.name].shut_by}'
+        if not self.shared.cancel(vehicle, why):
             return False
-        memory.cancelled = True
         self.judge.times = 1
-        for one in shared.memory.values():
+        for one in memory.values():
             one.shut_in = None
         return True
 
@@ -67,10 +58,3 @@ def _is_fresh(vehicle: Seen) -> bool:
     released, and no load aboard. Such an order may be cancelled at no cost."""
     is_new = vehicle.row.sent == vehicle.row.confirmed == 0
     return is_new and vehicle.edges == 0 and not vehicle.loads
-
-
-def told_of(memory: Memory, seen: Seen) -> str:
-    """Returns what an order is for: its jobs, or where its drive leads."""
-    if seen.order is not None and seen.order.is_drive():
-        return f'a drive to {seen.order.nodes[-1].name}'
-    return 'of ' + (', '.join(one.job for one in memory.jobs) or 'jobs that are not known')

@@ -5,11 +5,9 @@ from __future__ import annotations
 from collections.abc import Mapping
 from dataclasses import replace
 
-from ..desk.client import Refused
 from .parking import Parking
 from .shared import Shared, Turn
 from .snapshot import Seen
-from .standstill import told_of
 
 DRIVE, JOBS = 60.0, 300.0
 """A drive of this dispatcher is cancelled that has waited for so many seconds behind what stands in
@@ -30,7 +28,8 @@ class TurningBack:
         rows = [one for one in turn.seen.vehicles.values() if self._is_to_end(one, turn)]
         for vehicle in sorted(rows, key=lambda one: (memory[one.name].waits or 0.0, one.name)):
             if self._can_leave(vehicle, turn, wanted, picks):
-                return self._cancel(vehicle, turn)
+                why = turn.reasons.get(vehicle.name, 'its way is blocked')
+                return self.shared.cancel(vehicle, f', and turns back: {why}')
         return False
 
     def _is_to_end(self, vehicle: Seen, turn: Turn) -> bool:
@@ -57,17 +56,3 @@ class TurningBack:
         }
         without = replace(turn.traffic, ways=ways, parked=parked)
         return self.parking.away(vehicle, wanted, picks, without) is not None
-
-    def _cancel(self, vehicle: Seen, turn: Turn) -> bool:
-        shared, memory = self.shared, self.shared.memory[vehicle.name]
-        shared.say(
-            f'{vehicle.name}: cancels order {vehicle.row.order}, {told_of(memory, vehicle)}, and'
-            f' turns back: {turn.reasons.get(vehicle.name, "its way is blocked")}'
-        )
-        try:
-            shared.desk.cancel(vehicle.row.key)
-        except Refused as refusal:
-            shared.tell_refusal(vehicle, 'its order is not cancelled', refusal)
-            return False
-        memory.cancelled = True
-        return True
