@@ -15,8 +15,9 @@ from nulvrader.common.names import VehicleKey
 LACKING = browser.missing()
 NODES, VEHICLES = 60, 30
 HALL = '<svg xmlns="http://www.w3.org/2000/svg"><rect width="9" height="9"/></svg>'
-# What is seen: the boxes of the labels of vehicles, of the names of nodes and of the words of
-# stations, the sizes of letters, and how many vehicles stand in labels of others and as dots.
+# What is seen: the boxes of the labels of vehicles, of dots and of how many they are, of the names
+# of nodes and of the words of stations, the sizes of letters, and how many vehicles stand in labels
+# of others and as dots.
 SEEN = """
     const boxes = (css) => [...document.querySelectorAll(css)]
       .filter((one) => one.getClientRects().length).map((one) => {
@@ -25,7 +26,8 @@ SEEN = """
       });
     const labels = boxes('#plan .vehicle .hull');
     return {
-      labels, names: boxes('#plan .node .name'), stations: boxes('#plan .station text'),
+      labels, round: boxes('#plan .dot circle, #plan .more:not(.none) rect'),
+      names: boxes('#plan .node .name'), stations: boxes('#plan .station text'),
       far: document.getElementById('plan').classList.contains('far'),
       around: boxes('#plan, .foot'),
       letters: boxes('#plan .vehicle .called').map(([, top, , bottom]) => bottom - top),
@@ -80,6 +82,8 @@ class Labels(unittest.TestCase):
             self.assertFalse([one for one in labels[:at] if meet(label, one)])
             self.assertFalse([one for one in seen['names'] if meet(label, one)])
             self.assertFalse([one for one in seen['stations'] if meet(label, one)])
+        for name in seen['names']:
+            self.assertFalse([one for one in seen['round'] if meet(name, one, 3)])
         for at, name in enumerate(seen['names'] if seen['far'] else ()):
             others = [*seen['names'][:at], *seen['stations']]
             self.assertFalse([one for one in others if meet(name, one)])
@@ -93,10 +97,14 @@ class Labels(unittest.TestCase):
     def test_each_size(self) -> None:
         """On a screen, a wall and a phone, from afar and from near. Nodes have names where there is
         room for them."""
-        for size in ((1280, 800, False), (3840, 2160, False), (390, 844, True)):
+        for size, least in (
+            ((1280, 800, False), 6),
+            ((3840, 2160, False), 6),
+            ((390, 844, True), 3),
+        ):
             with self.subTest(size):
                 page = self.opened(*size)
-                self.assertGreater(len(self.check(page)['names']), 5)
+                self.assertGreaterEqual(len(self.check(page)['names']), least)
                 for button in ('closer',) * 5 + ('whole', 'farther', 'farther'):
                     self.check(page)
                     page.run('document.getElementById(arguments[0]).click()', button)
@@ -110,7 +118,7 @@ class Labels(unittest.TestCase):
         page = self.opened(1280, 800, False)
         until(lambda: '5 more of this kind' in page.text('#alarms .fold'), 'they are folded')
         self.assertEqual(page.text('#alarms .what').count('is not ready'), 4)
-        self.assertEqual(page.run('return document.title').split()[1], '9')
+        until(lambda: page.run('return document.title').split()[1] == '9', 'the title says so')
         page.click('#alarms .fold')
         until(lambda: page.text('#alarms .what').count('is not ready') == 9, 'all are seen')
         page.click('#alarms .fold')

@@ -1,6 +1,7 @@
 // Which labels of the map are seen: those of vehicles that would lie on one another are gathered, and others give way.
 
 const HEIGHT = 24; // of a vehicle's label, in pixels, before it is drawn larger
+const DOT = 2.5; // half of a dot without its rim, which a name may touch
 const BADGE = 7; // below it, for how many others are in it
 
 /**
@@ -20,11 +21,17 @@ export function gathered(rows, size) {
   return found;
 }
 
-/** The boxes of the labels that are seen: left, top, right, bottom, in pixels. */
+/**
+ * The boxes of what is seen of vehicles: labels, how many others are in them, and the dots of those. Left, top, right,
+ * bottom, in pixels.
+ */
 export function boxesOf(rows, leaders, size) {
-  return rows.filter((row) => leaders.get(row.key) === row.key).map(({ x, y, half }) => {
-    const [across, down] = [half * size, (HEIGHT / 2) * size];
-    return [x - across, y - down, x + across, y + down];
+  const leading = new Set(rows.map(({ key }) => leaders.get(key)).filter((key, at) => key !== rows[at].key));
+  return rows.flatMap(({ key, x, y, half }) => {
+    const box = (left, top, right, bottom) => [x + left * size, y + top * size, x + right * size, y + bottom * size];
+    if (leaders.get(key) !== key) return [box(-DOT, -DOT, DOT, DOT)];
+    const label = box(-half, -HEIGHT / 2, half, HEIGHT / 2);
+    return leading.has(key) ? [label, box(half - 20, 4, half + 6, 20)] : [label];
   });
 }
 

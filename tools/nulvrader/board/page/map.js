@@ -253,20 +253,12 @@ export class Plan {
     this.giveWay(boxesOf(rows, leaders, mark * scale));
   }
 
-  /** Draws the names of nodes so many times as large; from afar those are left away that would lie on others. */
+  /** Draws the names of nodes so many times as large. */
   nameNodes(size) {
     if (size === this.naming) return;
     this.naming = size;
     this.element.style.setProperty('--names', size.toFixed(3));
     for (const [name, group] of this.nodes) set(group.lastChild, 'y', this.baseOf(name));
-    this.roomy = new Set(this.nodes.keys());
-    if (size === 1) return;
-    const taken = [...this.stations.keys()].map((name) => this.boxOf(name));
-    for (const name of this.nodes.keys()) {
-      const box = this.nameBox(name);
-      if (isUnder(box, taken)) this.roomy.delete(name);
-      else taken.push(box);
-    }
   }
 
   /** How far below its node the name of one stands. */
@@ -291,13 +283,25 @@ export class Plan {
     return [x + (left - x) * body + across, y + (top - y) * body + down, x + (right - x) * body + across, y + (bottom - y) * body + down];
   }
 
-  /** Has no name of a node and no words of a station seen that would lie under a vehicle. */
-  giveWay(taken) {
-    const under = (box) => (isUnder(box.map((side) => side * this.scale), taken) ? '' : null);
-    for (const [name, group] of this.nodes) {
-      set(group, 'data-under', this.roomy.has(name) ? under(this.nameBox(name)) : '');
+  /**
+   * Has no name of a node and no words of a station seen that would lie under a vehicle, and from afar no name that would
+   * lie on another one or a station.
+   */
+  giveWay(vehicles) {
+    const pixels = (box) => box.map((side) => side * this.scale);
+    const far = this.naming !== 1;
+    const taken = [...vehicles];
+    for (const [name, { group }] of this.stations) {
+      const box = pixels(this.boxOf(name));
+      set(group, 'data-under', isUnder(box, vehicles) ? '' : null);
+      if (far) taken.push(box);
     }
-    for (const [name, { group }] of this.stations) set(group, 'data-under', under(this.boxOf(name)));
+    for (const [name, group] of this.nodes) {
+      const box = pixels(this.nameBox(name));
+      const under = isUnder(box, taken);
+      set(group, 'data-under', under ? '' : null);
+      if (far && !under) taken.push(box);
+    }
   }
 
   /** Zooms in until the vehicles that are gathered in a label stand apart. */
