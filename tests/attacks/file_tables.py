@@ -3,9 +3,12 @@ tables, or beside them."""
 from __future__ import annotations
 
 import contextlib
+import itertools
 import os
 import sqlite3
+import time
 
+from nulvrader.file import opening
 from tests.support import endless_pages, long_chains
 from tests.support.attacked_file import Attack, ran
 from tests.support.hostile_tables import BESIDE, INSTEAD, more
@@ -166,3 +169,23 @@ class NoTables(Attack):
                 for words in self.readers():
                     if words[0] not in ('backup', 'check-count'):
                         self.check_sentence(ran(*words), (statement, words[0]))
+
+    def test_a_table_with_many_rules(self) -> None:
+        """The text of a table has 8000 UNIQUE: SQLite compares each one with each other before it
+        counts a step, so the text is not read at all."""
+        names = [f'c{number}' for number in range(150)]
+        pairs = itertools.islice(itertools.combinations(names, 2), 8000)
+        rules = ', '.join(f'UNIQUE ({one}, {other})' for one, other in pairs)
+        self.fill()
+        with contextlib.closing(sqlite3.connect(self.db)) as base:
+            base.execute('PRAGMA writable_schema = ON')
+            text = f'CREATE TABLE used ({", ".join(names)}, {rules})'
+            base.execute("UPDATE sqlite_master SET sql = ? WHERE name = 'used'", (text,))
+            base.commit()
+        begun = time.process_time()
+        with self.assertRaises(sqlite3.DatabaseError) as raised:
+            with opening.opened(self.db):
+                pass
+        self.assertLess(time.process_time() - begun, 1)
+        self.assertIn('more than 20000 bytes', opening.why_unread(raised.exception))
+        self.check_readers('rules')

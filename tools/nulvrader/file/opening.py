@@ -33,8 +33,13 @@ STEPS, STEPS_OF_A_BYTE = 2_000_000, 4
 SECONDS, BYTES_OF_A_SECOND = 10, 1_500_000
 BLOCK = bytes(1 << 20)
 TURN = 100  # steps from one count of them to the next
+# Bytes of a statement, and of the text of a table: SQLite reads that without counting steps, in a
+# time that grows with its square. The longest one of a desk has 405.
+SQL = 20_000
 LIMITS = {
     sqlite3.SQLITE_LIMIT_LENGTH: 10_000_000,  # bytes of a value
+    sqlite3.SQLITE_LIMIT_SQL_LENGTH: SQL,
+    sqlite3.SQLITE_LIMIT_COLUMN: 200,
     sqlite3.SQLITE_LIMIT_EXPR_DEPTH: 200,
     sqlite3.SQLITE_LIMIT_ATTACHED: 0,
     sqlite3.SQLITE_LIMIT_TRIGGER_DEPTH: 1,
@@ -182,6 +187,8 @@ def why_unread(error: Exception) -> str:
         return 'SQLite names something in it that is no text'
     if is_bounded(error):
         return 'SQLite needs more steps or more time than a file of its size does'
+    if str(error).endswith('string or blob too big'):
+        return f'the text of a table has more than {SQL} bytes, or a value in it is too long'
     return f'SQLite says `{error}`'
 
 
