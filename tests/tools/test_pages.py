@@ -1,6 +1,7 @@
 """Shows that the links of README.md, CHANGELOG.md, CONTRIBUTING.md and docs/ lead somewhere, that
-these pages are no longer than a reader has time for, and that the release is the same wherever it
-stands."""
+these pages are no longer than a reader has time for, that the parts of tools/nulvrader are as their
+table says, and that the release is the same wherever it stands."""
+import ast
 import glob
 import json
 import os
@@ -26,6 +27,7 @@ MOST = {
     'TWO_MACHINES.md': 1500,
 }
 MOST_OF_A_PAGE, MOST_OF_ALL = 3500, 43100
+PACKAGE = os.path.join(ROOT, 'tools', 'nulvrader')
 
 
 def pages() -> dict[str, str]:
@@ -53,6 +55,35 @@ def anchor(heading: str) -> str:
     """The anchor of a heading as code hosts make it: small letters, no punctuation, a hyphen for
     each blank."""
     return re.sub(r'[^\w\- ]', '', heading.lower()).replace(' ', '-')
+
+
+def taken(path: str) -> set[str]:
+    """The parts of tools/nulvrader that a module there imports."""
+    deep = os.path.relpath(path, PACKAGE).count(os.sep)
+    found = set()
+    with open(path, encoding='utf-8') as file:
+        for node in ast.walk(ast.parse(file.read())):
+            if isinstance(node, ast.ImportFrom) and node.level == deep + 1:
+                names = [node.module] if node.module else [one.name for one in node.names]
+                found |= {name.partition('.')[0] for name in names}
+    return found - {'__version__'}
+
+
+class Parts(unittest.TestCase):
+    def test_each_imports_those_above_it(self) -> None:
+        """The table of docs/ARCHITECTURE.md has each part of tools/nulvrader, and a part imports
+        only itself and those above it."""
+        table = PAGES['docs/ARCHITECTURE.md'].partition('| Part |')[2].partition('\n\n')[0]
+        rows = re.findall(r'^\| (\w[\w, ]*) \|', table, re.M)
+        parts = [part for row in rows for part in row.split(', ')]
+        names = [name for name in os.listdir(PACKAGE) if not name.startswith('__')]
+        self.assertEqual(sorted(parts), sorted(name.removesuffix('.py') for name in names))
+        paths = glob.glob(os.path.join(PACKAGE, '**', '*.py'), recursive=True)
+        self.assertGreater(len(paths), 100)
+        for path in paths:
+            part = os.path.relpath(path, PACKAGE).split(os.sep)[0].removesuffix('.py')
+            above = set(parts[: parts.index(part) + 1]) if part in parts else set()
+            self.assertLessEqual(taken(path), above, path)
 
 
 class Links(unittest.TestCase):
