@@ -5,11 +5,13 @@ from __future__ import annotations
 import contextlib
 import os
 import runpy
+import sqlite3
 import sys
 import unittest
 from unittest import mock
 from typing import Any
 
+from nulvrader.file import opening
 from tests.support.attacked_file import DESK, Attack
 from tests.support.installed import OTHER
 from tests.support.programs import TOOLS
@@ -95,3 +97,25 @@ class ExchangedLinks(Attack):
         self.point_to(self.path('roots'))
         self.back_up([self.path('roots')] * LOOKS * 9, 'new')
         self.check_owners('new')
+
+
+@unittest.skipIf(os.geteuid(), 'only root gives a folder to another user')
+class ExchangedFile(Attack):
+    """The user whose folder it is puts something else in the place of the desk's file."""
+
+    def test_a_fifo_after_the_check(self) -> None:
+        """It is a FIFO once the file has been opened and looked at: SQLite, which would wait for
+        ever, opens another path."""
+        self.fill()
+        os.chown(self.folder, OTHER, OTHER)
+        real = sqlite3.connect
+
+        def connect(path: str, *more: Any, **named: Any) -> sqlite3.Connection:
+            os.remove(self.db)
+            os.mkfifo(self.db)
+            self.assertNotIn(self.db, path)
+            return real(path, *more, **named)
+
+        with mock.patch.object(sqlite3, 'connect', connect):
+            with opening.opened(self.db) as base:
+                self.assertEqual(len(base.execute('SELECT id FROM meta').fetchall()), 1)

@@ -62,7 +62,7 @@ from tests.attacks.standby import HostileStandby
 from tests.attacks.files import Fuzz, NoRegularFile
 from tests.attacks.file_tables import NoTables
 from tests.attacks.copies import Copies
-from tests.attacks.exchanged import ExchangedLinks
+from tests.attacks.exchanged import ExchangedFile, ExchangedLinks
 
 # Escapes and line ends of others reach a terminal.
 from tests.attacks.client_values import TerminalEscapes
@@ -102,6 +102,7 @@ __all__ = [
     'Crowd',
     'Desync',
     'EndlessAnswers',
+    'ExchangedFile',
     'ExchangedLinks',
     'ForeignPage',
     'FormOfAForeignPage',

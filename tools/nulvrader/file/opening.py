@@ -62,9 +62,10 @@ def opened(
 
     SQLite would change a log that lies beside the file. So a file with a log is read from a copy of
     both, which is made in a new folder in `folder`, or where TMPDIR says; without `has_log` the log
-    is ignored. With `alone` the file is locked until the end, and BlockingIOError is raised where a
-    program that writes has it. `NotPlain` is raised where the file, or one beside it, is not a
-    regular file or is too large."""
+    is ignored. A file in a folder of another user is read from a copy, too: SQLite opens a path a
+    second time, and waits for ever if that user has put a FIFO there meanwhile. With `alone` the
+    file is locked until the end, and BlockingIOError is raised where a program that writes has it.
+    `NotPlain` is raised where the file, or one beside it, is not a regular file or is too large."""
     with contextlib.ExitStack() as stack:
         file = stack.enter_context(plain_files.opened(path))
         size, work = _size(path, file), _on_disk(file)
@@ -73,12 +74,13 @@ def opened(
         if alone:
             fcntl.lockf(file, fcntl.LOCK_SH | fcntl.LOCK_NB, *LOCKED)
         log = _log(stack, path) if has_log else None
-        if log is not None:
+        if log is not None or _is_of_others(path):
             place = stack.enter_context(tempfile.TemporaryDirectory(dir=folder))
             copy = os.path.join(place, 'copy.db')
             _copy(file, size, copy)
-            _copy(log, _size(path + '-wal', log), copy + '-wal')
-            work += _on_disk(log)
+            if log is not None:
+                _copy(log, _size(path + '-wal', log), copy + '-wal')
+                work += _on_disk(log)
             connection = sqlite3.connect(copy)
         else:
             connection = _as_it_is(path, file)
@@ -265,6 +267,12 @@ def _copy(file: BinaryIO, size: int, path: str) -> None:
                 other.seek(len(part), os.SEEK_CUR)
             size -= len(part)
         other.truncate(other.tell())
+
+
+def _is_of_others(path: str) -> bool:
+    """Whether the folder of a file, or of a link to it, is of neither this user nor root."""
+    folders = {os.path.dirname(one) for one in (os.path.abspath(path), os.path.realpath(path))}
+    return any(os.stat(one).st_uid not in (0, os.geteuid()) for one in folders)
 
 
 def _as_it_is(path: str, file: BinaryIO) -> sqlite3.Connection:
