@@ -2,6 +2,7 @@
 moment that user puts something else in its place."""
 from __future__ import annotations
 
+import argparse
 import contextlib
 import os
 import runpy
@@ -14,7 +15,7 @@ from typing import Any
 from nulvrader.file import opening
 from tests.support.attacked_file import DESK, Attack
 from tests.support.installed import OTHER
-from tests.support.programs import TOOLS
+from tests.support.programs import TOOLS, module
 
 LOOKS = 8  # more often than a tool looks at the folder
 
@@ -119,3 +120,24 @@ class ExchangedFile(Attack):
         with mock.patch.object(sqlite3, 'connect', connect):
             with opening.opened(self.db) as base:
                 self.assertEqual(len(base.execute('SELECT id FROM meta').fetchall()), 1)
+
+    def test_the_folder_of_a_page(self) -> None:
+        """A link to root's folder is in the place of the page's after the first page: the next one
+        is not written there."""
+        tool = module('map')
+        for name in ('pages', 'roots'):
+            os.mkdir(self.path(name))
+        said = argparse.Namespace(watch=self.path('pages', 'a.html'), desk='x', every=1)
+        turns = iter((None, KeyboardInterrupt()))
+
+        def sleep(_: float) -> None:
+            if (fault := next(turns)) is not None:
+                raise fault
+            os.rename(self.path('pages'), self.path('moved'))
+            os.symlink(self.path('roots'), self.path('pages'))
+
+        with mock.patch.multiple(tool, asked=mock.DEFAULT, drawing=lambda *_: 'x'):
+            with mock.patch.object(tool.time, 'sleep', sleep):
+                self.assertRaises(KeyboardInterrupt, tool.watch, None, said, None)
+        self.assertEqual(os.listdir(self.path('roots')), [])
+        self.assertEqual(os.listdir(self.path('moved')), ['a.html'])
