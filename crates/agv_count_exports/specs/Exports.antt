@@ -48,8 +48,8 @@ abbrev pub carrier_of : List VehicleTold → List ℕ → Option VehicleTold
 carrier_of vehicles job = find (λ (vehicle : VehicleTold). has_drop_of job vehicle.trip) vehicles
 
 -- the vehicle, with the name of its open trip's order; none if it has no open trip
-abbrev pub ride_of : VehicleTold → Option Carrier
-ride_of vehicle = option_map (λ (trip : Trip). record { vehicle = vehicle.key; order = trip.order }) vehicle.trip
+abbrev pub as_carrier : VehicleTold → Option Carrier
+as_carrier vehicle = option_map (λ (trip : Trip). record { vehicle = vehicle.key; order = trip.order }) vehicle.trip
 
 -- the name of a trip's order, if there is a trip
 abbrev pub order_name : Option Trip → List ℕ

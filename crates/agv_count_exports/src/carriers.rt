@@ -3,7 +3,7 @@ ghost use Rattle.std.specs.Prelude.{◌≡◌, ℕ, List};
 ghost use Rattle.std.specs.Option.{option_and_then, option_copied};
 ghost use Rattle.agv_world_core.specs.Carriers.{has_drop_of, carrier_of as carrier_in};
 ghost use Rattle.agv_world_core.specs.Worlds.{World};
-ghost use Rattle.agv_count_exports.specs.Exports.{ride_of, carrier_of, vehicles_told};
+ghost use Rattle.agv_count_exports.specs.Exports.{as_carrier, carrier_of, vehicles_told};
 
 use crate::VehicleTold;
 use agv_header::Name;
@@ -13,21 +13,21 @@ use agv_world_core::{Carrier, has_drop_among};
 /// Returns the first of these vehicles whose open trip has an unfinished drop of the job, with the name of that order;
 /// `None` if there is none.
 pub fn carrier(vehicles: &[VehicleTold], job: Name) -> Option<Carrier>
-    ensures is { result ≡ option_and_then ride_of (carrier_of vehicles.now job) }
+    ensures is { result ≡ option_and_then as_carrier (carrier_of vehicles.now job) }
     ensures of_all { (world : World) → vehicles.now ≡ vehicles_told world → result ≡ carrier_in world job }
 {
     let vehicle = carrier_of(vehicles, job)?;
-    ride_of(vehicle)
+    as_carrier(vehicle)
 }
 
 /// Proves that the vehicle that the list of all vehicles gives for a job is the one of the world.
 pub fn gives_the_carrier()
-    ensures { (world : World) (job : List ℕ) → option_and_then ride_of (carrier_of (vehicles_told world) job) ≡ carrier_in world job }
+    ensures { (world : World) (job : List ℕ) → option_and_then as_carrier (carrier_of (vehicles_told world) job) ≡ carrier_in world job }
 {}
 
 /// Returns the vehicle, with the name of its open trip's order; `None` if it has no open trip.
-fn ride_of(vehicle: &VehicleTold) -> Option<Carrier>
-    ensures { result ≡ ride_of vehicle.now }
+fn as_carrier(vehicle: &VehicleTold) -> Option<Carrier>
+    ensures { result ≡ as_carrier vehicle.now }
 {
     match &vehicle.trip {
         Some(trip) => Some(Carrier {

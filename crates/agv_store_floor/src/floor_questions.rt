@@ -64,7 +64,7 @@ impl<S: Alter + Drop> Floor for KeyedFloor<S> {
             self.settle()?;
             return Ok(Some(kept));
         }
-        if self.has_no_trip(&key) {
+        if self.is_known_without_trip(&key) {
             self.settle()?;
             return Ok(None);
         }
@@ -78,7 +78,7 @@ impl<S: Alter + Drop> Floor for KeyedFloor<S> {
     }
 
     fn has_trip(&mut self, key: VehicleKey) -> Result<bool, Fault> {
-        if self.has_no_trip(&key) {
+        if self.is_known_without_trip(&key) {
             self.settle()?;
             return Ok(false);
         }

@@ -29,8 +29,8 @@ impl<S: Alter + Drop> KeyedFloor<S> {
         trip_of_vehicle(&self.known.trips.by_order, *order, key)
     }
 
-    /// Returns whether the vehicle is known to have no open trip.
-    pub(crate) fn has_no_trip(&self, key: &VehicleKey) -> bool
+    /// Returns whether the vehicle is known to have no open trip. If not, it may have one or none: the tables say which.
+    pub(crate) fn is_known_without_trip(&self, key: &VehicleKey) -> bool
         ensures { IsTrue result → IsClean S.Store self.now.held → IsOpen S.Store self.now.held → trip_of (world_at S.Store self.now.held) key.now ≡ None }
     {
         rows_have_trips();

@@ -1,4 +1,4 @@
+mod Carrying
 mod HeldBy
 mod Holding
 mod NoStorage
-mod Riding

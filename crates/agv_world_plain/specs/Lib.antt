@@ -1,1 +1,1 @@
-pub mod Rides
+pub mod Carrying

@@ -2,7 +2,7 @@
 ghost use Rattle.std.specs.Prelude.{◌≡◌};
 ghost use Rattle.agv_world_core.specs.Carriers.{carrier_of};
 ghost use Rattle.agv_world_core.specs.Told.{world_of, open_trip};
-ghost use Rattle.agv_world_plain.specs.Rides.{order_dropping};
+ghost use Rattle.agv_world_plain.specs.Carrying.{order_dropping};
 
 use agv_header::{Name, VehicleKey};
 use agv_world_core::{Carrier, World, has_drop_among};

@@ -1,7 +1,7 @@
 //! What is told of a job that is asked for. Each function's clause is the law.
 ghost use Rattle.std.specs.Prelude.{◌≡◌, ◌≢◌, ℕ, true, List, None, Some};
 ghost use Rattle.std.specs.Option.{option_and_then};
-ghost use Rattle.agv_count_exports.specs.Exports.{carrier_of, ride_of, vehicles_told};
+ghost use Rattle.agv_count_exports.specs.Exports.{as_carrier, carrier_of, vehicles_told};
 ghost use Rattle.agv_stock.specs.Phase.{is_live};
 ghost use Rattle.agv_stock.specs.declared.job.Phase.TheVariants as phase;
 ghost use Rattle.agv_world_core.specs.Lawful.{IsJob, IsLawful};
@@ -27,7 +27,7 @@ pub fn tells_carriers()
         → answer_of (step seats world at (call.GetJob job)) ≡ answer.Job job row None }
     ensures exported { (seats : ℕ) (world : World) (at : ℕ) (job : List ℕ) (row : RowOf) → IsLawful seats world → IsJob world job row
         → is_live row.phase ≡ true
-        → answer_of (step seats world at (call.GetJob job)) ≡ answer.Job job row (option_and_then ride_of (carrier_of (vehicles_told world) job)) }
+        → answer_of (step seats world at (call.GetJob job)) ≡ answer.Job job row (option_and_then as_carrier (carrier_of (vehicles_told world) job)) }
 {
     gives_the_carrier();
 }

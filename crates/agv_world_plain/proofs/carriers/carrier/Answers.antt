@@ -1,5 +1,5 @@
 use Rattle.std.proofs.Common.{◌∙◌, sym, ap}
-use Rattle.agv_world_plain.proofs.Riding.{found_first, carrier_among, carrier_of-told}
+use Rattle.agv_world_plain.proofs.Carrying.{found_first, carrier_among, carrier_of-told}
 use Rattle.agv_world_plain.proofs.carriers.carrier.Goals as goal
 
 pub returns-in-Some-order_dropping : goal.returns-in-Some-order_dropping

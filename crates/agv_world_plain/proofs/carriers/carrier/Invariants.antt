@@ -1,6 +1,6 @@
 use Rattle.std.proofs.Common.{◌≡◌}
 use Rattle.std.specs.FinMap as map
-use Rattle.agv_world_plain.proofs.Riding.{carrier_among}
+use Rattle.agv_world_plain.proofs.Carrying.{carrier_among}
 use Rattle.agv_world_plain.proofs.carriers.carrier.Given as goal
 
 -- the first of what is left is the first of all

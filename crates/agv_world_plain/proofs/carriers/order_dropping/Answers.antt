@@ -3,7 +3,7 @@ use Rattle.std.specs.Bool.{then_some}
 use Rattle.std.specs.List.{find, list_any}
 use Rattle.agv_world_core.specs.Carriers.{is_drop_of}
 use Rattle.agv_world_core.specs.Told.{names_vehicle, open_trip, trip_in}
-use Rattle.agv_world_plain.specs.Rides.{order_dropping}
+use Rattle.agv_world_plain.specs.Carrying.{order_dropping}
 use Rattle.agv_world_plain.proofs.carriers.order_dropping.Goals as goal
 
 pub returns-then-eq : goal.returns-then-eq

@@ -13,6 +13,6 @@ returns-in-Some g c =
     (if_some (λ (trip : Trip). IsClean g.S.Store c.args.self.now.held → IsOpen g.S.Store c.args.self.now.held → Some trip ≡ trip_of (world_at g.S.Store c.args.self.now.held) c.args.key)
     c.in_ok-kept.kept c.in-Some.kept c.in-Some.is c.in_ok-kept.ensures)
 
-pub returns-then-has_no_trip : goal.returns-then-has_no_trip
-returns-then-has_no_trip g c =
-    answered_open g.S.Store c.args.self.now c.settle-then-has_no_trip.new.self c.in_ok-settle-2.ensures.asks c.in_ok-settle-2.ensures.knows (λ clean still. sym (c.has_no_trip.ensures c.if-has_no_trip.true clean still))
+pub returns-then-is_known_without_trip : goal.returns-then-is_known_without_trip
+returns-then-is_known_without_trip g c =
+    answered_open g.S.Store c.args.self.now c.settle-then-is_known_without_trip.new.self c.in_ok-settle-2.ensures.asks c.in_ok-settle-2.ensures.knows (λ clean still. sym (c.is_known_without_trip.ensures c.if-is_known_without_trip.true clean still))

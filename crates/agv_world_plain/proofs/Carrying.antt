@@ -13,7 +13,7 @@ use Rattle.agv_world_core.specs.declared.floor.Carrier.{Carrier}
 use Rattle.agv_world_core.specs.declared.row.VehicleRow.{VehicleRow}
 use Rattle.agv_world_core.specs.declared.world.World.{World as Tables}
 use Rattle.agv_world_core.proofs.told_worlds.Counts.{entries-vehicles_of}
-use Rattle.agv_world_plain.specs.Rides.{order_dropping}
+use Rattle.agv_world_plain.specs.Carrying.{order_dropping}
 
 module _ (tables : Tables) (job : List ℕ) where
   -- the vehicle of the first of these rows whose open trip has an unfinished drop of the job

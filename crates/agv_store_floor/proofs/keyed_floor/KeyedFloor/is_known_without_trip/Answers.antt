@@ -4,7 +4,7 @@ use Rattle.agv_world_core.specs.Maps.{maps_of}
 use Rattle.agv_store_known.proofs.KeptTrips.{no_trip}
 use Rattle.agv_store_floor.specs.Floors.{world_at}
 use Rattle.agv_store_floor.proofs.Asked.{known_seen}
-use Rattle.agv_store_floor.proofs.keyed_floor.KeyedFloor.has_no_trip.Goals as goal
+use Rattle.agv_store_floor.proofs.keyed_floor.KeyedFloor.is_known_without_trip.Goals as goal
 
 pub returns : goal.returns
 returns g c known clean still =
