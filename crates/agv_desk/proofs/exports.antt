@@ -2,3 +2,4 @@
 pub mod CarriersTold
 pub mod JobTold
 pub mod JobsTold
+pub mod VehiclesTold

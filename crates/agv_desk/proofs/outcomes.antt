@@ -11,4 +11,5 @@ pub mod Known
 pub mod Ladders
 pub mod Plans
 pub mod RefusedCalls
+pub mod SentDrives
 pub mod Unchanged

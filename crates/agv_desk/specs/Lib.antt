@@ -9,6 +9,7 @@ pub mod InstantSteps
 pub mod VehicleSteps
 pub mod OrderSteps
 pub mod DriveSteps
+pub mod Driven
 pub mod OrderParts
 pub mod StateSteps
 pub mod StocktakeSteps

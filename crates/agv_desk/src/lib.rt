@@ -13,9 +13,11 @@
 //! - [`laws::calls`] proves that the changed rows take the maps of the world to those of the world after the call.
 //! - From a lawful world each call leads to a lawful world ([`laws::lawful`], with the halves [`laws::vehicles`] and
 //!   [`laws::stock`]), and so does each list of calls; [`laws::histories`] has further laws of lists.
-//! - The export of the layout is read back as the same layout, and the export of jobs lists exactly the live jobs, each
-//!   with the vehicle that carries it out, if any ([`laws::reports`]). A job that is asked for is told with that vehicle,
-//!   too ([`laws::jobs`]).
+//! - A drive that is not refused gives its vehicle the trip along the layout's route ([`laws::drives`]).
+//! - The export of the layout is read back as the same layout, the export of jobs lists exactly the live jobs, each
+//!   with the vehicle that carries it out, if any, and the export of vehicles lists exactly the vehicles, each as it is
+//!   told by itself ([`laws::reports`]). A job that is asked for is told with the vehicle that carries it out, too
+//!   ([`laws::jobs`]).
 #![tactic(auto, unfolding(crate::specs::Outcomes::refuse_unless, crate::specs::Outcomes::refuse_if_none, crate::specs::Outcomes::checked, crate::specs::Outcomes::unheld, crate::specs::Outcomes::branch, crate::specs::Outcomes::decided, crate::specs::StateSteps::if_judged))]
 
 mod acts;

@@ -19,7 +19,7 @@ use Rattle.agv_world_core.proofs.lists.Entries.{entries_found, is_same, no_more,
 -- ---- entries that pass a test
 
 -- an element of a list is its first one or one of the rest
-first_or_later : {A : Type 0} (x y : A) (xs : List A) → Contains (y ∷ xs) x → (y ≡ x) ⊎ Contains xs x
+pub first_or_later : {A : Type 0} (x y : A) (xs : List A) → Contains (y ∷ xs) x → (y ≡ x) ⊎ Contains xs x
 first_or_later x y xs among = at among.0 among.1 among.2
   where
     at : (k : ℕ) → k < length (y ∷ xs) → get_or (y ∷ xs) k x ≡ x → (y ≡ x) ⊎ Contains xs x
@@ -39,7 +39,7 @@ module _ {K X : Type 0} (test : K × X → Bool) where
         | false ↦ λ is here. passing P es each.1 e here
       ] refl among
 
-later : {A : Type 0} (x y : A) (xs : List A) → Contains xs x → Contains (y ∷ xs) x
+pub later : {A : Type 0} (x y : A) (xs : List A) → Contains xs x → Contains (y ∷ xs) x
 later x y xs among = let below = among.1 in (suc among.0, omega arith, among.2)
 
 module _ {K X : Type 0} {R : K → K → Ordering} (test : K × X → Bool) where
@@ -58,16 +58,16 @@ module _ {K X : Type 0} {R : K → K → Ordering} (test : K × X → Bool) wher
 
 -- ---- their order
 
-less : (o : Ordering) → T (is_lt o) → o ≡ Less
+pub less : (o : Ordering) → T (is_lt o) → o ≡ Less
 less Less p = refl
 less Equal p = absurd p
 less Greater p = absurd p
 
-left : (a b : Bool) → T (a && b) → T a
+pub left : (a b : Bool) → T (a && b) → T a
 left true b p = tt
 left false b p = p
 
-right : (a b : Bool) → T (a && b) → T b
+pub right : (a b : Bool) → T (a && b) → T b
 right true b p = p
 right false b p = absurd p
 
