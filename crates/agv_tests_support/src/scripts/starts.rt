@@ -37,6 +37,7 @@ state 0002 1 - 0 N3 0
 pub const A_TO_B: &str = r#"
 POST /loads {"load":"L1","station":"A"}
 200 {}
+moves L1 station A
 POST /jobs {"job":"J1","load":"L1","to":"B"}
 200 {}
 "#;
