@@ -321,7 +321,7 @@ fn held(rt: &impl Abort, what: Thing) -> Refusal {
     Refusal::Held { what, by }
 }
 
-/// The refusals with fields.
+/// Compares the answers of the refusals with fields.
 #[test]
 fn refusals_with_fields(rt: HostRuntime) {
     let alloc = rt.alloc();
@@ -365,7 +365,7 @@ fn refused_methods(rt: HostRuntime) {
     check_method(&rt, rt.alloc(), Verb::Delete, "DELETE");
 }
 
-/// The two answers for faults of the machine.
+/// Compares the two answers for faults of the machine.
 #[test]
 fn last_words(rt: HostRuntime) {
     let line = r#"503 Service Unavailable|application/json||{"name":"Memory","refusal":90}"#;

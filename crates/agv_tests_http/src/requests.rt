@@ -133,7 +133,7 @@ fn check_large(
     check_text(rt, found.as_str(), wanted, first);
 }
 
-/// A head of 32 header lines and one of 33, a head of 8,192 bytes and a longer one, and the largest body.
+/// Reads a head of 32 header lines and one of 33, a head of 8,192 bytes and a longer one, and the largest body.
 #[test]
 fn largest(rt: HostRuntime) {
     let alloc = rt.alloc();

@@ -51,7 +51,7 @@ DELETE FROM hold WHERE id = 'E12'
 INSERT INTO hold VALUES ('edge', 'E23', 'KIT', '0001')
 ";
 
-/// A damaged database gives no desk, and stays as it is.
+/// Checks that a damaged database gives no desk and stays as it is.
 #[test]
 fn damaged_databases(rt: HostRuntime) {
     let alloc = rt.alloc();
@@ -110,7 +110,7 @@ INSERT INTO job VALUES ('J0', 'L2', 'A', 'C', 'done')
 UPDATE job SET target = 'C'
 ";
 
-/// A lawful world is adopted, whoever wrote it, and the desk goes on there.
+/// Checks that a lawful world is adopted, whoever wrote it, and that the desk goes on there.
 #[test]
 fn databases_of_others(rt: HostRuntime) {
     let alloc = rt.alloc();

@@ -209,7 +209,7 @@ const MOVED: [&[&str]; 3] = [
     &[FIRST, HUNDRED, "migrate ok", HUNDRED_ROWS],
 ];
 
-/// A database that was migrated is adopted, and isn't migrated again.
+/// Checks that a database that was migrated is adopted, and isn't migrated again.
 #[test]
 fn moved_databases(rt: HostRuntime) {
     let alloc = rt.alloc();
@@ -237,7 +237,8 @@ CREATE INDEX capacity ON load (id)
 const PENDING: &str =
     "UPDATE vehicle SET pending = 'cancelOrder', instant_header = 1, instant_at = 1700000000000";
 
-/// Such databases are refused and stay as they are, and so is a database of the first schema by the other calls.
+/// Checks that these databases aren't migrated and stay as they are, and that the calls that don't migrate refuse a
+/// database of the first schema.
 #[test]
 fn databases_that_are_not_moved(rt: HostRuntime) {
     let alloc = rt.alloc();

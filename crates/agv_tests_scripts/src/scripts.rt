@@ -26,7 +26,7 @@ fn serve(rt: &impl Abort, alloc: Global, text: &str) {
     in_database(rt, alloc, &Way::List(&list));
 }
 
-/// Scripts of vehicles for one load, on desks that allow vehicles for up to four, and on desks that don't.
+/// Plays the scripts of vehicles for one load, on desks that allow vehicles for up to four, and on desks that don't.
 #[test]
 fn call_by_call(rt: HostRuntime) {
     for scripts in FOR_ONE {
@@ -48,7 +48,7 @@ fn as_lists(rt: HostRuntime) {
     }
 }
 
-/// Scripts of vehicles for up to four loads, and those that hold only where each vehicle is for one.
+/// Plays the scripts of vehicles for up to four loads, and in memory those that hold only if each is for one.
 #[test]
 fn up_to_four_loads(rt: HostRuntime) {
     for parts in two_loads::TWO_LOADS {
@@ -62,7 +62,7 @@ fn up_to_four_loads(rt: HostRuntime) {
     }
 }
 
-/// An order that is carried out, one that is cancelled and its vehicle corrected, and stocktakes, on files that fail.
+/// Serves an order that is carried out. The next tests serve one that is cancelled, and a stocktake.
 #[test]
 fn files_fail_while_an_order_is_carried_out(rt: HostRuntime) {
     let text = text_of(&rt, rt.alloc(), trips::CARRIED_OUT);
