@@ -8,6 +8,7 @@ ghost use Rattle.agv_world_core.specs.Lawful.{IsLawful};
 ghost use Rattle.agv_world_core.specs.Maps.{maps_of};
 ghost use Rattle.agv_world_core.specs.Worlds.{World as WorldOf};
 ghost use Rattle.agv_store_read.specs.WorldAnswers.{HasNoWorld};
+ghost use Rattle.agv_store_create.specs.DeskSchema.{IsEmpty};
 ghost use Rattle.agv_store_create.specs.DeskTables.{LeavesDesk};
 ghost use Rattle.agv_store_schema.specs.SchemaNumbers.{desk_seats};
 ghost use Rattle.agv_store_schema.specs.Connections.{HasStorageCause, IsClean, IsOpen};
@@ -42,14 +43,16 @@ impl<S: Alter + Drop> Desk<S> {
     /// `Damaged` exactly where a table, a view or an index has the name of one of the desk's tables, a foreign key
     /// refers to one of them, or two tables share a tree, as in no sound database; then nothing is touched. Otherwise
     /// `Memory` when out of memory, and `Storage` for any other error of the database: the store failed or was closed,
-    /// or SQL refuses a statement, as where the database has 65,536 trees. The connection is returned; if it is open,
-    /// its contents are unchanged.
+    /// or SQL refuses a statement, as where the database has 65,536 trees. In an empty database SQL refuses none, so
+    /// `Storage` comes only if the store failed, was closed, or limits the steps of a query. The connection is
+    /// returned; if it is open, its contents are unchanged.
     pub fn create(alloc: Global, conn: Connection<S>) -> Result<Desk<S>, (Connection<S>, OpenFault)>
         requires { conn.in_transaction ≡ false }
         ensures made { IfOk result (λ desk. IsClean S.Store desk.held → Makes S.Store conn desk) }
         ensures works { IfOk result (λ desk. desk.failed ≡ false) }
         ensures damaged { IsDamaged result ↔ ¬ CanBeMade (state S.Store conn).now.schema }
         ensures possible { (¬ IsDamaged result) → CanBeMade (state S.Store conn).now.schema }
+        ensures caused { IsClean S.Store (left_by result) → IsStorage result → IsEmpty (state S.Store conn).now.schema → HasStorageCause S.Store conn (left_by result) }
         ensures untouched { IsDamaged result → left_by result ≡ conn }
         ensures undone { IsClean S.Store (left_by result) → IsOpen S.Store (left_by result)
             → OnErr result (IsOpen S.Store conn × ((state S.Store (left_by result)).now ≡ (state S.Store conn).now)) }
@@ -110,13 +113,14 @@ impl<S: Alter + Drop> Desk<S> {
     ///
     /// # Errors
     /// As for these two. `Damaged` only where a desk can't be made and the database has the rows of no lawful world;
-    /// where a desk can't be made, `Storage` has one of the causes given at [`Desk::adopt`].
+    /// where a desk can't be made, or the database is empty, `Storage` has one of the causes given at [`Desk::adopt`].
     pub fn open(alloc: Global, conn: Connection<S>) -> Result<Desk<S>, (Connection<S>, OpenFault)>
         requires { conn.in_transaction ≡ false }
         ensures opened { IfOk result (λ desk. IsClean S.Store desk.held → (CanBeMade (state S.Store conn).now.schema × Makes S.Store conn desk) ⊎ ((¬ CanBeMade (state S.Store conn).now.schema) × Adopts S.Store conn desk)) }
         ensures works { IfOk result (λ desk. desk.failed ≡ false) }
         ensures damaged { IsClean S.Store (left_by result) → IsDamaged result → (¬ CanBeMade (state S.Store conn).now.schema) × HasNoWorld (state S.Store conn).now }
         ensures caused { IsClean S.Store (left_by result) → IsStorage result → CanBeMade (state S.Store conn).now.schema ⊎ HasStorageCause S.Store conn (left_by result) }
+        ensures caused_if_empty { IsClean S.Store (left_by result) → IsStorage result → IsEmpty (state S.Store conn).now.schema → HasStorageCause S.Store conn (left_by result) }
         ensures undone { IsClean S.Store (left_by result) → IsOpen S.Store (left_by result)
             → OnErr result (IsOpen S.Store conn × ((state S.Store (left_by result)).now ≡ (state S.Store conn).now)) }
         ensures idle { (left_by result).in_transaction ≡ false }

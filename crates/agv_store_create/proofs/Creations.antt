@@ -77,7 +77,7 @@ unused s name free =
     let q = or_parts _ _ p.0 in
     (none_of _ q.0, none_of _ q.1, none_of _ p.1)
 
-says_named : (s : Schema) (sql : List ℕ) (t : Table) (d : DefinesTable sql t) → is_used s d.def.name ≡ false → compiled s sql ≡ Ok (compiled_to d.parsed make.CreateTable)
+pub says_named : (s : Schema) (sql : List ℕ) (t : Table) (d : DefinesTable sql t) → is_used s d.def.name ≡ false → compiled s sql ≡ Ok (compiled_to d.parsed make.CreateTable)
 unfolding command returning timed create_table is_attached creates
 says_named s sql t d used =
     let free = unused s d.def.name used in

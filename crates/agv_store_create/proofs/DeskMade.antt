@@ -42,19 +42,19 @@ tables_apart : tables.are_apart desk_tables ≡ true
 unfolding everything
 tables_apart = refl
 
-indexes_apart : indexes.are_apart index_texts ≡ true
+pub indexes_apart : indexes.are_apart index_texts ≡ true
 unfolding everything
 indexes_apart = refl
 
 -- no table has the name of an index
-abbrev IsAside : List ℕ → Type 0
+abbrev pub IsAside : List ℕ → Type 0
 IsAside name = IsOwn name × (list_all (λ (t : Table). not (same_name t.name name)) desk_tables ≡ true)
 
-indexes_aside : AllByRecursion (λ (it : List ℕ × List ℕ). IsAside it.0) index_texts
+pub indexes_aside : AllByRecursion (λ (it : List ℕ × List ℕ). IsAside it.0) index_texts
 unfolding everything
 indexes_aside = ((((λ rest. refl), refl), refl), ((((λ rest. refl), refl), refl), ((((λ rest. refl), refl), refl), ((((λ rest. refl), refl), refl), tt))))
 
-used_alike : (s new : Schema) → new ≡ fold with_new_table s desk_tables → (texts : List (List ℕ × List ℕ)) → AllByRecursion (λ (it : List ℕ × List ℕ). IsAside it.0) texts → indexes.UsedAlike s new texts
+pub used_alike : (s new : Schema) → new ≡ fold with_new_table s desk_tables → (texts : List (List ℕ × List ℕ)) → AllByRecursion (λ (it : List ℕ × List ℕ). IsAside it.0) texts → indexes.UsedAlike s new texts
 used_alike s new is [] aside = tt
 used_alike s new is (it ∷ texts) aside =
     (ap (λ u. is_used u it.0) is ∙ same_use s _ it.0 (tables.tables_keep it.0 aside.0.0 s desk_tables aside.0.1), used_alike s new is texts aside.1)

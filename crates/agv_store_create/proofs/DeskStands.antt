@@ -1,5 +1,5 @@
 -- What the making gives is a desk with its first rows, as the statements see it.
-use Rattle.std.proofs.Common.{◌≡◌, ◌≢◌, ◌∙◌, ◌^◌, not, ℕ, zero, suc, Bool, true, false, nat_le, List, [], ◌∷◌, map, drop, filter, fold, length, pos, ◌+◌, Option, Some, None, option_map, option_and_then, unwrap_or, slice_get, rules, IsPermutation, inl, inr, refl, sym, ap, subst, arith}
+use Rattle.std.proofs.Common.{◌≡◌, ◌≢◌, ◌∙◌, ◌^◌, not, ℕ, zero, suc, true, false, nat_le, List, [], ◌∷◌, map, drop, filter, fold, length, pos, ◌+◌, Option, Some, None, option_map, option_and_then, unwrap_or, slice_get, rules, IsPermutation, inl, inr, refl, sym, ap, subst, arith}
 use Rattle.std.specs.List.{AllByRecursion, AllZip, list_all, position_from}
 use Rattle.std.proofs.lemmas.Bool.{cases_Bool}
 use Rattle.std.proofs.lemmas.List.Folds.{list_all-append}

@@ -1,6 +1,8 @@
 -- CREATE INDEX where the name is free: what the text means, and what it makes.
 use Rattle.std.proofs.Common.{◌≡◌, ◌∙◌, ℕ, false, List, [], ◌∷◌, Option, Some, Ok, inl, inr, codes, slice_get, refl, sym, ap, subst, append-nil}
 use Rattle.std.specs.List.{AllZip}
+use Rattle.sqlite_value.specs.Order.{value_cmp}
+use Rattle.sqlite_trees.specs.Sound.{begins, fits_kind, is_free_name, same_name as trees_name}
 use Rattle.sqlite_ast.specs.declared.CreateIndex.{CreateIndex}
 use Rattle.sqlite_ast.specs.declared.Statement.{Statement}
 use Rattle.sqlite_ast.specs.declared.Statement.TheVariants as written
@@ -30,6 +32,7 @@ use Rattle.agv_store_create.proofs.NamesKept.{KeepsName, index_keeps}
 use Rattle.agv_store_schema.proofs.Running.{went, same_value}
 use Rattle.agv_store_create.proofs.TableTexts.{parsed}
 use Rattle.agv_store_create.proofs.TablesKept.{Grows, grows_by}
+use Rattle.agv_store_create.proofs.TextsFit.{StoresIndex}
 
 -- the text defines this index of a table, wherever that lies
 pub record DefinesIndex (sql : List ℕ) (index : PlainIndex) : Type 0 where
@@ -46,6 +49,7 @@ pub record DefinesIndex (sql : List ℕ) (index : PlainIndex) : Type 0 where
   pub defined : (tree : ℕ) → define.index (record table { tree = tree }) def ≡ Ok (index_on (record table { tree = tree }) index)
   pub whole : (at : ℕ) → text_of sql (compiled_to (parsed sql) (make.CreateIndex at)) ≡ sql
   pub made : (tree : ℕ) → index_defined_by (record table { tree = tree }) sql ≡ Ok (index_on (record table { tree = tree }) index)
+  pub stores : StoresIndex sql table index
 
 -- a text defines one index
 same_index : (sql : List ℕ) (t : Table) (i j : Index) → index_defined_by t sql ≡ Ok i → index_defined_by t sql ≡ Ok j → i ≡ j
@@ -53,7 +57,7 @@ same_index sql t i j p q = same_value (sym p ∙ q)
 
 module _ (sql : List ℕ) (index : PlainIndex) (d : DefinesIndex sql index) where
   module _ (s : Schema) (at tree : ℕ) (there : slice_get s.tables at ≡ Some (record d.table { tree = tree })) where
-    says_named : table_named s d.def.table ≡ Some at → is_used s d.def.name ≡ false → compiled s sql ≡ Ok (compiled_to (parsed sql) (make.CreateIndex at))
+    pub says_named : table_named s d.def.table ≡ Some at → is_used s d.def.name ≡ false → compiled s sql ≡ Ok (compiled_to (parsed sql) (make.CreateIndex at))
     unfolding command returning timed create_index creates
     says_named named used =
         let free = unused s d.def.name used in
@@ -110,20 +114,20 @@ pub record IsTextOf (it : List ℕ × List ℕ) (index : PlainIndex) : Type 0 wh
   pub among : Has desk_tables defines.table
 
 station_is : IsTextOf (codes "load_station", codes "CREATE INDEX load_station ON load (station)") (record { name = codes "load_station"; table = codes "load"; columns = codes "station" ∷ [] })
-unfolding everything
-station_is = record { name = refl; defines = record { table = place_table; def = def_in (parsed (codes "CREATE INDEX load_station ON load (station)")).statement tt; read = refl; untimed = refl; is = refl; name = refl; of = refl; table_is = refl; own = refl; own_table = refl; defined = λ tree. refl; whole = λ at. refl; made = λ tree. refl }; among = inr (inr (inr (inr (inr (inr (inr (inl refl))))))) }
+unfolding everything begins fits_kind is_free_name trees_name value_cmp lib.Ieee.is_nan lib.Ieee.lt
+station_is = record { name = refl; defines = record { table = place_table; def = def_in (parsed (codes "CREATE INDEX load_station ON load (station)")).statement tt; read = refl; untimed = refl; is = refl; name = refl; of = refl; table_is = refl; own = refl; own_table = refl; defined = λ tree. refl; whole = λ at. refl; made = λ tree. refl; stores = record { alone = refl; ascii = refl; named = refl; on_named = refl; own = refl; reals = refl; key = refl; fit = refl; short = refl } }; among = inr (inr (inr (inr (inr (inr (inr (inl refl))))))) }
 
 vehicle_is : IsTextOf (codes "load_vehicle", codes "CREATE INDEX load_vehicle ON load (manufacturer, serial)") (record { name = codes "load_vehicle"; table = codes "load"; columns = codes "manufacturer" ∷ codes "serial" ∷ [] })
-unfolding everything
-vehicle_is = record { name = refl; defines = record { table = place_table; def = def_in (parsed (codes "CREATE INDEX load_vehicle ON load (manufacturer, serial)")).statement tt; read = refl; untimed = refl; is = refl; name = refl; of = refl; table_is = refl; own = refl; own_table = refl; defined = λ tree. refl; whole = λ at. refl; made = λ tree. refl }; among = inr (inr (inr (inr (inr (inr (inr (inl refl))))))) }
+unfolding everything begins fits_kind is_free_name trees_name value_cmp lib.Ieee.is_nan lib.Ieee.lt
+vehicle_is = record { name = refl; defines = record { table = place_table; def = def_in (parsed (codes "CREATE INDEX load_vehicle ON load (manufacturer, serial)")).statement tt; read = refl; untimed = refl; is = refl; name = refl; of = refl; table_is = refl; own = refl; own_table = refl; defined = λ tree. refl; whole = λ at. refl; made = λ tree. refl; stores = record { alone = refl; ascii = refl; named = refl; on_named = refl; own = refl; reals = refl; key = refl; fit = refl; short = refl } }; among = inr (inr (inr (inr (inr (inr (inr (inl refl))))))) }
 
 job_load_is : IsTextOf (codes "job_load", codes "CREATE INDEX job_load ON job (load, phase)") (record { name = codes "job_load"; table = codes "job"; columns = codes "load" ∷ codes "phase" ∷ [] })
-unfolding everything
-job_load_is = record { name = refl; defines = record { table = job_table; def = def_in (parsed (codes "CREATE INDEX job_load ON job (load, phase)")).statement tt; read = refl; untimed = refl; is = refl; name = refl; of = refl; table_is = refl; own = refl; own_table = refl; defined = λ tree. refl; whole = λ at. refl; made = λ tree. refl }; among = inr (inr (inr (inr (inr (inr (inr (inr (inl refl)))))))) }
+unfolding everything begins fits_kind is_free_name trees_name value_cmp lib.Ieee.is_nan lib.Ieee.lt
+job_load_is = record { name = refl; defines = record { table = job_table; def = def_in (parsed (codes "CREATE INDEX job_load ON job (load, phase)")).statement tt; read = refl; untimed = refl; is = refl; name = refl; of = refl; table_is = refl; own = refl; own_table = refl; defined = λ tree. refl; whole = λ at. refl; made = λ tree. refl; stores = record { alone = refl; ascii = refl; named = refl; on_named = refl; own = refl; reals = refl; key = refl; fit = refl; short = refl } }; among = inr (inr (inr (inr (inr (inr (inr (inr (inl refl)))))))) }
 
 job_target_is : IsTextOf (codes "job_target", codes "CREATE INDEX job_target ON job (target, phase)") (record { name = codes "job_target"; table = codes "job"; columns = codes "target" ∷ codes "phase" ∷ [] })
-unfolding everything
-job_target_is = record { name = refl; defines = record { table = job_table; def = def_in (parsed (codes "CREATE INDEX job_target ON job (target, phase)")).statement tt; read = refl; untimed = refl; is = refl; name = refl; of = refl; table_is = refl; own = refl; own_table = refl; defined = λ tree. refl; whole = λ at. refl; made = λ tree. refl }; among = inr (inr (inr (inr (inr (inr (inr (inr (inl refl)))))))) }
+unfolding everything begins fits_kind is_free_name trees_name value_cmp lib.Ieee.is_nan lib.Ieee.lt
+job_target_is = record { name = refl; defines = record { table = job_table; def = def_in (parsed (codes "CREATE INDEX job_target ON job (target, phase)")).statement tt; read = refl; untimed = refl; is = refl; name = refl; of = refl; table_is = refl; own = refl; own_table = refl; defined = λ tree. refl; whole = λ at. refl; made = λ tree. refl; stores = record { alone = refl; ascii = refl; named = refl; on_named = refl; own = refl; reals = refl; key = refl; fit = refl; short = refl } }; among = inr (inr (inr (inr (inr (inr (inr (inr (inl refl)))))))) }
 
 pub index_texts_are : AllZip IsTextOf index_texts desk_indexes
 index_texts_are = (station_is, (vehicle_is, (job_load_is, (job_target_is, tt))))

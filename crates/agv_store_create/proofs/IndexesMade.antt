@@ -34,7 +34,7 @@ module _ (first : Schema) where
   abbrev pub UsedAlike : Schema → List (List ℕ × List ℕ) → Type 0
   UsedAlike s = AllByRecursion (λ (it : List ℕ × List ℕ). is_used s it.0 ≡ is_used first it.0)
 
-  used_still : (sql : List ℕ) (index : PlainIndex) (d : DefinesIndex sql index) (old new : Database) → MadeIndex sql index d old new → (texts : List (List ℕ × List ℕ))
+  pub used_still : (sql : List ℕ) (index : PlainIndex) (d : DefinesIndex sql index) (old new : Database) → MadeIndex sql index d old new → (texts : List (List ℕ × List ℕ))
       → list_all (λ (other : List ℕ × List ℕ). not (same_name index.name other.0)) texts ≡ true → UsedAlike old.schema texts → UsedAlike new.schema texts
   used_still sql index d old new made [] apart alike = tt
   used_still sql index d old new made (it ∷ texts) apart alike =

@@ -54,10 +54,10 @@ abbrev pub meta_row : Row
 meta_row = Int (pos 1) ∷ Int (pos schema_number) ∷ []
 
 -- its terms, behind the number of the row, which the database chooses
-abbrev row_terms : List Term
+abbrev pub row_terms : List Term
 row_terms = lit Null ∷ lit (Int (pos 1)) ∷ lit (Int (pos schema_number)) ∷ []
 
-abbrev insertion : ℕ → Command
+abbrev pub insertion : ℕ → Command
 insertion at = Insert at (Values row_terms 3)
 
 abbrev columns_in : Statement → List Name
@@ -70,7 +70,7 @@ rows_in _ = rows.Defaults
 
 -- ---- what the text means
 
-read : first meta_text ≡ Ok (parsed meta_text)
+pub read : first meta_text ≡ Ok (parsed meta_text)
 unfolding everything
 read = refl
 
@@ -90,7 +90,7 @@ terms_are : (s : Schema) (tree : ℕ) → new_rows s (record meta_table { tree =
 unfolding everything
 terms_are s tree = refl
 
-compiles : (s : Schema) (at tree : ℕ) → table_named s (codes "meta") ≡ Some at → slice_get s.tables at ≡ Some (record meta_table { tree = tree }) → compiled s meta_text ≡ Ok (compiled_to (parsed meta_text) (insertion at))
+pub compiles : (s : Schema) (at tree : ℕ) → table_named s (codes "meta") ≡ Some at → slice_get s.tables at ≡ Some (record meta_table { tree = tree }) → compiled s meta_text ≡ Ok (compiled_to (parsed meta_text) (insertion at))
 unfolding command returning timed shows insert_or_abort insert
 compiles s at tree named there =
     compiled_is s meta_text (parsed meta_text) (insertion at) read (rw (is_insertion, untimed, named, there)) (rw is_insertion) (rw (is_insertion, named, there, terms_are s tree))
@@ -115,14 +115,14 @@ module _ (s : Schema) (keys : Keys) (depth tree : ℕ) (news : List Row) where
   no_child [] = refl
   no_child (u ∷ tables) = rw (no_ref u u.references, no_child tables)
 
-  no_works : works s keys depth tree [] news ≡ []
+  pub no_works : works s keys depth tree [] news ≡ []
   no_works = no_child s.tables
 
 either : (b : Bool) (x : Value) → cond b x x ≡ x
 either true x = refl
 either false x = refl
 
-no_number : cast Integer Null ≡ Null
+pub no_number : cast Integer Null ≡ Null
 unfolding unary
 no_number = either _ Null
 
@@ -130,7 +130,7 @@ number_kept : (n : ℤ) → cast Integer (Int n) ≡ Int n
 unfolding unary
 number_kept n = either _ (Int n)
 
-fits : cast_all meta_table.columns meta_row ≡ meta_row
+pub fits : cast_all meta_table.columns meta_row ≡ meta_row
 fits = rw (number_kept (pos 1), number_kept (pos schema_number)) refl
 
 -- the row is in `meta`, and the other tables have the rows that they had
@@ -140,7 +140,7 @@ pub record GetsRow (old new : Database) (tree : ℕ) : Type 0 where
   pub row : HasRows (new.trees tree) (meta_row ∷ [])
   pub listed : IsDatabase new
 
-abbrev task_on : Option ℕ → Schema → Table → Task
+abbrev pub task_on : Option ℕ → Schema → Table → Task
 task_on limit schema table = record { limit = limit; keys = Enforced; schema = schema; table = table; params = [] }
 
 abbrev with_trees : Schema → Trees → Database

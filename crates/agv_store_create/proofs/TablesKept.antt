@@ -35,7 +35,7 @@ module _ {X : Type 0} where
   has_first (y ∷ xs) ys x (inl is) = inl is
   has_first (y ∷ xs) ys x (inr later) = inr (has_first xs ys x later)
 
-  has_either : {P : Type 0} (xs ys : List X) (x : X) → Has (xs ++ ys) x → (Has xs x → P) → (Has ys x → P) → P
+  pub has_either : {P : Type 0} (xs ys : List X) (x : X) → Has (xs ++ ys) x → (Has xs x → P) → (Has ys x → P) → P
   has_either [] ys x h f g = g h
   has_either (y ∷ xs) ys x (inl is) f g = f (inl is)
   has_either (y ∷ xs) ys x (inr later) f g = has_either xs ys x later (λ k. f (inr k)) g

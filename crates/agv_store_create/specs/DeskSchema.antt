@@ -1,5 +1,5 @@
 -- What creating the desk's tables adds to a schema, whatever else is in it.
-use Rattle.std.specs.Prelude.{ℕ, ◌+◌, Bool, false, if◌then◌else◌, List, [], ◌∷◌, map, fold, codes, None, option_map, option_and_then, unwrap_or, slice_get}
+use Rattle.std.specs.Prelude.{◌≡◌, ℕ, ◌+◌, Bool, false, if◌then◌else◌, List, [], ◌∷◌, map, fold, codes, None, option_map, option_and_then, unwrap_or, slice_get}
 use Rattle.std.specs.List.{list_any}
 use Rattle.sqlite_value.specs.declared.value.Value.TheVariants.{Null}
 use Rattle.sqlite_value.specs.declared.keys.Collation.TheVariants.{Binary}
@@ -21,6 +21,10 @@ desk_names = map (λ (t : Table). t.name) desk_tables
 -- a table, a view or an index has one of these names
 abbrev pub is_name_taken : Schema → Bool
 is_name_taken schema = list_any (is_used schema) desk_names
+
+-- the database has no tables, indexes or views
+abbrev pub IsEmpty : Schema → Type 0
+IsEmpty schema = schema ≡ record { tables = []; indexes = []; views = [] }
 
 -- a column without a type, as only a table that is not STRICT may have
 abbrev pub untyped : List ℕ → Column

@@ -4,7 +4,9 @@ ghost use Rattle.std.specs.List.{list_any};
 ghost use Rattle.sqlite.specs.State.{HasCleanDisk, Survives};
 ghost use Rattle.sqlite.specs.Held.{state};
 ghost use Rattle.sqlite_catalog.specs.Change.{is_used};
-ghost use Rattle.agv_store_create.specs.DeskSchema.{is_name_taken};
+ghost use Rattle.agv_store_schema.specs.Connections.{HasStorageCause};
+ghost use Rattle.agv_store_schema.specs.Errors.{IsOfStore};
+ghost use Rattle.agv_store_create.specs.DeskSchema.{IsEmpty, is_name_taken};
 ghost use Rattle.agv_store_create.specs.DeskTables.{LeavesDesk, MakesDesk};
 ghost use Rattle.agv_store_create.specs.declared.making_fault.MakingFault.TheVariants as fault;
 
@@ -29,7 +31,8 @@ pub const NAMES: [&str; 14] = [
 /// # Errors
 /// [`MakingFault::Taken`] if a table, a view or an index has the name of one of the tables, and only then; nothing is
 /// touched in that case. Otherwise [`MakingFault::Memory`] when out of memory, and [`MakingFault::Storage`] for any
-/// other error of the database.
+/// other error of the database; in an empty database only if the store failed, was closed, or limits the steps of a
+/// query.
 pub fn make_desk_tables<S: Alter>(conn: &mut Connection<S>) -> Result<(), MakingFault>
     requires idle { conn.old.in_transaction ≡ false }
     ensures taken { (result ≡ Err fault.Taken) ↔ (is_name_taken (state S.Store conn.old).now.schema ≡ true) }
@@ -40,6 +43,7 @@ pub fn make_desk_tables<S: Alter>(conn: &mut Connection<S>) -> Result<(), Making
     ensures was_open { HasCleanDisk (state S.Store conn.new) → IsTrue (state S.Store conn.new).is_open → IsTrue (state S.Store conn.old).is_open }
     ensures undone { HasCleanDisk (state S.Store conn.new) → IsTrue (state S.Store conn.new).is_open
         → IfErr result (λ why. why ≢ fault.Taken → ((state S.Store conn.new).now ≡ (state S.Store conn.old).committed) × ((state S.Store conn.new).committed ≡ (state S.Store conn.old).committed)) }
+    ensures caused { HasCleanDisk (state S.Store conn.new) → IsEmpty (state S.Store conn.old).now.schema → result ≡ Err fault.Storage → HasStorageCause S.Store conn.old conn.new }
     ensures crash { Survives (state S.Store conn.old) (state S.Store conn.new) (LeavesDesk (state S.Store conn.old).now) }
     ensures idle { conn.new.in_transaction ≡ false }
 {
@@ -74,6 +78,7 @@ fn make_tables<S: Alter>(conn: &mut Connection<S>) -> Result<(), Error>
     ensures was_open { HasCleanDisk (state S.Store conn.new) → IsTrue (state S.Store conn.new).is_open → IsTrue (state S.Store conn.old).is_open }
     ensures undone { HasCleanDisk (state S.Store conn.new) → IsTrue (state S.Store conn.new).is_open
         → OnErr result (((state S.Store conn.new).now ≡ (state S.Store conn.old).committed) × ((state S.Store conn.new).committed ≡ (state S.Store conn.old).committed)) }
+    ensures caused { HasCleanDisk (state S.Store conn.new) → IsEmpty (state S.Store conn.old).now.schema → IfErr result (λ why. IsOfStore why → HasStorageCause S.Store conn.old conn.new) }
     ensures crash { Survives (state S.Store conn.old) (state S.Store conn.new) (LeavesDesk (state S.Store conn.old).now) }
     ensures idle { conn.new.in_transaction ≡ false }
 {
