@@ -11,15 +11,18 @@ use Rattle.agv_world_core.specs.Lawful.{IsLawful}
 use Rattle.agv_world_core.specs.Worlds.{World}
 use Rattle.agv_world_core.specs.declared.world.World.{World as Tables}
 use Rattle.agv_store_migrate.specs.FirstFound.{FindsFirst}
+use Rattle.agv_store_migrate.specs.FirstRows.{HasFirstWorld}
+use Rattle.agv_store_migrate.specs.MoveStatements.{RefusesMove}
 use Rattle.agv_store_migrate.specs.Moved.{CanBeAdded, LeavesMoved, MovesTables, MovesWorld}
-use Rattle.agv_store_schema.proofs.Later.{later_by}
-use Rattle.agv_store_schema.specs.Connections.{IsClean, IsOpen}
+use Rattle.agv_store_schema.proofs.Later.{fault_later, later_by}
+use Rattle.agv_store_schema.specs.Connections.{HasStorageCause, IsClean, IsOpen}
+use Rattle.agv_store_schema.specs.DeskRows.{Placing}
 use Rattle.agv_store_create.specs.declared.making_fault.MakingFault.{MakingFault}
 use Rattle.agv_store_create.specs.declared.making_fault.MakingFault.TheVariants as making
 use Rattle.agv_store_known.specs.Known.{IsKnownIn}
 use Rattle.agv_store_known.specs.declared.known.Known.{Known}
 use Rattle.agv_store_floor.specs.Floors.{IsAsked, IsConsistent, Knows, world_at}
-use Rattle.agv_store.specs.Migration.{CanBeMigrated, CannotBeMigrated, FindsFirstDesk, FirstFound, LeavesMigrated, Migrates}
+use Rattle.agv_store.specs.Migration.{CanBeMigrated, CannotBeMigrated, FindsFirstDesk, FirstFound, LeavesMigrated, Migrates, RefusesMigration}
 use Rattle.agv_store.specs.Opening.{IsDamaged, IsStorage, Opening, of_making}
 use Rattle.agv_store_read.specs.declared.open_fault.OpenFault.{OpenFault}
 use Rattle.agv_store_read.specs.declared.open_fault.OpenFault.TheVariants as fault
@@ -227,6 +230,28 @@ module _ {S : Type 0} (g : Ghosts S) where
         had = found.2.0;
         possible = subst (λ (db : Database). CanBeAdded db.schema) same (not_denied_added (state g mid).now (λ cannot. stored_not_taken why stored (taken.1 cannot)));
       }
+
+  stored_only : (why : MakingFault) → of_making why ≡ fault.Storage → why ≡ making.Storage
+  stored_only making.Taken is = absurd (cc is)
+  stored_only making.Memory is = absurd (cc is)
+  stored_only making.Storage is = refl
+
+  -- it has its cause, or SQL refuses a statement of the move
+  pub move_caused : (old mid new : Held S) (tables : Tables) (known : Known) → FindsFirstDesk g old mid (Ok (tables, known)) → (IsOpen g old → (state g old).now ≡ (state g old).committed)
+      → Survives (state g mid) (state g new) (LeavesMoved tables (state g mid).now) → (why : MakingFault) (told : OpenFault) → told ≡ of_making why → (Refused why ≡ Refused making.Taken) ↔ (¬ CanBeAdded (state g mid).now.schema)
+      → (IsClean g new → Refused why ≡ Refused making.Storage → (first : Placing) (world : World) → HasFirstWorld first (state g mid).now world → Keeps tables world → HasStorageCause g mid new ⊎ RefusesMove tables (state g mid).now)
+      → IsClean g new → IsStorage (refused new told) → HasStorageCause g old new ⊎ RefusesMigration (state g old).now
+  move_caused old mid new tables known finds settled crash why told told_is taken caused clean is =
+      let early : IsClean g mid = (later_by g mid new crash).clean clean in
+      let found = finds.found early in
+      let same = finds.asked.unchanged early found.1 (sym (settled found.0)) in
+      let can = can_be_migrated old mid new tables known finds settled crash why told told_is taken clean is in
+      let stored : Refused why ≡ Refused making.Storage = ap Refused (stored_only why (sym told_is ∙ storage_only new told is)) in
+      let had = found.2.0 in
+      elim (caused clean stored had.first had.world (subst (λ (db : Database). HasFirstWorld had.first db had.world) (sym same) had.has) found.2.1) [
+        | inl cause ↦ inl (fault_later g old mid new (later_by g old mid finds.asked.survives) (later_by g mid new crash) clean cause)
+        | inr refuses ↦ inr (record { can = record { had = had; possible = can.possible }; tables = tables; keeps = found.2.1; refuses = subst (RefusesMove tables) same refuses })
+      ]
 
   -- the three tables were added, so they could be
   abbrev Moved : Unit {0} → Result (Unit {0}) MakingFault

@@ -8,6 +8,7 @@ use Rattle.agv_world_core.specs.Kept.{Keeps}
 use Rattle.agv_world_core.specs.Worlds.{World}
 use Rattle.agv_world_core.specs.declared.world.World.{World as Tables}
 use Rattle.agv_store_migrate.specs.FirstRows.{HasFirstWorld, HasNoFirstWorld}
+use Rattle.agv_store_migrate.specs.MoveStatements.{RefusesMove}
 use Rattle.agv_store_migrate.specs.Moved.{CanBeAdded, MovesWorld}
 use Rattle.agv_store_schema.specs.DeskRows.{Placing}
 use Rattle.agv_store_schema.specs.Connections.{HasStorageCause, IsClean, IsOpen}
@@ -38,6 +39,14 @@ pub record LeavesMigrated (old : Database) (trees : Trees) : Type 0 where
 pub record CanBeMigrated (db : Database) : Type 0 where
   pub had : FirstFound db
   pub possible : CanBeAdded db.schema
+
+-- the database can be migrated, but SQL refuses one of the statements of the move, after those before it ran
+pub record RefusesMigration (db : Database) : Type 0 where
+  pub can : CanBeMigrated db
+  -- the world's tables, whose rows are moved
+  pub tables : Tables
+  pub keeps : Keeps tables can.had.world
+  pub refuses : RefusesMove tables db
 
 module _ {S : Type 0} (g : Ghosts S) where
   -- the database had the first schema's rows of a lawful world, it has the second schema's rows of the same world, and the desk knows that world

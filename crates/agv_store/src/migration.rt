@@ -4,7 +4,7 @@ ghost use Rattle.sqlite.specs.Held.{state};
 ghost use Rattle.sqlite.specs.State.{Survives};
 ghost use Rattle.agv_store_migrate.specs.Moved.{CanBeAdded};
 ghost use Rattle.agv_store_schema.specs.Connections.{HasStorageCause, IsClean, IsOpen};
-ghost use Rattle.agv_store.specs.Migration.{CanBeMigrated, CannotBeMigrated, FindsFirstDesk, LeavesMigrated, Migrates};
+ghost use Rattle.agv_store.specs.Migration.{CannotBeMigrated, FindsFirstDesk, LeavesMigrated, Migrates, RefusesMigration};
 ghost use Rattle.agv_store.specs.Opening.{IsDamaged, IsStorage, left_by};
 
 use crate::desk::Desk;
@@ -30,8 +30,9 @@ impl<S: Alter + Drop> Desk<S> {
     /// `Damaged` only if the database has the first schema's rows of no lawful world (a table is missing or differs,
     /// say), or a table, a view or an index has one of the three names or a foreign key refers to one. Otherwise
     /// `Memory` when out of memory, and `Storage` for any other error of the database: the store failed, was closed, or
-    /// limits the steps of a query, or SQL refuses a statement of the migration, as where somebody's unique index
-    /// forbids a row. The connection is returned; if it is open, its contents are unchanged.
+    /// limits the steps of a query (`caused`), or SQL refuses a statement of the move, after those before it ran, as
+    /// where the schema has no room for the three tables. The connection is returned; if it is open, its contents are
+    /// unchanged.
     pub fn migrate(
         alloc: Global,
         conn: Connection<S>,
@@ -40,7 +41,7 @@ impl<S: Alter + Drop> Desk<S> {
         ensures migrated { IfOk result (λ desk. IsClean S.Store desk.held → Migrates S.Store conn desk) }
         ensures works { IfOk result (λ desk. desk.failed ≡ false) }
         ensures damaged { IsClean S.Store (left_by result) → IsDamaged result → CannotBeMigrated (state S.Store conn).now }
-        ensures caused { IsClean S.Store (left_by result) → IsStorage result → HasStorageCause S.Store conn (left_by result) ⊎ CanBeMigrated (state S.Store conn).now }
+        ensures caused { IsClean S.Store (left_by result) → IsStorage result → HasStorageCause S.Store conn (left_by result) ⊎ RefusesMigration (state S.Store conn).now }
         ensures possible { IfOk result (λ desk. IsClean S.Store desk.held → CanBeAdded (state S.Store conn).now.schema) }
         ensures undone { IsClean S.Store (left_by result) → IsOpen S.Store (left_by result)
             → OnErr result (IsOpen S.Store conn × ((state S.Store (left_by result)).now ≡ (state S.Store conn).now)) }

@@ -1,3 +1,4 @@
+pub mod ActInsertions
 pub mod ActsPut
 pub mod ChangesFound
 pub mod ChangesRun

@@ -2,13 +2,14 @@
 //!
 //! Each clause `made` states the effect on the rows, in any database that has the desk's tables. What a failed write
 //! changed is not committed.
-ghost use Rattle.std.specs.Prelude.{◌≡◌, IfOk, IsTrue, OnOk, length};
+ghost use Rattle.std.specs.Prelude.{◌≡◌, ◌<◌, ◌≤◌, [], ◌∷◌, IfOk, IsTrue, OnErr, OnOk, length};
 ghost use Rattle.sqlite.specs.Held.{state};
 ghost use Rattle.agv_store_rows.specs.TripRows.{act_key, act_row, act_rows_from};
 ghost use Rattle.agv_store_rows.specs.Columns.{act_columns};
 ghost use Rattle.agv_store_changes.specs.ActRows.{AreOfOrder, acts_listed};
 ghost use Rattle.agv_store_schema.specs.DeskRows.{Answers, Makes, table_for, with_row, with_rows};
 ghost use Rattle.agv_store_rows.specs.Rows.{rows_of_acts, without_acts};
+ghost use Rattle.agv_store_sql.specs.Refusals.{EndsInside, insertions};
 ghost use Rattle.agv_store_sql.specs.RowUpdates.{with_each};
 ghost use Rattle.agv_store_schema.specs.declared.table_name.TableName.TheVariants as the;
 ghost use Rattle.agv_store_sql.specs.WritesInside.{MakesInside, WritesInside};
@@ -39,8 +40,9 @@ pub fn add_acts<S: Alter>(
     order: &Name,
     acts: &[Act],
 ) -> Result<(), Error>
-    ensures { WritesInside S.Store tx.old tx.new (λ before after. IsTrue before.in_transaction
+    ensures made { WritesInside S.Store tx.old tx.new (λ before after. IsTrue before.in_transaction
         → OnOk result (Makes (with_rows the.Act (rows_of_acts (act_rows_from order.now 0 acts.now))) before after)) }
+    ensures ends { length acts.now ≤ 4294967296 → EndsInside S.Store tx.old tx.new (insertions the.Act (rows_of_acts (act_rows_from order.now 0 acts.now))) result }
 {
     for (n, act) in acts.iter().enumerate() {
         add_act(tx, order, n, act)?;
@@ -55,7 +57,8 @@ fn add_act<S: Alter>(
     n: usize,
     act: &Act,
 ) -> Result<usize, Error>
-    ensures { MakesInside S.Store tx.old tx.new result (with_row the.Act (act_columns (act_key order.now n) (act_row act.now))) }
+    ensures made { MakesInside S.Store tx.old tx.new result (with_row the.Act (act_columns (act_key order.now n) (act_row act.now))) }
+    ensures ends { n < 4294967296 → EndsInside S.Store tx.old tx.new (insertions the.Act (act_columns (act_key order.now n) (act_row act.now) ∷ [])) result }
 {
     let key = act_key(order, n)?;
     insert_row(tx, TableName::Act, &act_values(&key, &ActRow::of(act)))
@@ -63,7 +66,8 @@ fn add_act<S: Alter>(
 
 /// Returns the key of the order's act with this number. A number above 4294967295 is an error.
 fn act_key(order: &Name, n: usize) -> Result<ActKey, Error>
-    ensures { IfOk result (λ key. key ≡ act_key order.now n) }
+    ensures key { IfOk result (λ key. key ≡ act_key order.now n) }
+    ensures many { OnErr result (4294967296 ≤ n) }
 {
     match u32::try_from(n) {
         Ok(n) => Ok(ActKey { order: *order, n }),

@@ -1,14 +1,17 @@
 pub mod AddedTables
 pub mod AddingSteps
 pub mod CarriedSingly
+pub mod FewActs
 pub mod Found
 pub mod ListsRead
 pub mod MovedRows
 pub mod MovedWorld
 pub mod MovingEach
+pub mod MovingRun
 pub mod MovingStatements
 pub mod NoList
 pub mod ServedJobs
+pub mod TablesPass
 pub mod TablesStanding
 pub mod TripLineLemmas
 pub mod TripRows

@@ -3,6 +3,7 @@ pub mod CountStatements
 pub mod DeskStatements
 pub mod KeysFree
 pub mod QueryMeanings
+pub mod Refusing
 pub mod RowForms
 pub mod RowMeanings
 pub mod RowParameters

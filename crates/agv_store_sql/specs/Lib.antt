@@ -1,4 +1,5 @@
 pub mod CountQueries
+pub mod Refusals
 pub mod RowQueries
 pub mod RowUpdates
 pub mod WritesInside

@@ -2,12 +2,13 @@
 //!
 //! Each clause is about any database that has the desk's tables, whatever other tables, views and indexes it has
 //! (`DeskRows.antt` of agv_store_schema). What a failed write changed is not committed.
-ghost use Rattle.std.specs.Prelude.{◌≡◌, true, IfErr, IfOk, OnOk};
+ghost use Rattle.std.specs.Prelude.{◌≡◌, [], ◌∷◌, true, IfErr, IfOk, OnOk};
 ghost use Rattle.sqlite.specs.State.{HasCleanDisk, IsUnchanged};
 ghost use Rattle.sqlite.specs.Held.{state};
 ghost use Rattle.sqlite.specs.Values.{bound};
 ghost use Rattle.agv_store_schema.specs.DeskRows.{FitsTable, Makes, table_for, with_put_by, with_row, without_rows};
-ghost use Rattle.agv_store_schema.specs.RowTexts.{columns_deleted, is_written};
+ghost use Rattle.agv_store_schema.specs.RowTexts.{columns_deleted, insertion_text, is_written};
+ghost use Rattle.agv_store_sql.specs.Refusals.{EndsInside};
 ghost use Rattle.agv_store_sql.specs.RowUpdates.{Counts, IsBrokenRule, TellsAlike};
 ghost use Rattle.agv_store_sql.specs.WritesInside.{MakesInside, WritesInside};
 
@@ -29,6 +30,7 @@ pub fn insert_row<S: Alter>(
         → IfOk result (λ _. Counts table (table_for table).primary (bound row.now) (state S.Store tx.old.conn.now) 0) }
     ensures refused { HasCleanDisk (state S.Store tx.new.conn.now)
         → IfErr result (λ e. IsBrokenRule e → IsUnchanged (state S.Store tx.old.conn.now) (state S.Store tx.new.conn.now)) }
+    ensures ends { EndsInside S.Store tx.old tx.new ((insertion_text table, bound row.now) ∷ []) result }
 {
     tx.execute(insertion(table), row)
 }

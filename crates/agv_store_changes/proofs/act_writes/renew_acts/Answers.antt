@@ -8,5 +8,5 @@ use Rattle.agv_store_changes.proofs.act_writes.renew_acts.Goals as goal
 
 pub returns : goal.returns
 returns g c =
-    writes_then g.S.Store c.in_ok-drop_acts.ensures c.in_ok-add_acts.ensures
+    writes_then g.S.Store c.in_ok-drop_acts.ensures c.in_ok-add_acts.ensures.made
     (λ _ drops adds. makes_then (without_acts c.args.order.now) (with_rows the.Act (rows_of_acts (act_rows_from c.args.order.now 0 c.args.acts.now))) _ _ _ drops (adds drops.mode))

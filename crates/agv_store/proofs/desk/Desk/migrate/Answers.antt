@@ -1,11 +1,11 @@
-use Rattle.std.proofs.Common.{inl, inr, not, ap, subst, sym, ◌∙◌}
+use Rattle.std.proofs.Common.{inl, not, ap, subst, sym, ◌∙◌}
 use Rattle.sqlite.specs.Held.{state}
 use Rattle.sqlite.specs.State.{Survives}
 use Rattle.agv_store_migrate.specs.Moved.{CanBeAdded}
 use Rattle.agv_store_schema.specs.Connections.{IsClean}
 use Rattle.agv_store_floor.specs.Floors.{Keyed}
 use Rattle.agv_store.specs.Migration.{LeavesMigrated, Migrates}
-use Rattle.agv_store.proofs.Moving.{can_be_migrated, could_be_added, crash_leaves, damaged_only, migrates, moved_consistent, none_added, storage_only}
+use Rattle.agv_store.proofs.Moving.{could_be_added, crash_leaves, damaged_only, migrates, move_caused, moved_consistent, none_added, storage_only}
 use Rattle.agv_store.proofs.desk.Desk.migrate.Goals as goal
 
 pub returns-in-Err-clause-damaged : goal.returns-in-Err-clause-damaged
@@ -46,10 +46,10 @@ returns-clause-damaged g c =
     c.in-Err-move_tables.ensures.taken c.in-Err-move_tables.ensures.refused
 
 pub returns-clause-caused : goal.returns-clause-caused
-returns-clause-caused g c clean is =
-    inr (can_be_migrated g.S.Store c.args.conn c.find_first_desk.new.conn c.move_tables.new.conn c.in-Ok.found.0 c.in-Ok.found.1 c.in-Ok.ensures
+returns-clause-caused g c =
+    move_caused g.S.Store c.args.conn c.find_first_desk.new.conn c.move_tables.new.conn c.in-Ok.found.0 c.in-Ok.found.1 c.in-Ok.ensures
     (c.is_autocommit-settled.ensures.settled (c.is_autocommit-settled.ensures.value ∙ ap not c.requires)) c.move_tables.ensures.crash c.in-Err-move_tables.why c.of_making.result c.of_making.ensures
-    c.in-Err-move_tables.ensures.taken clean is)
+    c.in-Err-move_tables.ensures.taken c.in-Err-move_tables.ensures.caused
 
 pub returns-clause-crash : goal.returns-clause-crash
 returns-clause-crash g c =
