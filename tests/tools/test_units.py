@@ -36,7 +36,8 @@ def rows(name: str) -> list[list[str]]:
 
 STANDBY = os.path.join(ROOT, 'examples', 'standby')
 PAGES = ('README.md', 'docs/OPERATE.md', 'docs/TWO_MACHINES.md', 'docs/DECISIONS.md')
-UNIT = r'[\w@-]+\.(?:service|socket|timer|mount)\b'
+# A name that goes on behind a full stop is none, as of an option of GlusterFS.
+UNIT = r'[\w@-]+\.(?:service|socket|timer|mount)\b(?!\.\w)'
 # Units of Debian's packages that a page or an example names.
 OF_DEBIAN = {
     'corosync.service',
