@@ -99,7 +99,7 @@ class SlowPages:
     """In the place of the board's pages: each answer lasts until it may come."""
 
     def __init__(self) -> None:
-        self.commands, self.searches = Workers(1), Workers(2)
+        self.command_workers, self.searches = Workers(1), Workers(2)
         self.may, self.begun = threading.Event(), 0
 
     def refusal(self, head: Head) -> None:

@@ -172,6 +172,8 @@ class RotatedRecord(OfDebian):
         found = []
         for pid in self.nginx.processes():
             folder = f'/proc/{pid}/fd'
-            links = [os.readlink(os.path.join(folder, name)) for name in os.listdir(folder)]
-            found += [link for link in links if 'desk.log.' in link]
+            for name in os.listdir(folder):
+                with contextlib.suppress(FileNotFoundError):
+                    link = os.readlink(os.path.join(folder, name))
+                    found += [link] * ('desk.log.' in link)
         return found
