@@ -67,7 +67,6 @@ class ExchangedLinks(Attack):
             return look
 
         words = ['backup', '--db', self.db, '--to', to, '--program', DESK]
-        sys.path.insert(0, TOOLS)
         with mock.patch.multiple(
             os, stat=looking(os.stat), lstat=looking(os.lstat), open=looking(os.open)
         ):
